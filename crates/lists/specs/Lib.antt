@@ -1,0 +1,5 @@
+-- Words about lists that several crates' definitions use.
+pub mod Counting
+pub mod Members
+pub mod Ranges
+pub mod Least

@@ -1,0 +1,65 @@
+-- "Each returns its number and a place": the table of document 01, "Refusal numbers", a line for each refusal.
+use Prim.Native.Nat.{ℕ}
+use Rattle.refusal.specs.declared.Refusal.{Refusal}
+use Rattle.refusal.specs.declared.Refusal.the-variants.{
+  Modes,
+  TermNumbers,
+  TooManyTerms,
+  BadRow,
+  Room,
+  LineForm,
+  Header,
+  StepNotNext,
+  ChildNotOpen,
+  NotLawful,
+  WeightUntrue,
+  LineAfterLast,
+  TreeLength,
+  ChildCode,
+  NotOneTree,
+  WrongPair,
+  Heuristic,
+  Malformed,
+}
+
+-- The column "No." of the table.
+abbrev pub numberOf : Refusal → ℕ
+numberOf Modes = 1
+numberOf TermNumbers = 2
+numberOf TooManyTerms = 3
+numberOf (BadRow row) = 4
+numberOf Room = 5
+numberOf (LineForm line) = 6
+numberOf Header = 7
+numberOf (StepNotNext line) = 8
+numberOf (ChildNotOpen line) = 9
+numberOf (NotLawful line) = 10
+numberOf (WeightUntrue line) = 11
+numberOf (LineAfterLast line) = 12
+numberOf TreeLength = 13
+numberOf (ChildCode index) = 14
+numberOf NotOneTree = 15
+numberOf (WrongPair pair) = 16
+numberOf Heuristic = 17
+numberOf (Malformed line) = 18
+
+-- The column "Place" of the table.
+abbrev pub placeOf : Refusal → ℕ
+placeOf Modes = 0
+placeOf TermNumbers = 0
+placeOf TooManyTerms = 0
+placeOf (BadRow row) = row
+placeOf Room = 0
+placeOf (LineForm line) = line
+placeOf Header = 0
+placeOf (StepNotNext line) = line
+placeOf (ChildNotOpen line) = line
+placeOf (NotLawful line) = line
+placeOf (WeightUntrue line) = line
+placeOf (LineAfterLast line) = line
+placeOf TreeLength = 0
+placeOf (ChildCode index) = index
+placeOf NotOneTree = 0
+placeOf (WrongPair pair) = pair
+placeOf Heuristic = 0
+placeOf (Malformed line) = line
