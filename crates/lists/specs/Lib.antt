@@ -3,3 +3,4 @@ pub mod Counting
 pub mod Members
 pub mod Ranges
 pub mod Least
+pub mod Written

@@ -1,7 +1,7 @@
 -- Tests over a list: all of it, those that pass, whether one is there, and the first of equals.
 use mathlib.Core.Bool.{Bool, true, false, cond, _&&_, _||_}
 use mathlib.Core.List.{List, [], _∷_, _++_}
-use Prim.Native.Nat.{ℕ}
+use Prim.Native.Nat.{ℕ, suc}
 use lib.Dec.{eqb}
 
 -- The test holds of every element.
@@ -13,6 +13,11 @@ every test (a ∷ l) = test a && every test l
 unfoldable pub keep : {A : Type 0} → (A → Bool) → List A → List A
 keep test [] = []
 keep test (a ∷ l) = cond (test a) (a ∷ []) [] ++ keep test l
+
+-- How many elements stand before the first of which the test doesn't hold.
+unfoldable pub leading : {A : Type 0} → (A → Bool) → List A → ℕ
+leading test [] = 0
+leading test (a ∷ l) = cond (test a) (suc (leading test l)) 0
 
 -- The test holds of some element.
 unfoldable pub some-of : {A : Type 0} → (A → Bool) → List A → Bool

@@ -1,0 +1,37 @@
+-- Two lists are alike where they are the same list, and only there.
+use mathlib.Core.Path.{_≡_, refl, ap}
+use mathlib.Core.Bool.{Bool, true, false, _&&_}
+use mathlib.Core.List.{List, [], _∷_}
+use Prim.Native.Nat.{ℕ}
+use native.Mathlib.Omega.{arith}
+use borrow.Author.Tests.{eq-eqb, eqb-true}
+use lib.Dec.{eqb}
+use lib.ListN.{length}
+use Rattle.lists.specs.Members.{alike}
+
+pub alike-self : (l : List ℕ) → alike l l ≡ true
+unfolding alike
+alike-self [] = refl
+alike-self (a ∷ l) = rw (eq-eqb a a refl) (alike-self l)
+
+both : (p q : Bool) → (p && q) ≡ true → (p ≡ true) × (q ≡ true)
+both true q e = (refl, e)
+both false q e = let z : _≡_ {A = ℕ} 0 1 = cc in absurd (omega arith)
+
+pub alike-same : (l m : List ℕ) → alike l m ≡ true → l ≡ m
+unfolding alike
+alike-same [] [] e = refl
+alike-same [] (b ∷ m) e = let z : _≡_ {A = ℕ} 0 1 = cc in absurd (omega arith)
+alike-same (a ∷ l) [] e = let z : _≡_ {A = ℕ} 0 1 = cc in absurd (omega arith)
+alike-same (a ∷ l) (b ∷ m) e =
+    let p = both (eqb a b) (alike l m) e in
+    let h : a ≡ b = eqb-true a b (p .0) in
+    let t : l ≡ m = alike-same l m (p .1) in
+    cc
+
+pub alike-lengths : (l m : List ℕ) → (length l ≡ length m → ⊥) → alike l m ≡ false
+alike-lengths l m h = go (alike l m) refl
+  where
+    go : (b : Bool) → alike l m ≡ b → b ≡ false
+    go true e = absurd (h (ap length (alike-same l m e)))
+    go false e = refl

@@ -1,0 +1,12 @@
+-- Fronts and backs of lists.
+use mathlib.Core.Path.{_≡_}
+use mathlib.Core.List.{List, [], _∷_}
+use Prim.Native.Nat.{ℕ, zero, suc, _+_}
+use native.Mathlib.Nat.{zero-add, suc-add}
+use lib.ListN.{take, drop}
+use lib.Seq.{take-nil, drop-nil}
+
+pub drop-take : {A : Type 0} (m n : ℕ) (s : List A) → drop m (take (m + n) s) ≡ take n (drop m s)
+drop-take zero n s = rw zero-add
+drop-take (suc m) n [] = rw (take-nil, drop-nil, take-nil)
+drop-take (suc m) n (a ∷ s) = rw suc-add (drop-take m n s)

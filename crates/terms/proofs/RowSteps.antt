@@ -1,0 +1,63 @@
+-- One step along rows that stand one after the other.
+use mathlib.Core.Path.{_≡_, refl, ap, _∙_, sym}
+use mathlib.Core.List.{List, [], _∷_, _++_}
+use Prim.Native.Nat.{ℕ, zero, suc, _+_, _-_, _*_, _<_, _≤_}
+use native.Mathlib.Omega.{arith}
+use native.Mathlib.Nat.{mul-zero, sub-zero, add-zero}
+use lib.ListN.{length, getD, take, drop, length-take, length-drop}
+use lib.Seq.{drop-drop, take-take, getD-take, getD-drop}
+use Rattle.lists.proofs.Parts.{drop-take}
+use Rattle.terms.specs.Rows.{rows-of, term, terms-of}
+
+pub terms-start : (w count : ℕ) (s : List ℕ) → terms-of w count s ≡ terms-of w (count - 0) (drop (w * 0) s)
+terms-start w count s = rw (sub-zero, mul-zero)
+
+module _ (w count place : ℕ) (s : List ℕ) where
+  pub rows-step : place < count
+      → rows-of w (count - place) (drop (w * place) s)
+      ≡ take w (drop (w * place) s) ∷ rows-of w (count - (place + 1)) (drop (w * (place + 1)) s)
+  unfolding rows-of
+  rows-step h =
+      let e : count - place ≡ suc (count - (place + 1)) = omega arith in
+      let a : w * place + w ≡ w * (place + 1) = omega arith in
+      rw (e, drop-drop w (w * place) s, a)
+
+  pub terms-step : place < count
+      → terms-of w (count - place) (drop (w * place) s)
+      ≡ term (take w (drop (w * place) s)) ∷ terms-of w (count - (place + 1)) (drop (w * (place + 1)) s)
+  unfolding terms-of
+  terms-step h = rw (rows-step h)
+
+  pub terms-end : count ≤ place → terms-of w (count - place) (drop (w * place) s) ≡ []
+  unfolding terms-of rows-of
+  terms-end h = let e : count - place ≡ 0 = omega arith in rw e
+
+-- The row at a place is whole, and its first number is the one that stands there.
+module _ (w place : ℕ) (s : List ℕ) (room : w * place + w ≤ length s) where
+  pub row-length : length (take w (drop (w * place) s)) ≡ w
+  row-length = simp (length-take, length-drop) (omega arith)
+
+  pub row-first : 0 < w → getD (take w (drop (w * place) s)) 0 0 ≡ getD s (w * place) 0
+  row-first h = rw (getD-take w (drop (w * place) s) 0 0 h, getD-drop (w * place) s 0 0, add-zero)
+
+-- The first rows are read from the first numbers alone.
+rows-take : (w count more : ℕ) (s : List ℕ) → rows-of w count (take (w * count + more) s) ≡ rows-of w count s
+unfolding rows-of
+rows-take w zero more s = refl
+rows-take w (suc count) more s =
+    let e : w * suc count + more ≡ w + (w * count + more) = omega arith in
+    rw (e, take-take w (w + (w * count + more)) s (omega arith), drop-take w (w * count + more) s, rows-take w count more (drop w s))
+
+pub rows-front : (w count : ℕ) (s t : List ℕ) → take (w * count) s ≡ take (w * count) t → rows-of w count s ≡ rows-of w count t
+rows-front w count s t e =
+    let same : take (w * count + 0) s ≡ take (w * count + 0) t = rw (add-zero (w * count)) e in
+    sym (rows-take w count 0 s) ∙ ap (rows-of w count) same ∙ rows-take w count 0 t
+
+-- One row more is the row that follows.
+pub rows-more : (w count : ℕ) (s : List ℕ) → rows-of w (count + 1) s ≡ rows-of w count s ++ (take w (drop (w * count) s) ∷ [])
+unfolding rows-of
+rows-more w zero s = rw mul-zero
+rows-more w (suc count) s =
+    let e : suc count + 1 ≡ suc (count + 1) = omega arith in
+    let d : w + w * count ≡ w * suc count = omega arith in
+    rw (e, rows-more w count (drop w s), drop-drop (w * count) w s, d)

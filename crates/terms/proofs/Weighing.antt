@@ -1,0 +1,40 @@
+-- The weight of one term from the three counts, and of all terms row by row.
+use mathlib.Core.Path.{_≡_, refl}
+use mathlib.Core.Bool.{cond, _||_}
+use mathlib.Core.List.{List}
+use Prim.Native.Nat.{ℕ, zero, suc, _+_, _-_, _*_, _/_, _%_, _<_, _≤_}
+use native.Mathlib.Omega.{arith}
+use lib.Dec.{eqb}
+use lib.ListN.{take, drop}
+use Rattle.lists.specs.Counting.{sum, occurrences}
+use Rattle.terms.specs.declared.row.Triple.{Triple}
+use Rattle.terms.specs.Rows.{term, terms-of}
+use Rattle.terms.specs.Weight.{odd-ones, term-weight, weight-of}
+use Rattle.terms.proofs.RowSteps.{terms-step, terms-end}
+
+-- 0, 1, 2, 3 to 0, 1, 1, 0.
+one-or-two : (odd : ℕ) → odd ≤ 3 → (odd + 1) / 2 % 2 ≡ cond (eqb odd 1 || eqb odd 2) 1 0
+one-or-two zero h = refl
+one-or-two (suc zero) h = refl
+one-or-two (suc (suc zero)) h = refl
+one-or-two (suc (suc (suc zero))) h = refl
+one-or-two (suc (suc (suc (suc k)))) h = absurd (omega arith)
+
+pub weighs : (triple : Triple) (term : List ℕ) (xs ys zs : ℕ)
+    → xs ≡ occurrences (triple .x) term → ys ≡ occurrences (triple .y) term → zs ≡ occurrences (triple .z) term
+    → (xs % 2 + ys % 2 + zs % 2 + 1) / 2 % 2 ≡ term-weight triple term
+unfolding term-weight odd-ones
+weighs triple term xs ys zs ex ey ez = rw (← ex, ← ey, ← ez) (one-or-two (xs % 2 + ys % 2 + zs % 2) (omega arith))
+
+-- Along the rows: the weight of those passed and of those ahead is the weight of all.
+module _ (triple : Triple) (live place : ℕ) (rows : List ℕ) where
+  pub weight-step : place < live
+      → weight-of triple (terms-of 8 (live - place) (drop (8 * place) rows))
+      ≡ term-weight triple (term (take 8 (drop (8 * place) rows)))
+      + weight-of triple (terms-of 8 (live - (place + 1)) (drop (8 * (place + 1)) rows))
+  unfolding weight-of sum
+  weight-step h = rw (terms-step 8 live place rows h)
+
+  pub weight-end : live ≤ place → weight-of triple (terms-of 8 (live - place) (drop (8 * place) rows)) ≡ 0
+  unfolding weight-of sum
+  weight-end h = rw (terms-end 8 live place rows h)

@@ -1,0 +1,113 @@
+use mathlib.Core.Path.{_∙_, ap}
+use Prim.Native.Nat.{_≤_, _-_, _*_}
+use native.Mathlib.Omega.{arith}
+use borrow.Rule.Slice.PartMut.{mid-len}
+use borrow.Author.Needs.{needs}
+use lib.ListN.{length, replicate, length-replicate}
+use Rattle.lists.proofs.Written.{put-written}
+use Rattle.terms.proofs.ReducedRows.{Passing, passing-starts, next-room, next-within, passing-on, passing-ends}
+use Rattle.terms.proofs.reduction.reduce_hamiltonian.Statement.{statement}
+use Rattle.terms.proofs.reduction.reduce_hamiltonian.Tie as tie
+
+abbrev Inv-loop : tie.InvT-loop
+Inv-loop rows₀ live parent selection kept₀ place₀ rows kept place = Passing selection parent live rows₀ rows kept place
+
+abbrev μ-loop : tie.MeasureT-loop
+μ-loop rows₀ live parent selection kept₀ place₀ rows kept place = live - place
+
+loop-holds : tie.Need-loop-holds Inv-loop μ-loop
+loop-holds c =
+    let args = c .before .args in
+    passing-starts (args .selection) (args .parent) (args .live) (args .rows .now)
+
+reduce-row-requires : tie.Need-reduce-row-requires Inv-loop μ-loop
+reduce-row-requires c κs =
+    let here = c .before .before in
+    let start = here .before .before in
+    let args = start .args in
+    let p = here .loop .inv in
+    let h = c .before .loop-test .taken in (
+      p .held,
+      (
+        p .fewer,
+        (
+          next-room (args .selection) (args .parent) (args .live) (args .rows .now) (start .pre) _ _ _ p h,
+          next-within (args .selection) (args .parent) (args .live) (args .rows .now) (start .pre) _ _ _ p h,
+        ),
+      ),
+    )
+
+add-place : tie.Need-add-place Inv-loop μ-loop
+add-place c = search needs
+
+loop-less : tie.Need-loop-less Inv-loop μ-loop
+loop-less c = search needs
+
+loop-again : tie.Need-loop-again Inv-loop μ-loop
+loop-again c =
+    let here = c .before .before .before .before .before in
+    let start = here .before .before in
+    let args = start .args in
+    let called = c .before .before .reduce-row in
+    passing-on (args .selection) (args .parent) (args .live) (args .rows .now) (start .pre) _ _ _ (here .loop .inv)
+    (c .before .before .before .before .loop-test .taken) _ _ (called .ensures) (called .kept .0)
+
+mul-from : tie.Need-mul-from Inv-loop μ-loop
+mul-from c = search needs
+
+mul-end : tie.Need-mul-end Inv-loop μ-loop
+mul-end c = search needs
+
+mul-clear : tie.Need-mul-clear Inv-loop μ-loop
+mul-clear c = search needs
+
+sub-clear : tie.Need-sub-clear Inv-loop μ-loop
+sub-clear c = search needs
+
+part-clear-start : tie.Need-part-clear-start Inv-loop μ-loop
+part-clear-start c = search needs
+
+part-clear-end : tie.Need-part-clear-end Inv-loop μ-loop
+part-clear-end c = search needs
+
+clear-requires : tie.Need-clear-requires Inv-loop μ-loop
+clear-requires c κs = search needs
+
+same-length : tie.Need-same-length Inv-loop μ-loop
+same-length c = search needs
+
+returns : tie.Need-returns Inv-loop μ-loop
+returns c =
+    let here = c .before .before .before .before .before in
+    let start = here .before .before in
+    let args = start .args in
+    let p = here .loop .inv in
+    let rows = here .loop .rows in
+    let from = 8 * here .loop .kept in
+    let end = 8 * args .live in
+    let room : end ≤ length rows = rw (p .same-length) (start .pre .room) in
+    let cleared = c .before .before .clear .ensures ∙ ap (λ n. replicate n 0) (mid-len from end rows room) in
+    rw cleared
+    (rw (put-written from (replicate (end - from) 0) rows (end - from) (length-replicate (end - from) 0))
+    (passing-ends (args .selection) (args .parent) (args .live) (args .rows .now) (start .pre) rows _ _ p (omega arith)))
+
+pub reduce-hamiltonian-spec : {M : Type 1} → statement M
+reduce-hamiltonian-spec =
+    tie.close
+    (tie.spec
+    Inv-loop
+    μ-loop
+    loop-holds
+    reduce-row-requires
+    add-place
+    loop-less
+    loop-again
+    mul-from
+    mul-end
+    mul-clear
+    sub-clear
+    part-clear-start
+    part-clear-end
+    clear-requires
+    same-length
+    returns)

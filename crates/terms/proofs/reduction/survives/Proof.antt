@@ -1,0 +1,21 @@
+use borrow.Author.Needs.{needs}
+use Rattle.terms.specs.Reduction.{stays, dropped}
+use Rattle.terms.proofs.reduction.survives.Statement.{statement}
+use Rattle.terms.proofs.reduction.survives.Tie as tie
+
+all-are-requires : tie.Need-all-are-requires
+all-are-requires c κs = search needs
+
+returns : tie.Need-returns
+unfolding stays dropped
+returns c = rw (← c .before .all-are .ensures, c .if1 .taken)
+
+has-term-requires : tie.Need-has-term-requires
+has-term-requires c κs = search needs
+
+returns-2 : tie.Need-returns-2
+unfolding stays dropped
+returns-2 c = rw (← c .before .before .all-are .ensures, c .before .if1 .left, ← c .has-term .ensures)
+
+pub survives-spec : {M : Type 1} → statement M
+survives-spec = tie.close (tie.spec all-are-requires returns has-term-requires returns-2)

@@ -1,0 +1,37 @@
+-- "Indices are below 2n and never descend; equal indices and equal rows are allowed. … here empty terms are refused everywhere."
+use mathlib.Core.Bool.{Bool, cond, _&&_}
+use mathlib.Core.List.{List}
+use Prim.Native.Nat.{ℕ, suc, _*_, _/_, _%_}
+use lib.Dec.{eqb, ltb, leb}
+use lib.ListN.{length, getD, drop}
+use Rattle.lists.specs.Members.{every, leading}
+use Rattle.lists.specs.Ranges.{ascends}
+use Rattle.refusal.specs.declared.Refusal.the-variants.{TermNumbers, TooManyTerms, BadRow}
+use Rattle.terms.specs.declared.given.Checked.{Checked}
+use Rattle.terms.specs.declared.given.Checked.the-variants.{Good, Refused}
+use Rattle.terms.specs.Rows.{rows-of, term}
+
+-- "Indices are below 2n and never descend"; `bound` is the 2n.
+unfoldable pub good-indices : ℕ → List ℕ → Bool
+good-indices bound indices = ascends indices && every (λ index. ltb index bound) indices
+
+-- "a length 1 to 7 (`MAX_MAJORANAS`), that many indices, then zeros".
+unfoldable pub good-row : ℕ → List ℕ → Bool
+good-row bound row =
+    leb 1 (getD row 0 0)
+    && (leb (getD row 0 0) 7 && (good-indices bound (term row) && every (λ number. eqb number 0) (drop (suc (getD row 0 0)) row)))
+
+-- How many rows are good before the first bad one.
+unfoldable pub good-rows : ℕ → ℕ → List ℕ → ℕ
+good-rows bound count numbers = leading (good-row bound) (rows-of 8 count numbers)
+
+-- Refusals 2, 3 and 4, in this order: "term numbers not a multiple of 8", "T above 2048", "first bad row".
+unfoldable pub checked : ℕ → List ℕ → Checked
+checked modes numbers =
+    cond (eqb (length numbers % 8) 0)
+    (cond (leb (length numbers / 8) 2048)
+    (cond (ltb (good-rows (2 * modes) (length numbers / 8) numbers) (length numbers / 8))
+    (Refused (BadRow (good-rows (2 * modes) (length numbers / 8) numbers)))
+    (Good (length numbers / 8)))
+    (Refused TooManyTerms))
+    (Refused TermNumbers)

@@ -1,0 +1,179 @@
+// Reduction: the triple becomes its parent in every row, rows that are all parent are dropped, equal rows become one.
+ghost use mathlib.Core.Path.{_≡_};
+ghost use Prim.Native.Nat.{_+_, _*_, _≤_, _<_, min, max};
+ghost use lib.ListN.{length, getD, take, drop, replicate};
+ghost use Rattle.lists.specs.Members.{«some-of», alike};
+ghost use Rattle.lists.specs.Written.{«written-at»};
+ghost use Rattle.terms.specs.Rows.{Held, «terms-of»};
+ghost use Rattle.terms.specs.Reduction.{replacement, «put-in», rewriting, stays};
+ghost use Rattle.terms.specs.Promises.{Rewritten, RowReduced, Reduced};
+use crate::row;
+use crate::row::Triple;
+
+fn smaller(a: u16, b: u16) -> u16
+    ensures { λ r. ⌜ r ≡ min a b ⌝ }
+{
+    if b < a { b } else { a }
+}
+
+fn larger(a: u16, b: u16) -> u16
+    ensures { λ r. ⌜ r ≡ max a b ⌝ }
+{
+    if b < a { a } else { b }
+}
+
+// The numbers after the first, with this one put in before the first that is larger.
+fn insert(numbers: &mut [u16], number: u16)
+    requires { ⌜ 0 < length (now numbers) ⌝ }
+    ensures { λ r. ⌜ now (numbers .exit) ≡ put-in number (drop 1 (now (numbers .entry))) ⌝ }
+{
+    let mut carried = number;
+    let last = numbers.len() - 1;
+    let mut at = 0;
+    while at < last {
+        let next = numbers[at + 1];
+        numbers[at] = smaller(carried, next);
+        carried = larger(carried, next);
+        at += 1;
+    }
+    numbers[last] = carried;
+}
+
+// The parent for each of the triple, any other number for itself.
+fn replaced(number: u16, triple: Triple, parent: u16) -> u16
+    ensures { λ r. ⌜ r ≡ replacement triple parent number ⌝ }
+{
+    if number == triple.x {
+        return parent;
+    }
+    if number == triple.y {
+        return parent;
+    }
+    if number == triple.z {
+        return parent;
+    }
+    number
+}
+
+// The term with the triple replaced, sorted; from its end, so that what is passed is sorted already.
+fn rewrite(term: &mut [u16], triple: Triple, parent: u16)
+    ensures { λ r. ⌜ now (term .exit) ≡ rewriting triple parent (now (term .entry)) ⌝ }
+{
+    let mut at = term.len();
+    while 0 < at {
+        at -= 1;
+        let number = replaced(term[at], triple, parent);
+        insert(&mut term[at..], number);
+    }
+}
+
+fn copy(from: &[u16], to: &mut [u16])
+    requires { ⌜ length (now to) ≡ length (now from) ⌝ }
+    ensures { λ r. ⌜ now (to .exit) ≡ now (from .entry) ⌝ }
+{
+    let mut at = 0;
+    while at < from.len() {
+        to[at] = from[at];
+        at += 1;
+    }
+}
+
+fn clear(numbers: &mut [u16])
+    ensures { λ r. ⌜ now (numbers .exit) ≡ replicate (length (now (numbers .entry))) 0 ⌝ }
+{
+    let mut at = 0;
+    while at < numbers.len() {
+        numbers[at] = 0;
+        at += 1;
+    }
+}
+
+// The row's term rewritten where it stands.
+fn rewrite_row(row: &mut [u16], triple: Triple, parent: u16)
+    requires { ⌜ getD (now row) 0 0 < length (now row) ⌝ }
+    ensures { λ r. ⌜ Rewritten triple parent (now (row .entry)) (now (row .exit)) ⌝ }
+{
+    let end = row::wide(row[0]) + 1;
+    rewrite(&mut row[1..end], triple, parent);
+}
+
+// The row copied aside and the copy rewritten.
+fn rewritten(row: &[u16], triple: Triple, parent: u16) -> [u16; 8]
+    requires { ⌜ (length (now row) ≡ 8) × (getD (now row) 0 0 < 8) ⌝ }
+    ensures { λ r. ⌜ (length r ≡ 8) × Rewritten triple parent (now (row .entry)) r ⌝ }
+{
+    let mut aside = [0u16; 8];
+    copy(row, &mut aside);
+    rewrite_row(&mut aside, triple, parent);
+    aside
+}
+
+// One of the first rows has this term.
+fn has_term(rows: &[u16], count: usize, term: &[u16]) -> bool
+    requires { ⌜ Held 8 count (now rows) ⌝ }
+    ensures { λ r. ⌜ r ≡ some-of (alike (now (term .entry))) (terms-of 8 count (now (rows .entry))) ⌝ }
+{
+    let mut place = 0;
+    while place < count {
+        if row::same_term(term, row::term_at(rows, place)) {
+            return true;
+        }
+        place += 1;
+    }
+    false
+}
+
+// The term is not all parent, and none of the rows kept has it.
+fn survives(rows: &[u16], kept: usize, term: &[u16], parent: u16) -> bool
+    requires { ⌜ Held 8 kept (now rows) ⌝ }
+    ensures { λ r. ⌜ r ≡ stays parent (terms-of 8 kept (now (rows .entry))) (now (term .entry)) ⌝ }
+{
+    if row::all_are(term, parent) {
+        return false;
+    }
+    !has_term(rows, kept, term)
+}
+
+// The row written over the one at this place.
+fn put_row(rows: &mut [u16], place: usize, row: &[u16])
+    requires { ⌜ length (now row) ≡ 8 ⌝ }
+    requires { ⌜ 8 * place + 8 ≤ length (now rows) ⌝ }
+    ensures { λ r. ⌜ now (rows .exit) ≡ written-at (8 * place) (now (row .entry)) (now (rows .entry)) ⌝ }
+{
+    let from = 8 * place;
+    let end = from + 8;
+    copy(row, &mut rows[from..end]);
+}
+
+// One row reduced and, where it stays, put behind the rows kept; how many are kept then.
+fn reduce_row(rows: &mut [u16], kept: usize, place: usize, triple: Triple, parent: u16) -> usize
+    requires { ⌜ Held 8 kept (now rows) ⌝ }
+    requires { ⌜ kept ≤ place ⌝ }
+    requires { ⌜ 8 * place + 8 ≤ length (now rows) ⌝ }
+    requires { ⌜ getD (now rows) (8 * place) 0 < 8 ⌝ }
+    ensures { λ r. ⌜ RowReduced triple parent kept place (now (rows .entry)) (now (rows .exit)) r ⌝ }
+{
+    let aside = rewritten(row::row_at(rows, place), triple, parent);
+    if !survives(rows, kept, row::term_of(&aside), parent) {
+        return kept;
+    }
+    put_row(rows, kept, &aside);
+    kept + 1
+}
+
+// The first live rows reduced to the parent; how many stay, at the front, with zeros where the others were.
+pub fn reduce_hamiltonian(rows: &mut [u16], live: usize, parent: u16, selection: Triple) -> usize
+    requires { ⌜ Held 8 live (now rows) ⌝ }
+    ensures { λ r. ⌜ Reduced selection parent live (now (rows .entry)) (now (rows .exit)) r ⌝ }
+{
+    let mut kept: usize = 0;
+    let mut place = 0;
+    while place < live {
+        kept = reduce_row(rows, kept, place, selection, parent);
+        place += 1;
+    }
+    let from = 8 * kept;
+    let end = 8 * live;
+    clear(&mut rows[from..end]);
+    kept
+}

@@ -1,0 +1,79 @@
+// One row of eight numbers, its term, and tests on terms that the other files share.
+ghost use mathlib.Core.Path.{_≡_};
+ghost use Prim.Native.Nat.{_+_, _*_, _≤_, _<_};
+ghost use lib.Dec.{eqb};
+ghost use lib.ListN.{length, getD, take, drop};
+ghost use Rattle.lists.specs.Members.{every, alike};
+ghost use Rattle.terms.specs.Rows.{term};
+
+// Three entities: a node's children under X, Y and Z.
+pub struct Triple {
+    pub x: u16,
+    pub y: u16,
+    pub z: u16,
+}
+
+// The number as an index.
+pub fn wide(number: u16) -> usize
+    ensures { λ r. ⌜ (r ≡ number) × (r < 65536) ⌝ }
+{
+    number as usize
+}
+
+// The row at this place of rows that stand one after the other.
+pub fn row_at(rows: &[u16], place: usize) -> &[u16]
+    requires { ⌜ 8 * place + 8 ≤ length (now rows) ⌝ }
+    ensures { λ r. ⌜ now r ≡ take 8 (drop (8 * place) (now (rows .entry))) ⌝ }
+{
+    let from = 8 * place;
+    let end = from + 8;
+    &rows[from..end]
+}
+
+// The term of a row: its indices, without the length before them and the zeros after.
+pub fn term_of(row: &[u16]) -> &[u16]
+    requires { ⌜ getD (now row) 0 0 < length (now row) ⌝ }
+    ensures { λ r. ⌜ now r ≡ term (now (row .entry)) ⌝ }
+{
+    let end = wide(row[0]) + 1;
+    &row[1..end]
+}
+
+// The term of the row at this place.
+pub fn term_at(rows: &[u16], place: usize) -> &[u16]
+    requires { ⌜ (8 * place + 8 ≤ length (now rows)) × (getD (now rows) (8 * place) 0 < 8) ⌝ }
+    ensures { λ r. ⌜ now r ≡ term (take 8 (drop (8 * place) (now (rows .entry)))) ⌝ }
+{
+    term_of(row_at(rows, place))
+}
+
+// Every number is this one.
+pub fn all_are(numbers: &[u16], number: u16) -> bool
+    ensures { λ r. ⌜ r ≡ every (λ v. eqb v number) (now (numbers .entry)) ⌝ }
+{
+    let mut at = 0;
+    while at < numbers.len() {
+        if numbers[at] != number {
+            return false;
+        }
+        at += 1;
+    }
+    true
+}
+
+// The two terms are the same.
+pub fn same_term(a: &[u16], b: &[u16]) -> bool
+    ensures { λ r. ⌜ r ≡ alike (now (a .entry)) (now (b .entry)) ⌝ }
+{
+    if a.len() != b.len() {
+        return false;
+    }
+    let mut at = 0;
+    while at < a.len() {
+        if a[at] != b[at] {
+            return false;
+        }
+        at += 1;
+    }
+    true
+}

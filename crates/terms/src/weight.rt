@@ -1,0 +1,49 @@
+// The weight of a triple: in one term, and in all live rows.
+ghost use mathlib.Core.Path.{_≡_};
+ghost use Prim.Native.Nat.{_≤_};
+ghost use Rattle.lists.specs.Counting.{same as «one-if-same»};
+ghost use Rattle.terms.specs.Rows.{Held, «terms-of»};
+ghost use Rattle.terms.specs.Weight.{«term-weight», «weight-of»};
+use crate::row;
+use crate::row::Triple;
+
+// 1 where the two numbers are the same, else 0.
+fn same(number: u16, other: u16) -> usize
+    ensures { λ r. ⌜ (r ≡ one-if-same number other) × (r ≤ 1) ⌝ }
+{
+    if number == other { 1 } else { 0 }
+}
+
+// 1 where one or two of the triple's numbers occur an odd number of times, else 0.
+pub fn qubit_term_weight(term: &[u16], triple: Triple) -> usize
+    ensures { λ r. ⌜ (r ≡ term-weight triple (now (term .entry))) × (r ≤ 1) ⌝ }
+{
+    let mut xs: usize = 0;
+    let mut ys: usize = 0;
+    let mut zs: usize = 0;
+    let mut at = 0;
+    while at < term.len() {
+        let index = term[at];
+        xs += same(index, triple.x);
+        ys += same(index, triple.y);
+        zs += same(index, triple.z);
+        at += 1;
+    }
+    let odd = xs % 2 + ys % 2 + zs % 2;
+    // 0, 1, 2, 3 to 0, 1, 1, 0
+    (odd + 1) / 2 % 2
+}
+
+// The sum of the triple's weights in the first live rows.
+pub fn weight(rows: &[u16], live: usize, triple: Triple) -> usize
+    requires { ⌜ Held 8 live (now rows) ⌝ }
+    ensures { λ r. ⌜ (r ≡ weight-of triple (terms-of 8 live (now (rows .entry)))) × (r ≤ live) ⌝ }
+{
+    let mut sum: usize = 0;
+    let mut place = 0;
+    while place < live {
+        sum += qubit_term_weight(row::term_at(rows, place), triple);
+        place += 1;
+    }
+    sum
+}
