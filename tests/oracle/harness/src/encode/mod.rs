@@ -1,0 +1,3 @@
+//! Where the algorithms look for the tree.
+
+pub mod ternarytree;

@@ -1,0 +1,3 @@
+//! Where the algorithms stand, at the paths that their files have in ferrmion.
+
+pub mod ternarytree;
