@@ -1,0 +1,9 @@
+//! Test inputs in the domain of document 01, made from a seed: terms of every shape and trees of every growth.
+
+mod random;
+mod terms;
+mod trees;
+
+pub use random::Random;
+pub use terms::{any_terms, flat, terms, Shape, SHAPES};
+pub use trees::{any_tree, permute_labels, tree, tree_of_rows, Growth, ABSENT, GROWTHS};
