@@ -1,0 +1,18 @@
+//! The rules of docs/01-scope.md ("01" below) written a second time, in ordinary Rust with ordinary vectors.
+//!
+//! It judges what the Rust original has no counterpart for: the journal, the refusals, the tree
+//! check, the trial count, the tree weight and the program's text. It is clear rather than fast.
+
+pub mod assign;
+pub mod journal;
+pub mod merging;
+pub mod refusal;
+pub mod terms;
+pub mod text;
+pub mod tree;
+
+pub use assign::assign;
+pub use journal::{find_line, hatt, resume, Done};
+pub use refusal::Refusal;
+pub use text::program;
+pub use tree::{check_tree, tree_weight};

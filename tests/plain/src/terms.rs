@@ -1,0 +1,83 @@
+//! Terms: the check of given rows (refusals 2, 3 and 4), the weight of a triple in rows, and reduction.
+
+use crate::refusal::{demand, Refusal};
+use std::collections::HashSet;
+
+/// The indices of one term, without the length before them and the zeros behind them.
+pub type Row = Vec<u16>;
+
+/// "Terms T: 0 to 2048."
+pub const MOST_TERMS: usize = 2048;
+
+/// A row's longest list of indices.
+pub const MAX_MAJORANAS: usize = 7;
+
+/// "in rows of eight u16: a length 1 to 7, that many indices, then zeros".
+pub const ROW_NUMBERS: usize = MAX_MAJORANAS + 1;
+
+/// Reads the flat numbers as rows, or refuses by 2, 3 or 4.
+pub fn read_terms(modes: usize, terms: &[u16]) -> Result<Vec<Row>, Refusal> {
+    demand(terms.len().is_multiple_of(ROW_NUMBERS), 2, 0)?;
+    demand(terms.len() / ROW_NUMBERS <= MOST_TERMS, 3, 0)?;
+    let mut rows = Vec::new();
+    for (place, numbers) in terms.chunks(ROW_NUMBERS).enumerate() {
+        demand(is_good_row(modes, numbers), 4, place)?;
+        let length = usize::from(numbers[0]);
+        rows.push(numbers[1..=length].to_vec());
+    }
+    Ok(rows)
+}
+
+/// "Indices are below 2n and never descend; equal indices and equal rows are allowed";
+/// "empty terms are refused everywhere".
+fn is_good_row(modes: usize, numbers: &[u16]) -> bool {
+    let length = usize::from(numbers[0]);
+    if !(1..=MAX_MAJORANAS).contains(&length) {
+        return false;
+    }
+    let (indices, rest) = numbers[1..].split_at(length);
+    indices.iter().all(|&index| usize::from(index) < 2 * modes)
+        && indices.windows(2).all(|two| two[0] <= two[1])
+        && rest.iter().all(|&number| number == 0)
+}
+
+/// "of the three, count those that occur an odd number of times; 1 if that count is 1 or 2, else 0".
+pub fn qubit_term_weight(row: &[u16], triple: [u16; 3]) -> u64 {
+    let mut odd = [false; 3];
+    for &index in row {
+        odd[0] ^= index == triple[0];
+        odd[1] ^= index == triple[1];
+        odd[2] ^= index == triple[2];
+    }
+    let count = u64::from(odd[0]) + u64::from(odd[1]) + u64::from(odd[2]);
+    u64::from(count == 1 || count == 2)
+}
+
+/// "Its weight is the sum over rows."
+pub fn weigh(rows: &[Row], triple: [u16; 3]) -> u64 {
+    rows.iter().map(|row| qubit_term_weight(row, triple)).sum()
+}
+
+/// "each of the three numbers becomes the parent, multiplicity kept, the row sorted; rows with all
+/// numbers equal to the parent (a single one too) are dropped; then equal rows become one".
+///
+/// Of equal rows the first stays where it is: a later request counts on that order.
+pub fn reduce_hamiltonian(rows: Vec<Row>, parent: u16, triple: [u16; 3]) -> Vec<Row> {
+    let mut seen = HashSet::new();
+    rows.into_iter()
+        .map(|row| replace(row, parent, triple))
+        .filter(|row| !row.iter().all(|&index| index == parent))
+        .filter(|row| seen.insert(row.clone()))
+        .collect()
+}
+
+/// One row with the parent in the place of each of the three, sorted.
+fn replace(mut row: Row, parent: u16, triple: [u16; 3]) -> Row {
+    for index in &mut row {
+        if triple.contains(index) {
+            *index = parent;
+        }
+    }
+    row.sort_unstable();
+    row
+}
