@@ -1,0 +1,2 @@
+-- The laws of merging.
+pub mod Examples

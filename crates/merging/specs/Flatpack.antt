@@ -1,0 +1,45 @@
+-- "Rows are (label, X, Y, Z), label = step, breadth first from the root, children queued X, Y, Z."
+use mathlib.Core.Bool.{cond}
+use mathlib.Core.List.{List, [], _∷_, _++_}
+use Prim.Native.Nat.{ℕ, zero, suc, _+_, _-_, _*_}
+use lib.Dec.{eqb, ltb}
+use lib.ListN.{length, getD}
+use Rattle.lists.specs.Members.{keep}
+use Rattle.terms.specs.declared.row.Triple.{Triple}
+use Rattle.merging.specs.History.{z-end}
+
+-- The merge of a step; the history has the newest first.
+unfoldable pub merge-of : List Triple → ℕ → Triple
+merge-of history step = getD history (length history - suc step) (record { x = 0; y = 0; z = 0 })
+
+-- "A child code is 0..n-1 for a node, n..3n-1 for leaf code minus n, or 65535 for the one absent child", which is the leaf `end`.
+unfoldable pub code : ℕ → ℕ → ℕ → ℕ
+code modes end entity =
+    cond (eqb entity end) 65535 (cond (ltb entity (2 * modes + 1)) (entity + modes) (entity - (2 * modes + 1)))
+
+-- "After n steps the last parent is the root. The absent child replaces the end of its z-chain."
+unfoldable pub absent-leaf : ℕ → List Triple → ℕ
+absent-leaf modes history = z-end modes history (2 * modes + length history)
+
+-- The codes of a node's children, X, Y, Z.
+unfoldable pub children : ℕ → List Triple → ℕ → List ℕ
+children modes history label =
+    code modes (absent-leaf modes history) (merge-of history label .x)
+    ∷ (code modes (absent-leaf modes history) (merge-of history label .y)
+    ∷ (code modes (absent-leaf modes history) (merge-of history label .z) ∷ []))
+
+-- The labels of the rows: a node, then its node children queued behind the rest.
+unfoldable pub walk : ℕ → List Triple → ℕ → List ℕ → List ℕ
+walk modes history zero queue = []
+walk modes history (suc count) [] = []
+walk modes history (suc count) (label ∷ queue) =
+    label ∷ walk modes history count (queue ++ keep (λ child. ltb child modes) (children modes history label))
+
+-- The numbers of these nodes' rows.
+unfoldable pub rows-for : ℕ → List Triple → List ℕ → List ℕ
+rows-for modes history [] = []
+rows-for modes history (label ∷ labels) = (label ∷ children modes history label) ++ rows-for modes history labels
+
+-- The flatpack of a finished history.
+unfoldable pub flatpack : ℕ → List Triple → List ℕ
+flatpack modes history = rows-for modes history (walk modes history modes ((modes - 1) ∷ []))

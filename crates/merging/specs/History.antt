@@ -1,0 +1,39 @@
+-- The state of a run is its history: the merges so far, newest first. Everything else is read off it.
+use mathlib.Core.Bool.{Bool, cond, not, _&&_, _||_}
+use mathlib.Core.List.{List, [], _∷_}
+use Prim.Native.Nat.{ℕ, _+_, _*_}
+use lib.Dec.{eqb, leb}
+use lib.ListN.{length}
+use Rattle.terms.specs.declared.row.Triple.{Triple}
+use Rattle.terms.specs.Reduction.{reduction}
+
+-- "Its parent is 2n+1+i": the entity that the next merge makes.
+unfoldable pub next-parent : ℕ → List Triple → ℕ
+next-parent modes history = 2 * modes + 1 + length history
+
+-- The entity is one of the triple's three.
+unfoldable pub among : Triple → ℕ → Bool
+among triple entity = eqb entity (triple .x) || (eqb entity (triple .y) || eqb entity (triple .z))
+
+-- "Open entities start as all leaves"; a merge closes its three and opens its parent.
+unfoldable pub is-open : ℕ → List Triple → ℕ → Bool
+is-open modes [] entity = leb entity (2 * modes)
+is-open modes (merge ∷ history) entity =
+    eqb entity (next-parent modes history) || (is-open modes history entity && not (among merge entity))
+
+-- "Each entity has a z-end: a leaf's is itself, a parent's is that of its Z child."
+unfoldable pub z-end : ℕ → List Triple → ℕ → ℕ
+z-end modes [] entity = entity
+z-end modes (merge ∷ history) entity =
+    z-end modes history (cond (eqb entity (next-parent modes history)) (merge .z) entity)
+
+-- The entity that holds a leaf at its z-end: the last parent whose z-chain reached it, or the leaf itself.
+unfoldable pub holder : ℕ → List Triple → ℕ → ℕ
+holder modes [] leaf = leaf
+holder modes (merge ∷ history) leaf =
+    cond (eqb (z-end modes history (merge .z)) leaf) (next-parent modes history) (holder modes history leaf)
+
+-- The rows after a history: each merge reduces them to its parent.
+unfoldable pub rows-after : ℕ → List (List ℕ) → List Triple → List (List ℕ)
+rows-after modes terms [] = terms
+rows-after modes terms (merge ∷ history) = reduction merge (next-parent modes history) (rows-after modes terms history)

@@ -1,0 +1,70 @@
+-- "A lawful triple (x, y, z) is three different open entities where x's z-end is an even 2k below 2n and y's is 2k+1."
+use mathlib.Core.Path.{_≡_}
+use mathlib.Core.Bool.{Bool, true, cond, not, _&&_}
+use mathlib.Core.List.{List, [], _∷_, map, flatMap}
+use Prim.Native.Nat.{ℕ, _+_, _-_, _*_, _%_, _<_}
+use lib.Dec.{eqb, ltb}
+use Rattle.lists.specs.Members.{keep}
+use Rattle.lists.specs.Ranges.{listed}
+use Rattle.terms.specs.declared.row.Triple.{Triple}
+use Rattle.merging.specs.History.{next-parent, is-open, z-end, holder}
+
+-- The sentence, a field a fact.
+pub record Lawful (modes : ℕ) (history : List Triple) (triple : Triple) : Type 0 where
+  pub x-open : is-open modes history (triple .x) ≡ true
+  pub y-open : is-open modes history (triple .y) ≡ true
+  pub z-open : is-open modes history (triple .z) ≡ true
+  pub x-not-y : triple .x ≡ triple .y → ⊥
+  pub x-not-z : triple .x ≡ triple .z → ⊥
+  pub y-not-z : triple .y ≡ triple .z → ⊥
+  pub x-even : z-end modes history (triple .x) % 2 ≡ 0
+  pub x-below : z-end modes history (triple .x) < 2 * modes
+  pub y-next : z-end modes history (triple .y) ≡ z-end modes history (triple .x) + 1
+
+-- The merges so far were lawful, each when it was made.
+abbrev pub LawfulHistory : ℕ → List Triple → Type 0
+LawfulHistory modes [] = Unit
+LawfulHistory modes (merge ∷ history) = Lawful modes history merge × LawfulHistory modes history
+
+-- The same sentence as a test.
+unfoldable pub three-open : ℕ → List Triple → Triple → Bool
+three-open modes history triple =
+    is-open modes history (triple .x) && (is-open modes history (triple .y) && is-open modes history (triple .z))
+
+-- "three different … entities where x's z-end is an even 2k below 2n and y's is 2k+1".
+unfoldable pub paired : ℕ → List Triple → Triple → Bool
+paired modes history triple =
+    not (eqb (triple .x) (triple .y))
+    && (not (eqb (triple .x) (triple .z))
+    && (not (eqb (triple .y) (triple .z))
+    && (eqb (z-end modes history (triple .x) % 2) 0
+    && (ltb (z-end modes history (triple .x)) (2 * modes)
+    && eqb (z-end modes history (triple .y)) (z-end modes history (triple .x) + 1)))))
+
+unfoldable pub is-lawful : ℕ → List Triple → Triple → Bool
+is-lawful modes history triple = three-open modes history triple && paired modes history triple
+
+-- "A lawful ordered pair (a, z) names it when a is its x or its y."
+pub record Pair : Type 0 where
+  pub a : ℕ
+  pub z : ℕ
+
+-- The triple that a pair names: a with the holder of the leaf paired with a's z-end, the even one first.
+unfoldable pub named : ℕ → List Triple → Pair → Triple
+named modes history pair =
+    cond (eqb (z-end modes history (pair .a) % 2) 0)
+    (record { x = pair .a; y = holder modes history (z-end modes history (pair .a) + 1); z = pair .z })
+    (record { x = holder modes history (z-end modes history (pair .a) - 1); y = pair .a; z = pair .z })
+
+-- All entities so far, ascending.
+unfoldable pub entities : ℕ → List Triple → List ℕ
+entities modes history = listed (λ entity. entity) 0 (next-parent modes history)
+
+-- The lawful pairs with this a, "in ascending a, then z".
+unfoldable pub pairs-with : ℕ → List Triple → ℕ → List Pair
+pairs-with modes history a =
+    keep (λ pair. is-lawful modes history (named modes history pair)) (map (λ z. record { a = a; z = z }) (entities modes history))
+
+-- The lawful ordered pairs, "in ascending a, then z".
+unfoldable pub lawful-pairs : ℕ → List Triple → List Pair
+lawful-pairs modes history = flatMap (pairs-with modes history) (entities modes history)
