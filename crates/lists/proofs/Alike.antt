@@ -1,6 +1,6 @@
 -- Two lists are alike where they are the same list, and only there.
 use mathlib.Core.Path.{_≡_, refl, ap}
-use mathlib.Core.Bool.{Bool, true, false, _&&_}
+use mathlib.Core.Bool.{Bool, true, false, and-eq-true-iff}
 use mathlib.Core.List.{List, [], _∷_}
 use Prim.Native.Nat.{ℕ}
 use native.Mathlib.Omega.{arith}
@@ -14,17 +14,13 @@ unfolding alike
 alike-self [] = refl
 alike-self (a ∷ l) = rw (eq-eqb a a refl) (alike-self l)
 
-both : (p q : Bool) → (p && q) ≡ true → (p ≡ true) × (q ≡ true)
-both true q e = (refl, e)
-both false q e = let z : _≡_ {A = ℕ} 0 1 = cc in absurd (omega arith)
-
 pub alike-same : (l m : List ℕ) → alike l m ≡ true → l ≡ m
 unfolding alike
 alike-same [] [] e = refl
 alike-same [] (b ∷ m) e = let z : _≡_ {A = ℕ} 0 1 = cc in absurd (omega arith)
 alike-same (a ∷ l) [] e = let z : _≡_ {A = ℕ} 0 1 = cc in absurd (omega arith)
 alike-same (a ∷ l) (b ∷ m) e =
-    let p = both (eqb a b) (alike l m) e in
+    let p = and-eq-true-iff (eqb a b) (alike l m) .0 e in
     let h : a ≡ b = eqb-true a b (p .0) in
     let t : l ≡ m = alike-same l m (p .1) in
     cc

@@ -2,5 +2,9 @@
 pub mod Parts
 pub mod Steps
 pub mod Alike
+pub mod Every
+pub mod Firsts
+pub mod Ascending
+pub mod Counting
 pub mod Writes
 pub mod Written

@@ -1,0 +1,67 @@
+-- What holds of every element holds at each place, and of the elements that are mapped, kept or the first of equals.
+use mathlib.Core.Path.{_≡_, refl, ap}
+use mathlib.Core.Bool.{Bool, true, false, cond, and-eq-true-iff}
+use mathlib.Core.List.{List, [], _∷_, _++_, map, append-nil}
+use Prim.Native.Nat.{ℕ, zero, suc, _<_, _≤_}
+use native.Mathlib.Omega.{arith}
+use lib.ListN.{length, getD}
+use Rattle.lists.specs.Members.{every, keep, leading, some-of, firsts-after}
+
+module _ {A : Type 0} (test : A → Bool) where
+  pub every-cons : (a : A) (l : List A) → test a ≡ true → every test l ≡ true → every test (a ∷ l) ≡ true
+  unfolding every
+  every-cons a l e f = rw e f
+
+  pub every-uncons : (a : A) (l : List A) → every test (a ∷ l) ≡ true → (test a ≡ true) × (every test l ≡ true)
+  unfolding every
+  every-uncons a l e = and-eq-true-iff (test a) (every test l) .0 e
+
+  pub every-at : (l : List A) (i : ℕ) (d : A) → i < length l → every test l ≡ true → test (getD l i d) ≡ true
+  every-at [] i d h e = absurd (omega arith)
+  every-at (a ∷ l) zero d h e = every-uncons a l e .0
+  every-at (a ∷ l) (suc i) d h e = every-at l i d (omega arith) (every-uncons a l e .1)
+
+  every-joined : (l m : List A) → every test l ≡ true → every test m ≡ true → every test (l ++ m) ≡ true
+  every-joined [] m e f = f
+  every-joined (a ∷ l) m e f =
+      let p = every-uncons a l e in
+      every-cons a (l ++ m) (p .0) (every-joined l m (p .1) f)
+
+  every-chosen : (b : Bool) (l m : List A) → every test l ≡ true → every test m ≡ true → every test (cond b l m) ≡ true
+  every-chosen true l m e f = e
+  every-chosen false l m e f = f
+
+  pub every-kept : (other : A → Bool) (l : List A) → every test l ≡ true → every test (keep other l) ≡ true
+  unfolding every keep
+  every-kept other [] e = refl
+  every-kept other (a ∷ l) e =
+      let p = every-uncons a l e in
+      every-joined (cond (other a) (a ∷ []) []) (keep other l)
+      (every-chosen (other a) (a ∷ []) [] (every-cons a [] (p .0) refl) refl) (every-kept other l (p .1))
+
+  pub every-first : (like : A → A → Bool) (kept l : List A) → every test l ≡ true → every test (firsts-after like kept l) ≡ true
+  unfolding every firsts-after
+  every-first like kept [] e = refl
+  every-first like kept (a ∷ l) e =
+      let p = every-uncons a l e in
+      let b = some-of (like a) kept in
+      every-joined (cond b [] (a ∷ [])) (firsts-after like (kept ++ cond b [] (a ∷ [])) l)
+      (every-chosen b [] (a ∷ []) refl (every-cons a [] (p .0) refl)) (every-first like _ l (p .1))
+
+  -- Where no element fails before the end, none does.
+  pub every-leading : (l : List A) → length l ≤ leading test l → every test l ≡ true
+  unfolding every leading
+  every-leading [] h = refl
+  every-leading (a ∷ l) h = go (test a) refl (every-leading l)
+    where
+      go : (b : Bool) → test a ≡ b → (length l ≤ leading test l → every test l ≡ true) → every test (a ∷ l) ≡ true
+      go true e on = every-cons a l e (on (omega (arith, rw e at h)))
+      go false e on = absurd (omega (arith, rw e at h))
+
+pub every-mapped : {A B : Type 0} (test : A → Bool) (after : B → Bool) (f : A → B) → ((a : A) → test a ≡ true → after (f a) ≡ true)
+    → (l : List A) → every test l ≡ true → every after (map f l) ≡ true
+unfolding every
+every-mapped test after f onto [] e = refl
+every-mapped test after f onto (a ∷ l) e =
+    let p = every-uncons test a l e in
+    every-cons after (f a) (map f l) (onto a (p .0)) (every-mapped test after f onto l (p .1))
