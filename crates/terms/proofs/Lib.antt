@@ -2,8 +2,13 @@
 pub mod RowSteps
 pub mod GoodSteps
 pub mod Weighing
+pub mod WeightBound
+pub mod SortedRight
 pub mod Sorting
 pub mod RowRewritten
 pub mod Reducing
 pub mod RowReduced
 pub mod ReducedRows
+pub mod Unchanged
+pub mod NoTwoEqual
+pub mod StaysGood

@@ -40,6 +40,19 @@ module _ (w place : ℕ) (s : List ℕ) (room : w * place + w ≤ length s) wher
   pub row-first : 0 < w → getD (take w (drop (w * place) s)) 0 0 ≡ getD s (w * place) 0
   row-first h = rw (getD-take w (drop (w * place) s) 0 0 h, getD-drop (w * place) s 0 0, add-zero)
 
+pub length-rows : (w count : ℕ) (s : List ℕ) → length (rows-of w count s) ≡ count
+unfolding rows-of
+length-rows w zero s = refl
+length-rows w (suc count) s = ap suc (length-rows w count (drop w s))
+
+pub rows-at : (w count place : ℕ) (s : List ℕ) → place < count → getD (rows-of w count s) place [] ≡ take w (drop (w * place) s)
+unfolding rows-of
+rows-at w zero place s h = absurd (omega arith)
+rows-at w (suc count) zero s h = rw mul-zero
+rows-at w (suc count) (suc place) s h =
+    let e : w + w * place ≡ w * suc place = omega arith in
+    rw (rows-at w count place (drop w s) (omega arith), drop-drop (w * place) w s, e)
+
 -- The first rows are read from the first numbers alone.
 rows-take : (w count more : ℕ) (s : List ℕ) → rows-of w count (take (w * count + more) s) ≡ rows-of w count s
 unfolding rows-of

@@ -1,15 +1,16 @@
 -- Putting a number into an ascending list, step by step.
-use mathlib.Core.Path.{_≡_, refl, ap, _∙_, sym}
-use mathlib.Core.List.{List, [], _∷_, _++_, append-assoc, append-nil}
+use mathlib.Core.Path.{_≡_, ap, _∙_, sym}
+use mathlib.Core.List.{List, [], _∷_, _++_, map, append-assoc, append-nil}
 use Prim.Native.Nat.{ℕ, suc, _+_, _-_, _<_, _≤_, min, max}
 use native.Mathlib.Omega.{arith}
 use borrow.Rule.Slice.PartMut.{putMid, take-put}
-use lib.ListN.{length, getD, take, drop, set, drop-of-length-le, length-append, length-take, length-drop}
+use lib.ListN.{length, getD, take, drop, set, drop-of-length-le, length-append, length-take, length-drop, length-map}
 use lib.Seq.{drop-length, set-split, drop-set-lt, drop-drop, drop-at, take-take, getD-take, length-take-le}
 use Rattle.lists.proofs.Steps.{drop-step, part-to-end}
 use Rattle.lists.proofs.Writes.{written-next}
 use Rattle.terms.specs.declared.row.Triple.{Triple}
 use Rattle.terms.specs.Reduction.{put-in, replacement, sorted, rewriting}
+use Rattle.terms.proofs.SortedRight.{length-put-in, length-sorted}
 
 -- The smaller of the carried and the next number is written, the larger is carried on.
 pub put-in-step : (s : List ℕ) (i carried low high : ℕ) → i + 1 < length s
@@ -27,15 +28,9 @@ unfolding put-in
 put-in-end s i carried e =
     rw (set-split s i carried (omega arith), drop-of-length-le s {i = i + 1} (omega arith), drop-of-length-le s {i = suc i} (omega arith))
 
-pub length-put-in : (number : ℕ) (l : List ℕ) → length (put-in number l) ≡ suc (length l)
-unfolding put-in
-length-put-in number [] = refl
-length-put-in number (next ∷ l) = ap suc (length-put-in (max number next) l)
-
 pub length-rewriting : (triple : Triple) (parent : ℕ) (l : List ℕ) → length (rewriting triple parent l) ≡ length l
-unfolding rewriting sorted
-length-rewriting triple parent [] = refl
-length-rewriting triple parent (number ∷ l) = length-put-in _ _ ∙ ap suc (length-rewriting triple parent l)
+unfolding rewriting
+length-rewriting triple parent l = length-sorted (map (replacement triple parent) l) ∙ length-map l (replacement triple parent)
 
 pub rewritten-none : (triple : Triple) (parent : ℕ) (l : List ℕ) → drop (length l) l ≡ rewriting triple parent (drop (length l) l)
 unfolding rewriting sorted

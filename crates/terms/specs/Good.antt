@@ -21,6 +21,10 @@ good-row bound row =
     leb 1 (getD row 0 0)
     && (leb (getD row 0 0) 7 && (good-indices bound (term row) && every (λ number. eqb number 0) (drop (suc (getD row 0 0)) row)))
 
+-- "a length 1 to 7 (`MAX_MAJORANAS`), that many indices … below 2n and never descend".
+unfoldable pub good-term : ℕ → List ℕ → Bool
+good-term bound term = leb 1 (length term) && (leb (length term) 7 && good-indices bound term)
+
 -- How many rows are good before the first bad one.
 unfoldable pub good-rows : ℕ → ℕ → List ℕ → ℕ
 good-rows bound count numbers = leading (good-row bound) (rows-of 8 count numbers)
