@@ -12,3 +12,4 @@ pub mod ReducedRows
 pub mod Unchanged
 pub mod NoTwoEqual
 pub mod StaysGood
+pub mod Examples
