@@ -1,3 +1,4 @@
+-- Each return is one arm of the check's definition: the tests on the way decide its three conditions.
 use borrow.Author.Tests.{eq-eqb, ne-eqb, lt-leb, le-leb, lt-ltb, le-ltb}
 use borrow.Author.Needs.{needs}
 use Rattle.terms.specs.Good.{checked}

@@ -1,3 +1,4 @@
+-- What is left to test gives the answer: the loop passes an index that neither descends nor reaches the bound, and stops at any other.
 use mathlib.Core.Path.{_≡_, sym, _∙_}
 use Prim.Native.Nat.{_≤_, _-_, _*_}
 use native.Mathlib.Omega.{arith}

@@ -1,3 +1,4 @@
+-- Each return is one test of a good row, in the order of the definition; the last is that the rest are zeros.
 use mathlib.Core.Path.{_∙_, sym}
 use Prim.Native.Nat.{_*_, _+_}
 use native.Mathlib.Numerals.{add-one}

@@ -1,3 +1,4 @@
+-- The good rows passed and those ahead are all the good ones: the loop passes a good row, and stops at the first bad one.
 use mathlib.Core.Path.{_≡_, _∙_, sym, ap}
 use Prim.Native.Nat.{_≤_, _+_, _-_, _*_}
 use native.Mathlib.Omega.{arith}

@@ -1,3 +1,4 @@
+-- What is passed is the same in both; at the end that is everything.
 use mathlib.Core.Path.{_≡_, _∙_}
 use Prim.Native.Nat.{_≤_, _-_}
 use native.Mathlib.Omega.{arith}

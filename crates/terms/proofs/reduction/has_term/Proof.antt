@@ -1,3 +1,4 @@
+-- What is left to search gives the answer: the loop passes a row with another term, and stops at one with this term.
 use mathlib.Core.Path.{_≡_, _∙_, sym, ap}
 use Prim.Native.Nat.{_≤_, _-_, _*_}
 use native.Mathlib.Omega.{arith}

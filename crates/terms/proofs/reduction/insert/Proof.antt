@@ -1,3 +1,4 @@
+-- What is written, with the carried number put into what is ahead, is always the answer; the last write puts the carried number at the end.
 use mathlib.Core.Path.{_≡_, _∙_}
 use mathlib.Core.List.{_++_}
 use Prim.Native.Nat.{_≤_, _-_, _+_}

@@ -1,3 +1,4 @@
+-- The row copied into the part that is lent is the row written over the rows.
 use Prim.Native.Nat.{_*_}
 use native.Mathlib.Omega.{arith}
 use native.Mathlib.Nat.{add-sub-cancel-left}

@@ -1,3 +1,4 @@
+-- The rows kept and what those ahead still add are the whole reduction; at the end nothing is ahead, and what is left behind the kept rows is cleared.
 use mathlib.Core.Path.{_∙_, ap}
 use Prim.Native.Nat.{_≤_, _-_, _*_}
 use native.Mathlib.Omega.{arith}

@@ -1,3 +1,4 @@
+-- The copy aside holds the term rewritten; either it does not stay and nothing is altered, or it is put behind the rows kept.
 use mathlib.Core.Path.{_≡_, _∙_, ap, sym}
 use Prim.Native.Nat.{_+_, _*_, _<_, _≤_}
 use native.Mathlib.Omega.{arith}

@@ -1,3 +1,4 @@
+-- Each return is one arm of the definition: the tests on the way decide it.
 use borrow.Author.Tests.{eq-eqb, ne-eqb}
 use Rattle.terms.specs.Reduction.{replacement}
 use Rattle.terms.proofs.reduction.replaced.Statement.{statement}

@@ -1,3 +1,4 @@
+-- From the end forward: what is passed is rewritten, what is ahead is as it was, and one more number is replaced and put in.
 use mathlib.Core.Path.{_≡_, refl}
 use Prim.Native.Nat.{_<_, _≤_, _+_, _-_}
 use native.Mathlib.Omega.{arith}

@@ -1,3 +1,4 @@
+-- The part that is lent is the row's term, so the row put back has the term rewritten and the same length.
 use native.Mathlib.Nat.{add-sub-cancel}
 use borrow.Author.Needs.{needs}
 use Rattle.terms.specs.Rows.{term}

@@ -1,3 +1,4 @@
+-- The array is the row after the copy, so rewriting it is rewriting the row.
 use mathlib.Core.Path.{ap, _∙_}
 use borrow.Author.Needs.{needs}
 use lib.ListN.{length}

@@ -1,3 +1,4 @@
+-- Both returns are the definition of staying, with the two tests' answers put in.
 use borrow.Author.Needs.{needs}
 use Rattle.terms.specs.Reduction.{stays, dropped}
 use Rattle.terms.proofs.reduction.survives.Statement.{statement}

@@ -1,3 +1,4 @@
+-- The part that is returned is eight numbers long, since its end is eight after its start.
 use native.Mathlib.Nat.{add-sub-cancel-left}
 use borrow.Author.Needs.{needs}
 use Rattle.terms.proofs.row.row_at.Statement.{statement}

@@ -1,3 +1,4 @@
+-- Lists of different lengths are not alike; of equal ones, what is left to compare gives the answer.
 use mathlib.Core.Path.{_≡_, sym, _∙_}
 use Prim.Native.Nat.{_≤_, _-_}
 use native.Mathlib.Omega.{arith}

@@ -1,3 +1,4 @@
+-- The row at this place is whole and its first number is the one that stands there, so its term lies within it.
 use mathlib.Core.Path.{_∙_, ap}
 use native.Mathlib.Omega.{arith}
 use borrow.Author.Needs.{needs}

@@ -1,3 +1,4 @@
+-- The part that is returned is as long as the row's first number says.
 use native.Mathlib.Nat.{add-sub-cancel}
 use borrow.Author.Needs.{needs}
 use Rattle.terms.specs.Rows.{term}

@@ -1,3 +1,4 @@
+-- Each count and what is ahead of it make all the occurrences; at the end the three counts decide the weight.
 use mathlib.Core.Path.{_≡_}
 use Prim.Native.Nat.{_<_, _≤_, _-_, _+_}
 use native.Mathlib.Omega.{arith}

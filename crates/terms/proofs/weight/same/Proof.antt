@@ -1,3 +1,4 @@
+-- Each return is one arm of the definition: the test decides it.
 use borrow.Author.Needs.{needs}
 use borrow.Author.Tests.{eq-eqb, ne-eqb}
 use Rattle.lists.specs.Counting.{same}

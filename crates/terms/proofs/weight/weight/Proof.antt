@@ -1,3 +1,4 @@
+-- The weight of the rows passed and of those ahead is the weight of all.
 use mathlib.Core.Path.{_≡_, _∙_, sym, ap}
 use Prim.Native.Nat.{_≤_, _+_, _-_, _*_}
 use native.Mathlib.Nat.{zero-add}
