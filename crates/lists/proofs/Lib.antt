@@ -1,4 +1,5 @@
 -- The laws of the words about lists.
+pub mod Tests
 pub mod Parts
 pub mod Steps
 pub mod Alike

