@@ -9,3 +9,6 @@ pub mod Ascending
 pub mod Counting
 pub mod Writes
 pub mod Written
+pub mod Membership
+pub mod Ordered
+pub mod Least
