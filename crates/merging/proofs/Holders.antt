@@ -1,13 +1,12 @@
 -- After lawful merges each open entity is the holder of its z-end, and a leaf held by an open entity has its mate so held too.
 use mathlib.Core.Path.{_≡_, refl, ap, _∙_, sym}
-use mathlib.Core.Bool.{Bool, true, false, not, or-true}
+use mathlib.Core.Bool.{true, false, or-true}
 use mathlib.Core.List.{List, [], _∷_}
 use mathlib.Core.Logic.{_⊎_, inl, inr, ⊎-elim}
 use Prim.Native.Nat.{ℕ, _+_, _*_, _/_, _%_, _<_, _≤_}
 use native.Mathlib.Omega.{arith}
 use borrow.Author.Tests.{eqb-true, eqb-false, eq-eqb, ne-eqb, leb-true, le-leb, not-true}
 use lib.Dec.{eqb}
-use lib.ListN.{length}
 use Rattle.lists.proofs.Tests.{both, either, neither, same-or-not}
 use Rattle.terms.specs.declared.row.Triple.{Triple}
 use Rattle.merging.specs.History.{next-parent, among, is-open, z-end, holder}

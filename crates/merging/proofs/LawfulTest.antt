@@ -1,13 +1,11 @@
 -- The test for a lawful triple passes where the triple is lawful, and only there.
-use mathlib.Core.Path.{_≡_, refl}
+use mathlib.Core.Path.{_≡_}
 use mathlib.Core.Bool.{true}
 use mathlib.Core.List.{List}
-use Prim.Native.Nat.{ℕ, _+_, _*_, _%_}
+use Prim.Native.Nat.{ℕ}
 use borrow.Author.Tests.{eqb-true, eqb-false, eq-eqb, ne-eqb, ltb-true, lt-ltb, not-true}
-use lib.Dec.{eqb, ltb}
 use Rattle.lists.proofs.Tests.{both}
 use Rattle.terms.specs.declared.row.Triple.{Triple}
-use Rattle.merging.specs.History.{is-open, z-end}
 use Rattle.merging.specs.Lawful.{Lawful, is-lawful, three-open, paired}
 
 module _ (modes : ℕ) (history : List Triple) (triple : Triple) where

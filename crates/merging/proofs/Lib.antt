@@ -2,3 +2,4 @@
 pub mod Examples
 pub mod LawfulTest
 pub mod Holders
+pub mod Names
