@@ -21,11 +21,11 @@ module _ {A : Type 0} (test : A → Bool) where
   every-at (a ∷ l) zero d h e = every-uncons a l e .0
   every-at (a ∷ l) (suc i) d h e = every-at l i d (omega arith) (every-uncons a l e .1)
 
-  every-joined : (l m : List A) → every test l ≡ true → every test m ≡ true → every test (l ++ m) ≡ true
-  every-joined [] m e f = f
-  every-joined (a ∷ l) m e f =
+  pub every-append : (l m : List A) → every test l ≡ true → every test m ≡ true → every test (l ++ m) ≡ true
+  every-append [] m e f = f
+  every-append (a ∷ l) m e f =
       let p = every-uncons a l e in
-      every-cons a (l ++ m) (p .0) (every-joined l m (p .1) f)
+      every-cons a (l ++ m) (p .0) (every-append l m (p .1) f)
 
   every-chosen : (b : Bool) (l m : List A) → every test l ≡ true → every test m ≡ true → every test (cond b l m) ≡ true
   every-chosen true l m e f = e
@@ -36,8 +36,18 @@ module _ {A : Type 0} (test : A → Bool) where
   every-kept other [] e = refl
   every-kept other (a ∷ l) e =
       let p = every-uncons a l e in
-      every-joined (cond (other a) (a ∷ []) []) (keep other l)
+      every-append (cond (other a) (a ∷ []) []) (keep other l)
       (every-chosen (other a) (a ∷ []) [] (every-cons a [] (p .0) refl) refl) (every-kept other l (p .1))
+
+  -- What a test keeps passes it.
+  pub keeps-passing : (l : List A) → every test (keep test l) ≡ true
+  unfolding every keep
+  keeps-passing [] = refl
+  keeps-passing (a ∷ l) = go (keeps-passing l) (test a) refl
+    where
+      go : every test (keep test l) ≡ true → (b : Bool) → test a ≡ b → every test (cond b (a ∷ []) [] ++ keep test l) ≡ true
+      go rest true e = rw e rest
+      go rest false e = rest
 
   pub every-first : (like : A → A → Bool) (kept l : List A) → every test l ≡ true → every test (firsts-after like kept l) ≡ true
   unfolding every firsts-after
@@ -45,7 +55,7 @@ module _ {A : Type 0} (test : A → Bool) where
   every-first like kept (a ∷ l) e =
       let p = every-uncons a l e in
       let b = some-of (like a) kept in
-      every-joined (cond b [] (a ∷ [])) (firsts-after like (kept ++ cond b [] (a ∷ [])) l)
+      every-append (cond b [] (a ∷ [])) (firsts-after like (kept ++ cond b [] (a ∷ [])) l)
       (every-chosen b [] (a ∷ []) refl (every-cons a [] (p .0) refl)) (every-first like _ l (p .1))
 
   -- Where no element fails before the end, none does.

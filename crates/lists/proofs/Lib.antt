@@ -12,3 +12,5 @@ pub mod Written
 pub mod Membership
 pub mod Ordered
 pub mod Least
+pub mod Totals
+pub mod Sums

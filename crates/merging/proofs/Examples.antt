@@ -1,4 +1,4 @@
--- The step lines and rows of document 01's examples P1 to P5, computed from the definitions: one table, one claim.
+-- The step lines and rows of document 01's examples P1 to P5, computed from the definitions: one table, one claim; and P10's trials.
 use mathlib.Core.Path.{_≡_, refl}
 use mathlib.Core.Bool.{Bool, true, _&&_}
 use mathlib.Core.List.{List, [], _∷_, map}
@@ -17,6 +17,7 @@ use Rattle.merging.specs.Lawful.{is-lawful, three-open, paired, named, e
 use Rattle.merging.specs.Choice.{weight-in, candidates, least-of, chosen}
 use Rattle.merging.specs.Run.{greedy, finished, run-weight, trials}
 use Rattle.merging.specs.Flatpack.{merge-of, code, absent-leaf, children, walk, rows-for, flatpack}
+use Rattle.merging.specs.Trials.{trial-total}
 
 -- An example: modes, terms, the merges obeyed (newest first), and then the finished history, weight, trials and rows.
 record Example : Type 0 where
@@ -104,3 +105,7 @@ unfolding every holds table p3-terms numbers same-lists
     rows-after reduction rewriting sorted put-in replacement dropped some-of firsts firsts-after alike
     run-weight trials flatpack rows-for walk children code absent-leaf merge-of mathlib.Core.List.flatMap
 examples = refl
+
+trials-p10 : trial-total 256 ≡ 22435072
+unfolding trial-total
+trials-p10 = refl
