@@ -1,1 +1,3 @@
-// Merging: entities, lawful triples, the choice of a step, the merge, the run to the end, the flatpack and the trial totals.
+// Merging: lawful triples and the choice of a step.
+pub mod choice;
+pub mod lawful;

@@ -1,0 +1,126 @@
+-- The candidates one after the other: those of each a in turn, and of an a those with each z.
+use mathlib.Core.Path.{_≡_, refl, ap, _∙_, fun-ext}
+use mathlib.Core.Bool.{Bool, true, false, cond, _&&_}
+use mathlib.Core.List.{List, [], _∷_, _++_, map, flatMap, map-append}
+use Prim.Native.Nat.{ℕ, zero, suc, _+_, _-_, _<_, _≤_}
+use native.Mathlib.Nat.{sub-zero}
+use native.Mathlib.Numerals.{add-one}
+use native.Mathlib.Omega.{arith}
+use Rattle.lists.specs.Members.{keep}
+use Rattle.lists.specs.Ranges.{listed}
+use Rattle.terms.specs.declared.row.Triple.{Triple}
+use Rattle.merging.specs.declared.lawful.Couple.the-variants.{Of, Nothing}
+use Rattle.merging.specs.History.{next-parent}
+use Rattle.merging.specs.Lawful.{named, is-lawful, entities, pairs-with, lawful-pairs}
+use Rattle.merging.specs.Choice.{candidates}
+use Rattle.merging.specs.Couples.{x-of, y-of, coupled, couple, free, beside, beside-couple}
+use Rattle.merging.proofs.Couples.{named-parts, lawful-parts}
+
+-- One step along what a rule lists.
+pub listed-step : {A : Type 0} (rule : ℕ → A) (from count : ℕ) → from < count
+    → listed rule from (count - from) ≡ rule from ∷ listed rule (from + 1) (count - (from + 1))
+unfolding listed
+listed-step rule from count h =
+    let e : count - from ≡ suc (count - (from + 1)) = omega arith in
+    rw (e, add-one from)
+
+pub listed-end : {A : Type 0} (rule : ℕ → A) (from count : ℕ) → count ≤ from → listed rule from (count - from) ≡ []
+unfolding listed
+listed-end rule from count h = let e : count - from ≡ 0 = omega arith in rw e
+
+map-listed : {A B : Type 0} (f : A → B) (rule : ℕ → A) (from count : ℕ) → map f (listed rule from count) ≡ listed (λ i. f (rule i)) from count
+unfolding listed
+map-listed f rule from zero = refl
+map-listed f rule from (suc count) = ap (λ l. f (rule from) ∷ l) (map-listed f rule (suc from) count)
+
+-- Keeping before or after mapping is the same, where the tests are.
+keep-map : {A B : Type 0} (f : A → B) (test : A → Bool) (other : B → Bool) → ((a : A) → test a ≡ other (f a)) → (l : List A)
+    → map f (keep test l) ≡ keep other (map f l)
+unfolding keep
+keep-map f test other same [] = refl
+keep-map f test other same (a ∷ l) = rw (same a) (go (other (f a)) (keep-map f test other same l))
+  where
+    go : (b : Bool) → map f (keep test l) ≡ keep other (map f l)
+        → map f (cond b (a ∷ []) [] ++ keep test l) ≡ cond b (f a ∷ []) [] ++ keep other (map f l)
+    go true e = ap (λ m. f a ∷ m) e
+    go false e = e
+
+keep-none : {A : Type 0} (test : A → Bool) → ((a : A) → test a ≡ false) → (l : List A) → keep test l ≡ []
+unfolding keep
+keep-none test none [] = refl
+keep-none test none (a ∷ l) = rw (none a) (keep-none test none l)
+
+-- Two tests that agree on what a rule lists keep the same of it.
+keep-same : {A : Type 0} (rule : ℕ → A) (test other : A → Bool) → ((i : ℕ) → test (rule i) ≡ other (rule i)) → (from count : ℕ)
+    → keep test (listed rule from count) ≡ keep other (listed rule from count)
+unfolding keep listed
+keep-same rule test other same from zero = refl
+keep-same rule test other same from (suc count) = rw (same from, keep-same rule test other same (suc from) count)
+
+module _ (modes : ℕ) (history : List Triple) where
+  -- The triples that the lawful pairs with this a name.
+  pub named-with : ℕ → List Triple
+  named-with a = map (named modes history) (pairs-with modes history a)
+
+  three : ℕ → ℕ → Triple
+  three a z = record { x = x-of modes history a; y = y-of modes history a; z = z }
+
+  lawful-three : (a z : ℕ) → is-lawful modes history (three a z) ≡ (coupled modes history (x-of modes history a) (y-of modes history a) && free modes history (three a z))
+  unfolding three
+  lawful-three a z = lawful-parts modes history (three a z)
+
+  all-three : (a : ℕ) → named-with a ≡ keep (is-lawful modes history) (listed (three a) 0 (next-parent modes history))
+  unfolding named-with pairs-with entities three
+  all-three a =
+      keep-map (named modes history) (λ pair. is-lawful modes history (named modes history pair)) (is-lawful modes history) (λ pair. refl)
+      (map (λ z. record { a = a; z = z }) (listed (λ entity. entity) 0 (next-parent modes history)))
+      ∙ ap (keep (is-lawful modes history))
+      (ap (map (named modes history)) (map-listed (λ z. record { a = a; z = z }) (λ entity. entity) 0 (next-parent modes history))
+      ∙ map-listed (named modes history) (λ z. record { a = a; z = z }) 0 (next-parent modes history)
+      ∙ ap (λ rule. listed rule 0 (next-parent modes history)) (fun-ext (λ z. named-parts modes history (record { a = a; z = z }))))
+
+  pub named-with-couple : (a : ℕ) → named-with a ≡ beside-couple modes history (next-parent modes history) (couple modes history a)
+  unfolding couple beside beside-couple three
+  named-with-couple a =
+      all-three a
+      ∙ keep-same (three a) (is-lawful modes history) (λ triple. coupled modes history (x-of modes history a) (y-of modes history a) && free modes history triple)
+      (lawful-three a) 0 (next-parent modes history)
+      ∙ go (coupled modes history (x-of modes history a) (y-of modes history a))
+    where
+      go : (b : Bool)
+          → keep (λ triple. b && free modes history triple) (listed (three a) 0 (next-parent modes history))
+          ≡ beside-couple modes history (next-parent modes history) (cond b (Of (x-of modes history a) (y-of modes history a)) Nothing)
+      go true = refl
+      go false = keep-none (λ triple. false) (λ triple. refl) (listed (three a) 0 (next-parent modes history))
+
+  -- The candidates of the entities from a on.
+  pub candidates-from : ℕ → ℕ → List Triple
+  candidates-from a count = flatMap named-with (listed (λ entity. entity) a count)
+
+  pub candidates-all : candidates modes history ≡ candidates-from 0 (next-parent modes history - 0)
+  unfolding candidates candidates-from lawful-pairs entities named-with flatMap
+  candidates-all = rw (sub-zero (next-parent modes history)) (map-joined (listed (λ entity. entity) 0 (next-parent modes history)))
+    where
+      map-joined : (l : List ℕ) → map (named modes history) (flatMap (pairs-with modes history) l) ≡ flatMap named-with l
+      map-joined [] = refl
+      map-joined (a ∷ l) = map-append (named modes history) (pairs-with modes history a) (flatMap (pairs-with modes history) l) ∙ ap (λ m. named-with a ++ m) (map-joined l)
+
+  pub candidates-step : (a count : ℕ) → a < count → candidates-from a (count - a) ≡ named-with a ++ candidates-from (a + 1) (count - (a + 1))
+  unfolding candidates-from flatMap
+  candidates-step a count h = rw (listed-step (λ entity. entity) a count h)
+
+  pub candidates-end : (a count : ℕ) → count ≤ a → candidates-from a (count - a) ≡ []
+  unfolding candidates-from flatMap
+  candidates-end a count h = rw (listed-end (λ entity. entity) a count h)
+
+  -- The triples of x and y with each z from here on.
+  pub beside-step : (x y z count : ℕ) → z < count
+      → beside modes history x y z (count - z)
+      ≡ cond (free modes history (record { x = x; y = y; z = z })) (record { x = x; y = y; z = z } ∷ []) []
+      ++ beside modes history x y (z + 1) (count - (z + 1))
+  unfolding beside keep
+  beside-step x y z count h = rw (listed-step {A = Triple} (λ w. record { x = x; y = y; z = w }) z count h)
+
+  pub beside-end : (x y z count : ℕ) → count ≤ z → beside modes history x y z (count - z) ≡ []
+  unfolding beside keep
+  beside-end x y z count h = rw (listed-end {A = Triple} (λ w. record { x = x; y = y; z = w }) z count h)

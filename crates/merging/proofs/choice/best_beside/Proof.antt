@@ -1,0 +1,54 @@
+use mathlib.Core.Path.{sym, _∙_}
+use borrow.Author.Tests.{eq-eqb, ne-eqb, not-true, not-false}
+use borrow.Author.Needs.{needs}
+use Rattle.merging.specs.Couples.{free, seek, weight-here}
+use Rattle.merging.proofs.choice.best_beside.Statement.{statement}
+use Rattle.merging.proofs.choice.best_beside.Tie as tie
+
+returns : tie.Need-returns
+unfolding free seek
+returns c modes history within opens = rw (eq-eqb _ _ (c .if1 .taken))
+
+returns-2 : tie.Need-returns-2
+unfolding free seek
+returns-2 c modes history within opens = rw (ne-eqb _ _ (c .before .before .if1 .left), eq-eqb _ _ (c .if2 .taken))
+
+marked-requires : tie.Need-marked-requires
+marked-requires c κs = search needs
+
+returns-3 : tie.Need-returns-3
+unfolding free seek
+returns-3 c modes history within opens =
+    rw (
+      ne-eqb _ _ (c .before .before .before .before .if1 .left),
+      ne-eqb _ _ (c .before .before .if2 .left),
+      sym (c .before .marked .ensures .1 modes history within opens) ∙ not-true _ (c .if3 .taken),
+    )
+
+weight-requires : tie.Need-weight-requires
+weight-requires c κs = search needs
+
+lighter-requires : tie.Need-lighter-requires
+lighter-requires c κs = search needs
+
+returns-4 : tie.Need-returns-4
+unfolding free seek weight-here
+returns-4 c modes history within opens =
+    rw (
+      ne-eqb _ _ (c .before .before .before .before .before .before .if1 .left),
+      ne-eqb _ _ (c .before .before .before .before .if2 .left),
+      sym (c .before .before .before .marked .ensures .1 modes history within opens) ∙ not-false _ (c .before .before .if3 .left),
+    )
+    (c .lighter .ensures _ (sym (c .before .weight .ensures .0)))
+
+pub best-beside-spec : {M : Type 1} → statement M
+best-beside-spec =
+    tie.close
+    (tie.spec
+    returns
+    returns-2
+    marked-requires
+    returns-3
+    weight-requires
+    lighter-requires
+    returns-4)

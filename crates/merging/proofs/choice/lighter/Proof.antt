@@ -1,0 +1,15 @@
+use borrow.Author.Tests.{lt-ltb, le-ltb}
+use Rattle.merging.specs.Couples.{better}
+use Rattle.merging.proofs.choice.lighter.Statement.{statement}
+use Rattle.merging.proofs.choice.lighter.Tie as tie
+
+returns : tie.Need-returns
+unfolding better
+returns c measure e = rw (e, lt-ltb _ _ (c .if1 .taken))
+
+returns-2 : tie.Need-returns-2
+unfolding better
+returns-2 c measure e = rw (e, le-ltb _ _ (c .if1 .left))
+
+pub lighter-spec : {M : Type 1} → statement M
+lighter-spec = tie.close (tie.spec returns returns-2)
