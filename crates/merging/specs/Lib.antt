@@ -6,3 +6,4 @@ pub mod Choice
 pub mod Run
 pub mod Flatpack
 pub mod Trials
+pub mod Recorded
