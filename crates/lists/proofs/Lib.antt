@@ -12,5 +12,6 @@ pub mod Written
 pub mod Membership
 pub mod Ordered
 pub mod Least
+pub mod Listed
 pub mod Totals
 pub mod Sums

@@ -8,6 +8,12 @@ pub mod Seeking
 pub mod Names
 pub mod ChosenRight
 pub mod ChosenOne
+pub mod FirstOpen
+pub mod Tables
+pub mod Recording
+pub mod StateFresh
+pub mod StateMerged
+pub mod StateStepped
 pub mod OpenSums
 pub mod AbsentLeaf
 pub mod Partners

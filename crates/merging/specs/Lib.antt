@@ -7,3 +7,5 @@ pub mod Run
 pub mod Flatpack
 pub mod Trials
 pub mod Recorded
+pub mod State
+pub mod Fresh

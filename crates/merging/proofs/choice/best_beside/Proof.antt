@@ -1,3 +1,4 @@
+-- A z that is x, y or closed leaves the best as it is; any other is weighed.
 use mathlib.Core.Path.{sym, _∙_}
 use borrow.Author.Tests.{eq-eqb, ne-eqb, not-true, not-false}
 use borrow.Author.Needs.{needs}

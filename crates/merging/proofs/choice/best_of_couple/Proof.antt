@@ -1,3 +1,4 @@
+-- The triples with the z still to come give the answer.
 use mathlib.Core.Path.{_≡_, sym, ap, _∙_}
 use mathlib.Core.List.{List}
 use Prim.Native.Nat.{ℕ, _≤_, _+_, _-_}

@@ -1,3 +1,4 @@
+-- An entity without a couple names nothing; one with a couple names the couple's triples.
 use mathlib.Core.Path.{sym, _∙_}
 use borrow.Author.Needs.{needs}
 use Rattle.merging.specs.Couples.{beside-couple, seek}

@@ -1,3 +1,4 @@
+-- The candidates of the entities still to come give the answer.
 use mathlib.Core.Path.{_≡_, sym, ap, _∙_}
 use mathlib.Core.List.{List}
 use Prim.Native.Nat.{_≤_, _+_, _-_}

@@ -1,3 +1,4 @@
+-- The test of the two weights decides.
 use borrow.Author.Tests.{lt-ltb, le-ltb}
 use Rattle.merging.specs.Couples.{better}
 use Rattle.merging.proofs.choice.lighter.Statement.{statement}

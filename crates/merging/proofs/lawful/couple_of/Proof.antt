@@ -1,3 +1,4 @@
+-- What the entity names, where it is coupled.
 use mathlib.Core.Path.{sym, _∙_}
 use borrow.Author.Tests.{not-true, not-false}
 use borrow.Author.Needs.{needs}

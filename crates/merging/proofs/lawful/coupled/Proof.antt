@@ -1,3 +1,4 @@
+-- Two marks, a comparison, then the z-ends.
 use mathlib.Core.Path.{sym, _∙_}
 use native.Mathlib.Omega.{arith}
 use borrow.Author.Tests.{eq-eqb, ne-eqb, not-true, not-false}

@@ -1,3 +1,4 @@
+-- The table's entry, widened twice.
 use borrow.Author.Needs.{needs}
 use Rattle.merging.proofs.lawful.end_of.Statement.{statement}
 use Rattle.merging.proofs.lawful.end_of.Tie as tie

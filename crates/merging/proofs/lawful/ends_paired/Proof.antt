@@ -1,3 +1,4 @@
+-- The tests of the pair of z-ends, one return each.
 use mathlib.Core.Path.{_∙_}
 use native.Mathlib.Omega.{arith}
 use borrow.Author.Tests.{eq-eqb, ne-eqb, lt-ltb, le-ltb}

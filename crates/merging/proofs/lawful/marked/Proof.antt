@@ -1,3 +1,4 @@
+-- A number beyond the entities is open in no history; one within them is what its mark says.
 use mathlib.Core.Path.{_≡_, sym}
 use Prim.Native.Nat.{ℕ, _≤_, _<_}
 use native.Mathlib.Omega.{arith}

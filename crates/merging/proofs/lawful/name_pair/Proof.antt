@@ -1,3 +1,4 @@
+-- An even z-end makes the entity the x, an odd one the y.
 use mathlib.Core.Path.{_∙_}
 use Prim.Native.Nat.{_+_, _-_}
 use native.Mathlib.Omega.{arith}

@@ -1,3 +1,4 @@
+-- Three comparisons, then the z-ends.
 use borrow.Author.Tests.{eq-eqb, ne-eqb}
 use borrow.Author.Needs.{needs}
 use Rattle.merging.specs.Lawful.{paired}

@@ -1,3 +1,4 @@
+-- Each of the three marks decides, in turn.
 use mathlib.Core.Path.{_≡_, sym, _∙_}
 use Prim.Native.Nat.{ℕ}
 use native.Mathlib.Omega.{arith}

@@ -1,0 +1,216 @@
+-- A merge takes a state to a state: the tables, the rows and the notes say what the longer history says.
+use mathlib.Core.Path.{_≡_, refl, ap, _∙_, sym}
+use mathlib.Core.Bool.{true, false}
+use mathlib.Core.List.{List, _∷_}
+use Prim.Native.Nat.{ℕ, _+_, _*_, _%_, _<_, _≤_}
+use native.Mathlib.Omega.{arith}
+use borrow.Author.Count.{below-more}
+use lib.ListN.{length, getD, set, length-set, length-map}
+use lib.Seq.{getD-set-same, getD-set-other}
+use Rattle.terms.specs.declared.row.Triple.{Triple}
+use Rattle.terms.specs.Rows.{rows-of, term, terms-of}
+use Rattle.terms.specs.Promises.{Reduced}
+use Rattle.terms.proofs.RowSteps.{length-rows}
+use Rattle.terms.proofs.WeightBound.{weight-at-most}
+use Rattle.merging.specs.declared.run.Run.{Run}
+use Rattle.merging.specs.History.{next-parent, rows-after}
+use Rattle.merging.specs.Choice.{weight-in}
+use Rattle.merging.specs.Couples.{Tied}
+use Rattle.merging.specs.Recorded.{merge-at, recorded}
+use Rattle.merging.specs.Run.{run-weight}
+use Rattle.merging.specs.State.{history-of, Whole, Holds, EntitiesMerged, Noted, Ready, Went}
+use Rattle.merging.proofs.Holders.{open-below, end-within}
+use Rattle.merging.proofs.Recording.{length-recorded, merge-before, merge-here, recorded-before, recorded-next}
+use Rattle.merging.proofs.Tables.{tied-merged}
+
+-- The state that a merge makes.
+unfoldable pub next-run : Run → Triple → ℕ → ℕ → Run
+next-run run triple weight kept =
+    record {
+      modes = run .modes;
+      step = run .step + 1;
+      live = kept;
+      weight = run .weight + weight;
+      opens = set (set (set (set (run .opens) (triple .x) false) (triple .y) false) (triple .z) false) (2 * run .modes + 1 + run .step) true;
+      ends = set (run .ends) (2 * run .modes + 1 + run .step) (getD (run .ends) (triple .z) 0);
+      holders = set (run .holders) (getD (run .ends) (triple .z) 0) (2 * run .modes + 1 + run .step);
+      xs = set (run .xs) (run .step) (triple .x);
+      ys = set (run .ys) (run .step) (triple .y);
+      zs = set (run .zs) (run .step) (triple .z);
+      weights = set (run .weights) (run .step) (weight % 65536);
+    }
+
+-- The weight of a triple in the live rows is at most their number.
+pub length-terms : (w count : ℕ) (s : List ℕ) → length (terms-of w count s) ≡ count
+unfolding terms-of
+length-terms w count s = length-map (rows-of w count s) term ∙ length-rows w count s
+
+module _ (entities steps : ℕ) (terms : List (List ℕ)) (rows : List ℕ) (run : Run) (triple : Triple) (weight : ℕ)
+    (room : 3 * steps + 1 ≤ entities) (ready : Ready entities steps terms rows run triple weight) where
+  holds : Holds entities steps terms rows run
+  holds = ready .holds
+
+  parent-is : 2 * run .modes + 1 + run .step ≡ next-parent (run .modes) (history-of run)
+  unfolding next-parent
+  parent-is = ap (λ n. 2 * run .modes + 1 + n) (sym (length-recorded (run .xs) (run .ys) (run .zs) (run .step)))
+
+  parent-in : next-parent (run .modes) (history-of run) + 1 ≤ entities
+  parent-in = rw (← parent-is) (omega (arith, ready .left, holds .few, room))
+
+  pub weight-bound : weight ≤ run .live
+  unfolding weight-in
+  weight-bound =
+      rw (ready .weight-is, ← holds .rows-are)
+      (omega (arith, weight-at-most triple (terms-of 8 (run .live) rows), length-terms 8 (run .live) rows))
+
+  -- An open entity stands in the tables.
+  module _ (entity : ℕ) (below : entity < next-parent (run .modes) (history-of run)) where
+    pub in-room : entity < entities
+    in-room = omega (arith, parent-in)
+
+    pub end-low : getD (run .ends) entity 0 ≤ 2 * run .modes
+    end-low = rw (holds .tied .ends-are entity in-room) (end-within (run .modes) (history-of run) (holds .lawful) entity below)
+
+  pub x-below : triple .x < next-parent (run .modes) (history-of run)
+  x-below = open-below (run .modes) (history-of run) (triple .x) (ready .lawful .x-open)
+
+  pub y-below : triple .y < next-parent (run .modes) (history-of run)
+  y-below = open-below (run .modes) (history-of run) (triple .y) (ready .lawful .y-open)
+
+  pub z-below : triple .z < next-parent (run .modes) (history-of run)
+  z-below = open-below (run .modes) (history-of run) (triple .z) (ready .lawful .z-open)
+
+  module _ (kept : ℕ) (now-rows : List ℕ) (reduced : Reduced triple (2 * run .modes + 1 + run .step) (run .live) rows now-rows kept) where
+    next : Run
+    next = next-run run triple weight kept
+
+    step-in : run .step < steps
+    step-in = omega (arith, ready .left, holds .few)
+
+    merges : history-of next ≡ triple ∷ history-of run
+    unfolding next next-run
+    merges =
+        recorded-next (run .xs) (run .ys) (run .zs) triple (run .step)
+        (rw (holds .whole .xs) step-in) (rw (holds .whole .ys) step-in) (rw (holds .whole .zs) step-in)
+
+    next-whole : Whole entities steps next
+    unfolding next next-run
+    next-whole =
+        let w = holds .whole in
+        record {
+          opens = simp length-set (w .opens);
+          ends = simp length-set (w .ends);
+          holders = simp length-set (w .holders);
+          xs = simp length-set (w .xs);
+          ys = simp length-set (w .ys);
+          zs = simp length-set (w .zs);
+          weights = simp length-set (w .weights);
+        }
+
+    next-tied : Tied entities (run .modes) (triple ∷ history-of run) (next .opens) (next .ends) (next .holders)
+    unfolding next next-run
+    next-tied =
+        let w = holds .whole in
+        rw parent-is
+        (tied-merged entities (run .modes) (history-of run) (run .opens) (run .ends) (run .holders) triple (holds .tied)
+        (w .opens) (w .ends) (w .holders) (in-room (triple .x) x-below) (in-room (triple .y) y-below) (in-room (triple .z) z-below)
+        (omega (arith, end-low (triple .z) z-below, holds .few, room)) (omega (arith, parent-in)) parent-in)
+
+    next-rows : terms-of 8 kept now-rows ≡ rows-after (run .modes) terms (triple ∷ history-of run)
+    unfolding rows-after
+    next-rows = reduced .terms ∙ rw (parent-is, holds .rows-are)
+
+    next-weight : run .weight + weight ≡ run-weight (run .modes) terms (triple ∷ history-of run)
+    unfolding run-weight
+    next-weight = rw (holds .weight-is, ready .weight-is)
+
+    weight-noted : (step : ℕ) → ℕ
+    weight-noted step =
+        weight-in (run .modes) terms (recorded (next .xs) (next .ys) (next .zs) step) (merge-at (next .xs) (next .ys) (next .zs) step)
+
+    next-weights : (step : ℕ) → step < run .step + 1 → getD (next .weights) step 0 ≡ weight-noted step
+    unfolding next next-run weight-noted
+    next-weights =
+        below-more (λ step. getD (next .weights) step 0 ≡ weight-noted step) (run .step)
+        (λ step h.
+        getD-set-other (run .weights) (run .step) step (weight % 65536) 0 (omega arith)
+        ∙ rw (
+          merge-before (run .xs) (run .ys) (run .zs) triple (run .step) step h,
+          recorded-before (run .xs) (run .ys) (run .zs) triple (run .step) step (omega arith),
+        )
+        (holds .weights-are step h))
+        (getD-set-same (run .weights) (run .step) (weight % 65536) 0 (rw (holds .whole .weights) step-in)
+        ∙ rw (
+          merge-here (run .xs) (run .ys) (run .zs) triple (run .step)
+              (rw (holds .whole .xs) step-in) (rw (holds .whole .ys) step-in) (rw (holds .whole .zs) step-in),
+          recorded-before (run .xs) (run .ys) (run .zs) triple (run .step) (run .step) (omega arith),
+        )
+        (omega (arith, weight-bound, holds .light, ready .weight-is)))
+
+    next-holds : Holds entities steps terms now-rows next
+    unfolding next next-run weight-noted
+    next-holds =
+        record {
+          whole = next-whole;
+          some = holds .some;
+          few = holds .few;
+          inside = omega (arith, ready .left);
+          lawful = rw merges (ready .lawful, holds .lawful);
+          tied = rw merges next-tied;
+          held = reduced .held;
+          light = omega (arith, reduced .at-most, holds .light);
+          rows-are = rw merges next-rows;
+          weight-is = rw merges next-weight;
+          bounded = omega (arith, holds .bounded, weight-bound, holds .light);
+          weights-are = next-weights;
+        }
+
+    pub merged-went : Went entities steps terms (triple ∷ history-of run) run rows (next-run run triple weight kept) now-rows
+    unfolding next next-run
+    merged-went =
+        record {
+          holds = next-holds;
+          modes = refl;
+          merges = merges;
+          fewer = reduced .at-most;
+          cleared = reduced .rest;
+        }
+
+-- The state as the code makes it.
+pub same-run : (triple : Triple) (weight kept : ℕ) (before middle after : Run)
+    → EntitiesMerged triple before middle → Noted triple (weight % 65536) middle after
+    → _≡_ {A = Run}
+    (record {
+      modes = after .modes;
+      step = after .step;
+      live = kept;
+      weight = before .weight + weight;
+      opens = after .opens;
+      ends = after .ends;
+      holders = after .holders;
+      xs = after .xs;
+      ys = after .ys;
+      zs = after .zs;
+      weights = after .weights;
+    })
+    (next-run before triple weight kept)
+unfolding next-run
+same-run triple weight kept before middle after m n =
+    let xs-are = rw (m .xs, m .step) at (n .xs) in
+    let ys-are = rw (m .ys, m .step) at (n .ys) in
+    let zs-are = rw (m .zs, m .step) at (n .zs) in
+    let weights-are = rw (m .weights, m .step) at (n .weights) in
+    λ i.
+    record {
+      modes = (n .modes ∙ m .modes) i;
+      step = (n .step ∙ ap (λ s. s + 1) (m .step)) i;
+      live = kept;
+      weight = before .weight + weight;
+      opens = (n .opens ∙ m .opens) i;
+      ends = (n .ends ∙ m .ends) i;
+      holders = (n .holders ∙ m .holders) i;
+      xs = xs-are i;
+      ys = ys-are i;
+      zs = zs-are i;
+      weights = weights-are i;
+    }

@@ -1,0 +1,90 @@
+-- What the state of a run holds: the tables say what its history says, and the rows are those after it.
+use mathlib.Core.Path.{_≡_}
+use mathlib.Core.Bool.{false, true}
+use mathlib.Core.List.{List, [], _∷_, _++_}
+use Prim.Native.Nat.{ℕ, _+_, _-_, _*_, _≤_, _<_}
+use lib.ListN.{length, getD, set, drop, replicate}
+use Rattle.terms.specs.declared.row.Triple.{Triple}
+use Rattle.terms.specs.Rows.{Held, terms-of}
+use Rattle.merging.specs.declared.run.Run.{Run}
+use Rattle.merging.specs.History.{next-parent, rows-after}
+use Rattle.merging.specs.Lawful.{Lawful, LawfulHistory}
+use Rattle.merging.specs.Choice.{weight-in}
+use Rattle.merging.specs.Couples.{Tied}
+use Rattle.merging.specs.Recorded.{merge-at, recorded}
+use Rattle.merging.specs.Run.{run-weight}
+
+-- The merges that the state has written down, newest first.
+abbrev pub history-of : Run → List Triple
+history-of run = recorded (run .xs) (run .ys) (run .zs) (run .step)
+
+-- Each table has its room: one for every entity, one for every step.
+pub record Whole (entities steps : ℕ) (run : Run) : Type 0 where
+  pub opens : length (run .opens) ≡ entities
+  pub ends : length (run .ends) ≡ entities
+  pub holders : length (run .holders) ≡ entities
+  pub xs : length (run .xs) ≡ steps
+  pub ys : length (run .ys) ≡ steps
+  pub zs : length (run .zs) ≡ steps
+  pub weights : length (run .weights) ≡ steps
+
+-- The state of a run over these terms, with its live rows at the front of the numbers.
+pub record Holds (entities steps : ℕ) (terms : List (List ℕ)) (rows : List ℕ) (run : Run) : Type 0 where
+  pub whole : Whole entities steps run
+  pub some : 1 ≤ run .modes
+  pub few : run .modes ≤ steps
+  pub inside : run .step ≤ run .modes
+  pub lawful : LawfulHistory (run .modes) (history-of run)
+  pub tied : Tied entities (run .modes) (history-of run) (run .opens) (run .ends) (run .holders)
+  pub held : Held 8 (run .live) rows
+  pub light : run .live ≤ 2048
+  pub rows-are : terms-of 8 (run .live) rows ≡ rows-after (run .modes) terms (history-of run)
+  pub weight-is : run .weight ≡ run-weight (run .modes) terms (history-of run)
+  pub bounded : run .weight ≤ 2048 * run .step
+  pub weights-are : (step : ℕ) → step < run .step
+      → getD (run .weights) step 0
+      ≡ weight-in (run .modes) terms (recorded (run .xs) (run .ys) (run .zs) step) (merge-at (run .xs) (run .ys) (run .zs) step)
+
+-- The entities' tables after a merge: the three closed, their parent open with z's end, which it holds; all else as before.
+pub record EntitiesMerged (triple : Triple) (before after : Run) : Type 0 where
+  pub opens : after .opens
+      ≡ set (set (set (set (before .opens) (triple .x) false) (triple .y) false) (triple .z) false) (2 * before .modes + 1 + before .step) true
+  pub ends : after .ends ≡ set (before .ends) (2 * before .modes + 1 + before .step) (getD (before .ends) (triple .z) 0)
+  pub holders : after .holders ≡ set (before .holders) (getD (before .ends) (triple .z) 0) (2 * before .modes + 1 + before .step)
+  pub modes : after .modes ≡ before .modes
+  pub step : after .step ≡ before .step
+  pub xs : after .xs ≡ before .xs
+  pub ys : after .ys ≡ before .ys
+  pub zs : after .zs ≡ before .zs
+  pub weights : after .weights ≡ before .weights
+
+-- The merge written down as the next step; all else as before.
+pub record Noted (triple : Triple) (weight : ℕ) (before after : Run) : Type 0 where
+  pub xs : after .xs ≡ set (before .xs) (before .step) (triple .x)
+  pub ys : after .ys ≡ set (before .ys) (before .step) (triple .y)
+  pub zs : after .zs ≡ set (before .zs) (before .step) (triple .z)
+  pub weights : after .weights ≡ set (before .weights) (before .step) weight
+  pub step : after .step ≡ before .step + 1
+  pub modes : after .modes ≡ before .modes
+  pub opens : after .opens ≡ before .opens
+  pub ends : after .ends ≡ before .ends
+  pub holders : after .holders ≡ before .holders
+
+-- A lawful merge with its true weight, ready to be made.
+pub record Ready (entities steps : ℕ) (terms : List (List ℕ)) (rows : List ℕ) (run : Run) (triple : Triple) (weight : ℕ) : Type 0 where
+  pub holds : Holds entities steps terms rows run
+  pub left : run .step < run .modes
+  pub lawful : Lawful (run .modes) (history-of run) triple
+  pub weight-is : weight ≡ weight-in (run .modes) terms (history-of run) triple
+
+-- The rows that went are zeros, and the numbers behind the live rows are as they were.
+abbrev pub Cleared : ℕ → List ℕ → ℕ → List ℕ → Type 0
+Cleared live rows now-live now-rows = drop (8 * now-live) now-rows ≡ replicate (8 * (live - now-live)) 0 ++ drop (8 * live) rows
+
+-- The state after more merges: a state over the same terms, with this history.
+pub record Went (entities steps : ℕ) (terms : List (List ℕ)) (history : List Triple) (before : Run) (rows : List ℕ) (after : Run) (now-rows : List ℕ) : Type 0 where
+  pub holds : Holds entities steps terms now-rows after
+  pub modes : after .modes ≡ before .modes
+  pub merges : history-of after ≡ history
+  pub fewer : after .live ≤ before .live
+  pub cleared : Cleared (before .live) rows (after .live) now-rows

@@ -1,0 +1,168 @@
+// The state of a run, the merge, and the steps to the end.
+ghost use mathlib.Core.Path.{_≡_};
+ghost use mathlib.Core.List.{List, _∷_};
+ghost use Prim.Native.Nat.{ℕ, _+_, _*_, _≤_, _<_};
+ghost use lib.ListN.{length, getD};
+ghost use Rattle.lists.specs.Ranges.{listed};
+ghost use Rattle.terms.specs.Rows.{Held, «terms-of»};
+ghost use Rattle.merging.specs.Choice.{chosen};
+ghost use Rattle.merging.specs.Run.{finished as «finished-from»};
+ghost use Rattle.merging.specs.Fresh.{«first-open»};
+ghost use Rattle.merging.specs.State.{«history-of», Holds, EntitiesMerged, Noted, Ready, Went};
+use crate::choice;
+use crate::choice::Best;
+use crate::entity;
+use terms::reduction;
+use terms::row;
+use terms::row::Triple;
+
+// What a run holds: a mark, a z-end and a holder for every entity, and x, y, z and the weight of every merge.
+pub struct Run {
+    pub modes: usize,
+    pub step: usize,
+    pub live: usize,
+    pub weight: usize,
+    pub opens: [bool; 769],
+    pub ends: [u16; 769],
+    pub holders: [u16; 769],
+    pub xs: [u16; 256],
+    pub ys: [u16; 256],
+    pub zs: [u16; 256],
+    pub weights: [u16; 256],
+}
+
+// Every entity its own z-end and its own holder.
+fn identity() -> [u16; 769]
+    ensures { λ r. ⌜ r ≡ listed (λ entity. entity) 0 769 ⌝ }
+{
+    let mut table = [0u16; 769];
+    let mut at: u16 = 0;
+    while at < 769 {
+        let place = row::wide(at);
+        table[place] = at;
+        at += 1;
+    }
+    table
+}
+
+// The leaves open, and nothing else.
+fn leaves(modes: usize) -> [bool; 769]
+    requires { ⌜ modes ≤ 256 ⌝ }
+    ensures { λ r. ⌜ r ≡ listed (first-open modes) 0 769 ⌝ }
+{
+    let mut opens = [false; 769];
+    let mut leaf = 0;
+    while leaf <= 2 * modes {
+        opens[leaf] = true;
+        leaf += 1;
+    }
+    opens
+}
+
+// The state before the first step, of as many rows as are live.
+pub fn fresh(modes: usize, live: usize) -> Run
+    requires { ⌜ (1 ≤ modes) × (modes ≤ 256) × (live ≤ 2048) ⌝ }
+    ensures { λ r.
+        ⌜ ((rows : List ℕ) → Held 8 live rows → Holds 769 256 (terms-of 8 live rows) rows r × (r .modes ≡ modes) × (r .step ≡ 0) × (r .live ≡ live)) ⌝ }
+{
+    let opens = leaves(modes);
+    let ends = identity();
+    let holders = identity();
+    Run {
+        modes: modes,
+        step: 0,
+        live: live,
+        weight: 0,
+        opens: opens,
+        ends: ends,
+        holders: holders,
+        xs: [0u16; 256],
+        ys: [0u16; 256],
+        zs: [0u16; 256],
+        weights: [0u16; 256],
+    }
+}
+
+impl Run {
+    // The three closed and their parent opened, with z's end, which it now holds.
+    fn entities_merged(mut self, triple: Triple) -> Run
+        requires { ⌜ (self .modes ≤ 256) × (self .step < 256) × (triple .x < 769) × (triple .y < 769) × (triple .z < 769) ⌝ }
+        requires { ⌜ getD (self .ends) (triple .z) 0 < 769 ⌝ }
+        ensures { λ r. ⌜ EntitiesMerged triple self r ⌝ }
+    {
+        let parent = entity::next_parent(self.modes, self.step);
+        let x = row::wide(triple.x);
+        let y = row::wide(triple.y);
+        let z = row::wide(triple.z);
+        let at = row::wide(parent);
+        let end = self.ends[z];
+        let leaf = row::wide(end);
+        self.opens[x] = false;
+        self.opens[y] = false;
+        self.opens[z] = false;
+        self.opens[at] = true;
+        self.ends[at] = end;
+        self.holders[leaf] = parent;
+        self
+    }
+
+    // The merge written down as the next step.
+    fn noted(mut self, triple: Triple, weight: u16) -> Run
+        requires { ⌜ self .step < 256 ⌝ }
+        ensures { λ r. ⌜ Noted triple weight self r ⌝ }
+    {
+        let step = self.step;
+        self.xs[step] = triple.x;
+        self.ys[step] = triple.y;
+        self.zs[step] = triple.z;
+        self.weights[step] = weight;
+        self.step = step + 1;
+        self
+    }
+
+    // The next merge made: entities, rows and notes.
+    pub fn merged(self, rows: &mut [u16], triple: Triple, weight: usize) -> Run
+        requires { ⌜ ((terms : List (List ℕ)) × Ready 769 256 terms (now rows) self triple weight) ⌝ }
+        ensures { λ r. ⌜ ((terms : List (List ℕ)) → Ready 769 256 terms (now (rows .entry)) self triple weight → Went 769 256 terms (triple ∷ history-of self) self (now (rows .entry)) r (now (rows .exit))) ⌝ }
+    {
+        let parent = entity::next_parent(self.modes, self.step);
+        let kept = reduction::reduce_hamiltonian(rows, self.live, parent, triple);
+        let sum = self.weight + weight;
+        let mut next = self.entities_merged(triple)
+            .noted(triple, (weight % 65536) as u16);
+        next.live = kept;
+        next.weight = sum;
+        next
+    }
+
+    // The next step: the least lawful triple merged.
+    pub fn stepped(self, rows: &mut [u16]) -> Run
+        requires { ⌜ ((terms : List (List ℕ)) × Holds 769 256 terms (now rows) self) ⌝ }
+        requires { ⌜ self .step < self .modes ⌝ }
+        ensures { λ r. ⌜ ((terms : List (List ℕ)) → Holds 769 256 terms (now (rows .entry)) self → Went 769 256 terms (chosen (self .modes) terms (history-of self) ∷ history-of self) self (now (rows .entry)) r (now (rows .exit))) ⌝ }
+    {
+        let count = entity::next_parent(self.modes, self.step);
+        let best = choice::choose(
+            &self.opens,
+            &self.ends,
+            &self.holders,
+            rows,
+            self.modes,
+            self.live,
+            count,
+        );
+        self.merged(rows, best.triple, best.weight)
+    }
+
+    // The steps that are left.
+    pub fn finished(self, rows: &mut [u16]) -> Run
+        requires { ⌜ ((terms : List (List ℕ)) × Holds 769 256 terms (now rows) self) ⌝ }
+        ensures { λ r. ⌜ ((terms : List (List ℕ)) → Holds 769 256 terms (now (rows .entry)) self → Went 769 256 terms (finished-from (self .modes) terms (history-of self)) self (now (rows .entry)) r (now (rows .exit))) ⌝ }
+    {
+        let mut run = self;
+        while run.step < run.modes {
+            run = run.stepped(rows);
+        }
+        run
+    }
+}
