@@ -15,3 +15,5 @@ pub mod Least
 pub mod Listed
 pub mod Totals
 pub mod Sums
+pub mod WrittenBehind
+pub mod Kept

@@ -24,3 +24,4 @@ pub mod Amounts
 pub mod Codes
 pub mod Walk
 pub mod FlatpackRows
+pub mod Walking

@@ -1,18 +1,34 @@
 -- The history that the tables hold, when one more merge is written down.
 use mathlib.Core.Path.{_≡_, refl, ap}
 use mathlib.Core.List.{List, _∷_}
+use mathlib.Core.Logic.{⊎-elim}
 use Prim.Native.Nat.{ℕ, zero, suc, _+_, _<_, _≤_}
 use native.Mathlib.Numerals.{add-one}
 use native.Mathlib.Omega.{arith}
 use lib.ListN.{length, set}
 use lib.Seq.{getD-set-same, getD-set-other}
+use Rattle.lists.proofs.Tests.{same-or-not}
 use Rattle.terms.specs.declared.row.Triple.{Triple}
+use Rattle.merging.specs.Flatpack.{merge-of}
 use Rattle.merging.specs.Recorded.{merge-at, recorded}
+use Rattle.merging.proofs.Amounts.{newest-merge, older-merge}
 
 pub length-recorded : (xs ys zs : List ℕ) (step : ℕ) → length (recorded xs ys zs step) ≡ step
 unfolding recorded
 length-recorded xs ys zs zero = refl
 length-recorded xs ys zs (suc step) = ap suc (length-recorded xs ys zs step)
+
+pub recorded-merge : (xs ys zs : List ℕ) (steps label : ℕ) → label < steps → merge-of (recorded xs ys zs steps) label ≡ merge-at xs ys zs label
+unfolding recorded
+recorded-merge xs ys zs zero label h = absurd (omega arith)
+recorded-merge xs ys zs (suc steps) label h =
+    let count = length-recorded xs ys zs steps in
+    let older = recorded xs ys zs steps in
+    let merge = merge-at xs ys zs steps in
+    ⊎-elim
+    (λ e. newest-merge merge older label (omega arith) ∙ ap (merge-at xs ys zs) (rw e refl))
+    (λ other. older-merge merge older label (omega arith) ∙ recorded-merge xs ys zs steps label (omega arith))
+    (same-or-not label steps)
 
 module _ (xs ys zs : List ℕ) (triple : Triple) (place : ℕ) where
   -- Writing at a place leaves the merges before it.

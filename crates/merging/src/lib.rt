@@ -1,5 +1,7 @@
-// Merging: lawful triples, the choice of a step, the merge and the run to the end.
+// Merging: lawful triples, the choice of a step, the merge, the run to the end, the flatpack and the trial totals.
 pub mod choice;
 pub mod entity;
+pub mod flatpack;
 pub mod lawful;
 pub mod run;
+pub mod trials;
