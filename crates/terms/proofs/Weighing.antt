@@ -20,6 +20,10 @@ one-or-two (suc (suc zero)) h = refl
 one-or-two (suc (suc (suc zero))) h = refl
 one-or-two (suc (suc (suc (suc k)))) h = absurd (omega arith)
 
+odd-few : (triple : Triple) (term : List ℕ) → odd-ones triple term ≤ 3
+unfolding odd-ones
+odd-few triple term = omega arith
+
 pub weighs : (triple : Triple) (term : List ℕ) (xs ys zs : ℕ)
     → xs ≡ occurrences (triple .x) term → ys ≡ occurrences (triple .y) term → zs ≡ occurrences (triple .z) term
     → (xs % 2 + ys % 2 + zs % 2 + 1) / 2 % 2 ≡ term-weight triple term
@@ -38,3 +42,8 @@ module _ (triple : Triple) (live place : ℕ) (rows : List ℕ) where
   pub weight-end : live ≤ place → weight-of triple (terms-of 8 (live - place) (drop (8 * place) rows)) ≡ 0
   unfolding weight-of sum
   weight-end h = rw (terms-end 8 live place rows h)
+
+-- The weight from how many of the three are odd.
+pub weighs-odd : (triple : Triple) (term : List ℕ) (odd : ℕ) → odd ≡ odd-ones triple term → (odd + 1) / 2 % 2 ≡ term-weight triple term
+unfolding term-weight
+weighs-odd triple term odd e = rw (← e) (one-or-two odd (rw e (odd-few triple term)))

@@ -1,9 +1,10 @@
 // The weight of a triple: in one term, and in all live rows.
 ghost use mathlib.Core.Path.{_≡_};
-ghost use Prim.Native.Nat.{_≤_};
-ghost use Rattle.lists.specs.Counting.{same as «one-if-same»};
+ghost use Prim.Native.Nat.{_%_, _≤_};
+ghost use lib.ListN.{length};
+ghost use Rattle.lists.specs.Counting.{same as «one-if-same», occurrences};
 ghost use Rattle.terms.specs.Rows.{Held, «terms-of»};
-ghost use Rattle.terms.specs.Weight.{«term-weight», «weight-of»};
+ghost use Rattle.terms.specs.Weight.{OddOf, «term-weight», «weight-of»};
 use crate::row;
 use crate::row::Triple;
 
@@ -43,6 +44,51 @@ pub fn weight(rows: &[u16], live: usize, triple: Triple) -> usize
     let mut place = 0;
     while place < live {
         sum += qubit_term_weight(row::term_at(rows, place), triple);
+        place += 1;
+    }
+    sum
+}
+
+// 1 where the number occurs in the term an odd number of times, else 0.
+fn odd_in(term: &[u16], number: u16) -> usize
+    ensures { λ r. ⌜ (r ≡ occurrences number (now (term .entry)) % 2) × (r ≤ 1) ⌝ }
+{
+    let mut odd: usize = 0;
+    let mut at = 0;
+    while at < term.len() {
+        odd = (odd + same(term[at], number)) % 2;
+        at += 1;
+    }
+    odd
+}
+
+// For each live row, how many of x and y occur in it an odd number of times.
+pub fn count_odd(rows: &[u16], live: usize, x: u16, y: u16, odd: &mut [u8])
+    requires { ⌜ Held 8 live (now rows) ⌝ }
+    requires { ⌜ live ≤ length (now odd) ⌝ }
+    ensures { λ r. ⌜ OddOf (now (rows .entry)) live x y (now (odd .exit)) ⌝ }
+{
+    let mut place = 0;
+    while place < live {
+        let term = row::term_at(rows, place);
+        odd[place] = (odd_in(term, x) + odd_in(term, y)) as u8;
+        place += 1;
+    }
+}
+
+// The weight of the triple, where it is known how many of its x and y are odd in each row.
+pub fn weight_beside<'a>(rows: &'a [u16], live: usize, odd: &'a [u8], triple: Triple) -> usize
+    requires { ⌜ Held 8 live (now rows) ⌝ }
+    requires { ⌜ live ≤ length (now odd) ⌝ }
+    requires { ⌜ OddOf (now rows) live (triple .x) (triple .y) (now odd) ⌝ }
+    ensures { λ r. ⌜ (r ≡ weight-of triple (terms-of 8 live (now (rows .entry)))) × (r ≤ live) ⌝ }
+{
+    let mut sum: usize = 0;
+    let mut place = 0;
+    while place < live {
+        let all = odd[place] as usize + odd_in(row::term_at(rows, place), triple.z);
+        // 0, 1, 2, 3 to 0, 1, 1, 0
+        sum += (all + 1) / 2 % 2;
         place += 1;
     }
     sum

@@ -1,13 +1,13 @@
-//! Times HATT on the same terms by the proved library, ferrmion's Rust and the plain program; prints medians and ratios.
+//! Times HATT on the same terms by the proved library, ferrmion's Rust and the plain program; prints medians of five and ratios.
 
 use cases::{flat, terms, Random, Shape};
 use std::hint::black_box;
-use std::time::Instant;
 
 /// Runs of each; the median of them counts.
 const RUNS: usize = 5;
 
 extern "C" {
+    fn clock() -> i64;
     fn bench_hatt(modes: usize, rows: *mut u16, numbers: usize) -> u64;
 }
 
@@ -29,30 +29,42 @@ fn plainly(modes: usize, numbers: &[u16]) -> u64 {
     done.expect("the terms are good").weight
 }
 
-/// The answer, and the median of the times in milliseconds.
-fn timed(run: impl Fn() -> u64) -> (u64, f64) {
-    let mut times = Vec::new();
-    let mut answer = 0;
-    for _ in 0..RUNS {
-        let start = Instant::now();
-        answer = black_box(run());
-        times.push(start.elapsed().as_secs_f64() * 1000.0);
-    }
-    times.sort_by(f64::total_cmp);
-    (answer, times[RUNS / 2])
+/// Processor time in milliseconds, which other work on the machine leaves alone.
+fn processor_time() -> f64 {
+    // C's clock counts microseconds here; it reads and returns a number and nothing else.
+    unsafe { clock() as f64 / 1000.0 }
 }
 
+fn timed(run: impl Fn() -> u64) -> (u64, f64) {
+    let start = processor_time();
+    let answer = black_box(run());
+    (answer, processor_time() - start)
+}
+
+fn median(mut times: Vec<f64>) -> f64 {
+    times.sort_by(f64::total_cmp);
+    times[times.len() / 2]
+}
+
+/// The three take turns, so that a slow moment of the machine falls on all of them.
 fn compare(name: &str, modes: usize, count: usize, shape: Shape) {
     let terms = terms(&mut Random::new(1), modes, count, shape);
     let numbers = flat(&terms);
-    let (ours, our_time) = timed(|| ours(modes, &numbers));
-    let (theirs, their_time) = timed(|| theirs(modes, &terms));
-    let (plainly, plain_time) = timed(|| plainly(modes, &numbers));
-    assert_eq!((ours, ours), (theirs, plainly), "the greedy weights differ");
+    let (mut our_times, mut their_times, mut plain_times) = (vec![], vec![], vec![]);
+    for _ in 0..RUNS {
+        let (ours, our_time) = timed(|| ours(modes, &numbers));
+        let (theirs, their_time) = timed(|| theirs(modes, &terms));
+        let (plainly, plain_time) = timed(|| plainly(modes, &numbers));
+        assert_eq!((ours, ours), (theirs, plainly), "the greedy weights differ");
+        our_times.push(our_time);
+        their_times.push(their_time);
+        plain_times.push(plain_time);
+    }
+    let (ours, theirs, plainly) = (median(our_times), median(their_times), median(plain_times));
     println!(
-        "HATT, {modes} modes, {count} terms, {name}: ours {our_time:.0} ms, Rust {their_time:.0} ms, plain {plain_time:.0} ms; ours / Rust {:.2}, ours / plain {:.2}",
-        our_time / their_time,
-        our_time / plain_time
+        "HATT, {modes} modes, {count} terms, {name}: ours {ours:.0} ms, Rust {theirs:.0} ms, plain {plainly:.0} ms; ours / Rust {:.2}, ours / plain {:.2}",
+        ours / theirs,
+        ours / plainly
     );
 }
 

@@ -26,8 +26,8 @@ returns-3 c modes history within opens =
       sym (c .before .marked .ensures .1 modes history within opens) ∙ not-true _ (c .if3 .taken),
     )
 
-weight-requires : tie.Need-weight-requires
-weight-requires c κs = search needs
+weight-beside-requires : tie.Need-weight-beside-requires
+weight-beside-requires c κs = search needs
 
 lighter-requires : tie.Need-lighter-requires
 lighter-requires c κs = search needs
@@ -40,7 +40,7 @@ returns-4 c modes history within opens =
       ne-eqb _ _ (c .before .before .before .before .if2 .left),
       sym (c .before .before .before .marked .ensures .1 modes history within opens) ∙ not-false _ (c .before .before .if3 .left),
     )
-    (c .lighter .ensures _ (sym (c .before .weight .ensures .0)))
+    (c .lighter .ensures _ (sym (c .before .weight-beside .ensures .0)))
 
 pub best-beside-spec : {M : Type 1} → statement M
 best-beside-spec =
@@ -50,6 +50,6 @@ best-beside-spec =
     returns-2
     marked-requires
     returns-3
-    weight-requires
+    weight-beside-requires
     lighter-requires
     returns-4)

@@ -1,63 +1,37 @@
--- The triples with the z still to come give the answer.
-use mathlib.Core.Path.{_≡_, sym, ap, _∙_}
-use mathlib.Core.List.{List}
-use Prim.Native.Nat.{ℕ, _≤_, _+_, _-_}
-use native.Mathlib.Nat.{sub-zero}
+use mathlib.Core.Path.{_≡_}
 use native.Mathlib.Omega.{arith}
 use borrow.Author.Needs.{needs}
-use Rattle.terms.specs.declared.row.Triple.{Triple}
-use Rattle.merging.specs.History.{next-parent}
-use Rattle.merging.specs.Couples.{OpensAre, beside, seek, weight-here}
-use Rattle.merging.proofs.Candidates.{beside-step, beside-end}
-use Rattle.merging.proofs.Seeking.{seek-joined, seek-none}
+use lib.ListN.{length}
 use Rattle.merging.proofs.choice.best_of_couple.Statement.{statement}
 use Rattle.merging.proofs.choice.best_of_couple.Tie as tie
 
-abbrev Inv-loop : tie.InvT-loop
-Inv-loop opens rows live count x y best₀ z₀ best z =
-    (z ≤ count)
-    × ((modes : ℕ) (history : List Triple) → next-parent modes history ≤ 769 → OpensAre 769 modes history opens
-    → seek (weight-here live rows) best₀ (beside modes history x y 0 count)
-    ≡ seek (weight-here live rows) best (beside modes history x y z (count - z)))
+-- x and y counted in the rows first, then every z.
 
-abbrev μ-loop : tie.MeasureT-loop
-μ-loop opens rows live count x y best₀ z₀ best z = count - z
+slice-aggregate-count-odd : tie.Need-slice-aggregate-count-odd
+slice-aggregate-count-odd c = search needs
 
-loop-holds : tie.Need-loop-holds Inv-loop μ-loop
-loop-holds c =
-    (search needs, λ modes history within opens. rw sub-zero)
+count-odd-requires : tie.Need-count-odd-requires
+count-odd-requires c κs = search needs
 
-best-beside-requires : tie.Need-best-beside-requires Inv-loop μ-loop
-best-beside-requires c κs = search needs
+slice-aggregate-best-of-rest : tie.Need-slice-aggregate-best-of-rest
+slice-aggregate-best-of-rest c = search needs
 
-add-z : tie.Need-add-z Inv-loop μ-loop
-add-z c = search needs
+best-of-rest-requires : tie.Need-best-of-rest-requires
+best-of-rest-requires c κs =
+    let start = c .before .before .before .before .before in
+    let called = c .before .before .count-odd in
+    let whole : length (called .last .1 .1 .1 .1 .0) ≡ 2048 = called .kept .1 .1 .1 .1 .0 in
+    (start .pre .0, (omega arith, called .ensures))
 
-loop-less : tie.Need-loop-less Inv-loop μ-loop
-loop-less c = search needs
-
-loop-again : tie.Need-loop-again Inv-loop μ-loop
-loop-again c =
-    let here = c .before .before in
-    let args = here .before .before .args in (
-      omega arith,
-      λ modes history within opens.
-          here .loop .inv .1 modes history within opens
-          ∙ rw (beside-step modes history (args .x) (args .y) (here .loop .z) (args .count) (omega arith))
-          (seek-joined (weight-here (args .live) (args .rows .now)) (here .loop .best) _ _
-          ∙ ap (λ b. seek (weight-here (args .live) (args .rows .now)) b (beside modes history (args .x) (args .y) (here .loop .z + 1) (args .count - (here .loop .z + 1))))
-          (sym (c .best-beside .ensures modes history within opens))),
-    )
-
-returns : tie.Need-returns Inv-loop μ-loop
-returns c modes history within opens =
-    let here = c .before in
-    let args = here .before .before .args in
-    sym
-    (here .loop .inv .1 modes history within opens
-    ∙ rw (beside-end modes history (args .x) (args .y) (here .loop .z) (args .count) (omega arith)) (seek-none _ _))
+returns : tie.Need-returns
+returns c = search needs
 
 pub best-of-couple-spec : {M : Type 1} → statement M
 best-of-couple-spec =
     tie.close
-    (tie.spec Inv-loop μ-loop loop-holds best-beside-requires add-z loop-less loop-again returns)
+    (tie.spec
+    slice-aggregate-count-odd
+    count-odd-requires
+    slice-aggregate-best-of-rest
+    best-of-rest-requires
+    returns)

@@ -35,7 +35,7 @@ best-with-requires c κs =
     let here = c .before in
     let start = here .before .before in
     let low = start .pre .1 .1 (here .loop .a) (c .loop-test .taken) in
-    (start .pre .0, (omega arith, omega arith, low))
+    (start .pre .0, (omega arith, omega arith, omega arith, low))
 
 add-a : tie.Need-add-a Inv-loop μ-loop
 add-a c = search needs

@@ -30,7 +30,7 @@ choose-requires c κs =
     let low = ends-low 769 256 (start .pre .0 .0) (start .args .rows .now) run holds in (
       holds .held,
       (
-        (omega (arith, holds .few), omega (arith, holds .few, count, start .pre .1)),
+        (holds .light, omega (arith, holds .few), omega (arith, holds .few, count, start .pre .1)),
         λ entity h. omega (arith, low entity (omega (arith, count)), holds .few),
       ),
     )
