@@ -17,3 +17,7 @@ pub mod Totals
 pub mod Sums
 pub mod WrittenBehind
 pub mod Kept
+pub mod Ranges
+pub mod Leading
+pub mod Occurring
+pub mod Pigeonholes

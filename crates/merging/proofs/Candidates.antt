@@ -4,29 +4,16 @@ use mathlib.Core.Bool.{Bool, true, false, cond, _&&_}
 use mathlib.Core.List.{List, [], _∷_, _++_, map, flatMap, map-append}
 use Prim.Native.Nat.{ℕ, zero, suc, _+_, _-_, _<_, _≤_}
 use native.Mathlib.Nat.{sub-zero}
-use native.Mathlib.Numerals.{add-one}
-use native.Mathlib.Omega.{arith}
 use Rattle.lists.specs.Members.{keep}
 use Rattle.lists.specs.Ranges.{listed}
 use Rattle.terms.specs.declared.row.Triple.{Triple}
+use Rattle.lists.proofs.Ranges.{listed-step, listed-end}
 use Rattle.merging.specs.declared.lawful.Couple.the-variants.{Of, Nothing}
 use Rattle.merging.specs.History.{next-parent}
 use Rattle.merging.specs.Lawful.{named, is-lawful, entities, pairs-with, lawful-pairs}
 use Rattle.merging.specs.Choice.{candidates}
 use Rattle.merging.specs.Couples.{x-of, y-of, coupled, couple, free, beside, beside-couple}
 use Rattle.merging.proofs.Couples.{named-parts, lawful-parts}
-
--- One step along what a rule lists.
-pub listed-step : {A : Type 0} (rule : ℕ → A) (from count : ℕ) → from < count
-    → listed rule from (count - from) ≡ rule from ∷ listed rule (from + 1) (count - (from + 1))
-unfolding listed
-listed-step rule from count h =
-    let e : count - from ≡ suc (count - (from + 1)) = omega arith in
-    rw (e, add-one from)
-
-pub listed-end : {A : Type 0} (rule : ℕ → A) (from count : ℕ) → count ≤ from → listed rule from (count - from) ≡ []
-unfolding listed
-listed-end rule from count h = let e : count - from ≡ 0 = omega arith in rw e
 
 map-listed : {A B : Type 0} (f : A → B) (rule : ℕ → A) (from count : ℕ) → map f (listed rule from count) ≡ listed (λ i. f (rule i)) from count
 unfolding listed
@@ -107,11 +94,11 @@ module _ (modes : ℕ) (history : List Triple) where
 
   pub candidates-step : (a count : ℕ) → a < count → candidates-from a (count - a) ≡ named-with a ++ candidates-from (a + 1) (count - (a + 1))
   unfolding candidates-from flatMap
-  candidates-step a count h = rw (listed-step (λ entity. entity) a count h)
+  candidates-step a count h = rw (listed-step (λ entity. entity) count a h)
 
   pub candidates-end : (a count : ℕ) → count ≤ a → candidates-from a (count - a) ≡ []
   unfolding candidates-from flatMap
-  candidates-end a count h = rw (listed-end (λ entity. entity) a count h)
+  candidates-end a count h = rw (listed-end (λ entity. entity) count a h)
 
   -- The triples of x and y with each z from here on.
   pub beside-step : (x y z count : ℕ) → z < count
@@ -119,8 +106,8 @@ module _ (modes : ℕ) (history : List Triple) where
       ≡ cond (free modes history (record { x = x; y = y; z = z })) (record { x = x; y = y; z = z } ∷ []) []
       ++ beside modes history x y (z + 1) (count - (z + 1))
   unfolding beside keep
-  beside-step x y z count h = rw (listed-step {A = Triple} (λ w. record { x = x; y = y; z = w }) z count h)
+  beside-step x y z count h = rw (listed-step {A = Triple} (λ w. record { x = x; y = y; z = w }) count z h)
 
   pub beside-end : (x y z count : ℕ) → count ≤ z → beside modes history x y z (count - z) ≡ []
   unfolding beside keep
-  beside-end x y z count h = rw (listed-end {A = Triple} (λ w. record { x = x; y = y; z = w }) z count h)
+  beside-end x y z count h = rw (listed-end {A = Triple} (λ w. record { x = x; y = y; z = w }) count z h)

@@ -1,0 +1,12 @@
+-- The laws of the tree table, its check and its weight.
+pub mod TableSteps
+pub mod OneTreeParts
+pub mod AcceptedParts
+pub mod TreeWeighing
+pub mod Examples
+pub mod Standing
+pub mod Under
+pub mod OneTreeSays
+pub mod EachStands
+pub mod AcceptedTree
+pub mod AbsentEnds

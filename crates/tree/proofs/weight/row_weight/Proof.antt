@@ -1,0 +1,70 @@
+-- The weight at the nodes passed and at those ahead is the weight at all.
+use mathlib.Core.Path.{_≡_, _∙_, sym}
+use mathlib.Core.List.{map}
+use Prim.Native.Nat.{_≤_, _-_, _+_}
+use native.Mathlib.Nat.{zero-add}
+use Rattle.lists.specs.Counting.{sum as total}
+use Rattle.lists.specs.Ranges.{listed}
+use Rattle.lists.proofs.Ranges.{sum-on, sum-done}
+use Rattle.tree.specs.Weight.{node-weight, row-weight}
+use Rattle.tree.proofs.TreeWeighing.{row-start}
+use borrow.Author.Needs.{needs}
+use native.Mathlib.Omega.{arith}
+use Rattle.tree.proofs.weight.row_weight.Statement.{statement}
+use Rattle.tree.proofs.weight.row_weight.Tie as tie
+
+abbrev Inv-loop : tie.InvT-loop
+Inv-loop modes tree places term sum₀ node₀ sum node =
+    (node ≤ modes)
+    × (sum ≤ node)
+    × (sum + total (map (node-weight modes tree term) (listed (λ v. v) node (modes - node))) ≡ row-weight modes tree term)
+
+abbrev μ-loop : tie.MeasureT-loop
+μ-loop modes tree places term sum₀ node₀ sum node = modes - node
+
+loop-holds : tie.Need-loop-holds Inv-loop μ-loop
+loop-holds c =
+    let args = c .before .before .before .args in
+    (omega arith, omega arith, zero-add _ ∙ sym (row-start (args .modes) (args .tree .now) (args .term .now)))
+
+node-weight-requires : tie.Need-node-weight-requires Inv-loop μ-loop
+node-weight-requires c κs =
+    let start = c .before .before .before .before .before in
+    start .pre
+
+add-sum : tie.Need-add-sum Inv-loop μ-loop
+add-sum c = search needs
+
+add-node : tie.Need-add-node Inv-loop μ-loop
+add-node c = search needs
+
+loop-less : tie.Need-loop-less Inv-loop μ-loop
+loop-less c = search needs
+
+loop-again : tie.Need-loop-again Inv-loop μ-loop
+loop-again c =
+    let here = c .before .before in
+    let args = here .before .before .before .before .args in
+    let step = sum-on (node-weight (args .modes) (args .tree .now) (args .term .now)) (λ v. v) (args .modes) (here .loop .node) (omega arith) in
+    omega arith
+
+returns : tie.Need-returns Inv-loop μ-loop
+returns c =
+    let here = c .before in
+    let args = here .before .before .before .before .args in
+    let done = sum-done (node-weight (args .modes) (args .tree .now) (args .term .now)) (λ v. v) (args .modes) (here .loop .node) (omega arith) in
+    omega arith
+
+pub row-weight-spec : {M : Type 1} → statement M
+row-weight-spec =
+    tie.close
+    (tie.spec
+    Inv-loop
+    μ-loop
+    loop-holds
+    node-weight-requires
+    add-sum
+    add-node
+    loop-less
+    loop-again
+    returns)

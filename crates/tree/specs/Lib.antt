@@ -1,0 +1,7 @@
+-- What document 01 says of tree tables: which are accepted, and their weight.
+pub mod Table
+pub mod OneTree
+pub mod Pairs
+pub mod Check
+pub mod Weight
+pub mod Promises

@@ -1,0 +1,52 @@
+-- "For an accepted tree: over every listed row and every node, 1 where the parities of the row's indices under X, Y, Z aren't all equal."
+use mathlib.Core.Bool.{cond, _&&_}
+use mathlib.Core.List.{List, map}
+use Prim.Native.Nat.{ℕ, zero, suc, _+_, _%_, _/_}
+use lib.Dec.{eqb, ltb}
+use lib.ListN.{length}
+use Rattle.lists.specs.Counting.{sum, occurrences}
+use Rattle.terms.specs.Rows.{terms-of}
+use Rattle.terms.specs.Good.{checked}
+use Rattle.terms.specs.declared.given.Checked.{Checked}
+use Rattle.terms.specs.declared.given.Checked.the-variants.{Good, Refused as BadTerms}
+use Rattle.tree.specs.declared.TreeChecked.{TreeChecked}
+use Rattle.tree.specs.declared.TreeChecked.the-variants.{Accepted, Refused}
+use Rattle.tree.specs.declared.TreeWeighed.{TreeWeighed}
+use Rattle.tree.specs.declared.TreeWeighed.the-variants.{Weight, Unweighed}
+use Rattle.tree.specs.Table.{nodes, place-of}
+
+-- The edge of a node under which a code stands, 0, 1 or 2, found by climbing; 3 where it stands under none.
+unfoldable pub edge-under : List ℕ → ℕ → ℕ → ℕ → ℕ
+edge-under table zero node code = 3
+edge-under table (suc steps) node code =
+    let place = place-of table code in
+    let above = edge-under table steps node (place / 3) in
+    cond (ltb place (length table)) (cond (eqb (place / 3) node) (place % 3) above) 3
+
+-- The edges of a node under which the row's indices stand.
+unfoldable pub edges : ℕ → List ℕ → ℕ → List ℕ → List ℕ
+edges modes table node term = map (λ index. edge-under table (suc modes) node (modes + index)) term
+
+-- The weight of one row at one node: 1 where the parities under X, Y, Z aren't all equal.
+unfoldable pub node-weight : ℕ → List ℕ → List ℕ → ℕ → ℕ
+node-weight modes table term node =
+    let under = edges modes table node term in
+    cond (eqb (occurrences 0 under % 2) (occurrences 1 under % 2) && eqb (occurrences 1 under % 2) (occurrences 2 under % 2)) 0 1
+
+-- "over … every node".
+unfoldable pub row-weight : ℕ → List ℕ → List ℕ → ℕ
+row-weight modes table term = sum (map (node-weight modes table term) (nodes modes))
+
+-- "over every listed row".
+unfoldable pub tree-weight : ℕ → List ℕ → List (List ℕ) → ℕ
+tree-weight modes table terms = sum (map (row-weight modes table) terms)
+
+-- The weight where the terms are good too: "Tree weight continues 2, 3, 4."
+unfoldable pub weighed-terms : ℕ → List ℕ → List ℕ → Checked → TreeWeighed
+weighed-terms modes table numbers (Good count) = Weight (tree-weight modes table (terms-of 8 count numbers))
+weighed-terms modes table numbers (BadTerms refusal) = Unweighed refusal
+
+-- The answer of the call.
+unfoldable pub tree-weighed : ℕ → ℕ → List ℕ → List ℕ → TreeChecked → TreeWeighed
+tree-weighed most modes table numbers Accepted = weighed-terms modes table numbers (checked modes numbers)
+tree-weighed most modes table numbers (Refused refusal) = Unweighed refusal

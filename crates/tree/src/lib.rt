@@ -1,0 +1,48 @@
+// The tree table: its check, refusals 1 and 13 to 16 of document 01, and the tree weight.
+ghost use mathlib.Core.Path.{_≡_};
+ghost use Rattle.tree.specs.Check.{«tree-checked»};
+use refusal::Refusal;
+
+pub mod one_tree;
+pub mod pairs;
+pub mod table;
+pub mod weight;
+
+// What the check of a tree says.
+pub enum TreeChecked {
+    Accepted,
+    Refused(Refusal),
+}
+
+// What the tree weight says: the weight, or why it is refused.
+pub enum TreeWeighed {
+    Weight(u64),
+    Unweighed(Refusal),
+}
+
+// The table is 3n good codes that make one tree with its pairs right; or the first of these that fails.
+pub fn check_tree(modes: usize, tree: &[u16]) -> TreeChecked
+    ensures { λ r. ⌜ r ≡ tree-checked 256 modes (now (tree .entry)) ⌝ }
+{
+    if modes < 1 {
+        return TreeChecked::Refused(Refusal::Modes);
+    }
+    if 256 < modes {
+        return TreeChecked::Refused(Refusal::Modes);
+    }
+    if tree.len() != 3 * modes {
+        return TreeChecked::Refused(Refusal::TreeLength);
+    }
+    let good = table::codes_good(modes, tree);
+    if good < tree.len() {
+        return TreeChecked::Refused(Refusal::ChildCode(good));
+    }
+    if !one_tree::one_tree(modes, tree) {
+        return TreeChecked::Refused(Refusal::NotOneTree);
+    }
+    let right = pairs::pairs_right(modes, tree);
+    if right < modes {
+        return TreeChecked::Refused(Refusal::WrongPair(right));
+    }
+    TreeChecked::Accepted
+}

@@ -1,0 +1,134 @@
+// The tree weight: over every listed row and every node, 1 where the parities of the row's indices under X, Y, Z aren't all equal.
+ghost use mathlib.Core.Path.{_≡_};
+ghost use mathlib.Core.Bool.{true};
+ghost use Prim.Native.Nat.{_*_, _≤_, _<_};
+ghost use lib.Dec.{ltb};
+ghost use lib.ListN.{length};
+ghost use Rattle.lists.specs.Members.{every};
+ghost use Rattle.terms.specs.Rows.{«terms-of»};
+ghost use Rattle.tree.specs.Check.{«tree-checked»};
+ghost use Rattle.tree.specs.Promises.{Places, GoodRows};
+ghost use Rattle.tree.specs.Weight.{«edge-under», «node-weight», «row-weight», «tree-weight», «tree-weighed»};
+use crate::TreeChecked;
+use crate::TreeWeighed;
+use crate::table;
+use terms::given;
+use terms::given::Checked;
+use terms::row;
+
+// The place of each code below the table's length, so that the way up takes no search.
+fn fill_places(tree: &[u16], places: &mut [usize])
+    requires { ⌜ length (now tree) ≤ length (now places) ⌝ }
+    ensures { λ r. ⌜ Places (now (tree .entry)) (now (places .exit)) ⌝ }
+{
+    let mut code = 0;
+    while code < tree.len() {
+        places[code] = table::place_of(tree, code);
+        code += 1;
+    }
+}
+
+// The edge of a node under which the code stands, found by climbing; 3 where it stands under none.
+fn edge_under(tree: &[u16], places: &[usize], steps: usize, node: usize, code: usize) -> usize
+    requires { ⌜ Places (now tree) (now places) ⌝ }
+    requires { ⌜ code < length (now tree) ⌝ }
+    ensures { λ r. ⌜ r ≡ edge-under (now (tree .entry)) steps node code ⌝ }
+{
+    let mut at = code;
+    let mut left = steps;
+    while 0 < left {
+        let place = places[at];
+        if tree.len() <= place {
+            return 3;
+        }
+        at = place / 3;
+        if at == node {
+            return place % 3;
+        }
+        left -= 1;
+    }
+    3
+}
+
+// 1 where the parities of the term's indices under X, Y and Z of the node aren't all equal, else 0.
+fn node_weight(modes: usize, tree: &[u16], places: &[usize], term: &[u16], node: usize) -> u64
+    requires { ⌜ Places (now tree) (now places) ⌝ }
+    requires { ⌜ length (now tree) ≡ 3 * modes ⌝ }
+    requires { ⌜ every (λ index. ltb index (2 * modes)) (now term) ≡ true ⌝ }
+    ensures { λ r. ⌜ (r ≡ node-weight modes (now (tree .entry)) (now (term .entry)) node) × (r ≤ 1) ⌝ }
+{
+    let mut xs: usize = 0;
+    let mut ys: usize = 0;
+    let mut zs: usize = 0;
+    let mut at = 0;
+    while at < term.len() {
+        let edge = edge_under(tree, places, modes + 1, node, modes + row::wide(term[at]));
+        xs += table::same(edge, 0);
+        ys += table::same(edge, 1);
+        zs += table::same(edge, 2);
+        at += 1;
+    }
+    if xs % 2 != ys % 2 {
+        return 1;
+    }
+    if ys % 2 != zs % 2 {
+        return 1;
+    }
+    0
+}
+
+// The term's weight over every node.
+fn row_weight(modes: usize, tree: &[u16], places: &[usize], term: &[u16]) -> u64
+    requires { ⌜ Places (now tree) (now places) ⌝ }
+    requires { ⌜ length (now tree) ≡ 3 * modes ⌝ }
+    requires { ⌜ every (λ index. ltb index (2 * modes)) (now term) ≡ true ⌝ }
+    ensures { λ r. ⌜ (r ≡ row-weight modes (now (tree .entry)) (now (term .entry))) × (r ≤ modes) ⌝ }
+{
+    let mut sum: u64 = 0;
+    let mut node = 0;
+    while node < modes {
+        sum += node_weight(modes, tree, places, term, node);
+        node += 1;
+    }
+    sum
+}
+
+// The weight of the first rows.
+fn rows_weight(modes: usize, tree: &[u16], places: &[usize], terms: &[u16], count: usize) -> u64
+    requires { ⌜ Places (now tree) (now places) ⌝ }
+    requires { ⌜ (length (now tree) ≡ 3 * modes) × (modes ≤ 256) ⌝ }
+    requires { ⌜ GoodRows modes count (now terms) ⌝ }
+    ensures { λ r. ⌜ r ≡ tree-weight modes (now (tree .entry)) (terms-of 8 count (now (terms .entry))) ⌝ }
+{
+    let mut sum: u64 = 0;
+    let mut place = 0;
+    while place < count {
+        sum += row_weight(modes, tree, places, row::term_at(terms, place));
+        place += 1;
+    }
+    sum
+}
+
+// The weight of so many good rows in an accepted tree.
+fn accepted_weight(modes: usize, tree: &[u16], terms: &[u16], count: usize) -> u64
+    requires { ⌜ (length (now tree) ≡ 3 * modes) × (modes ≤ 256) ⌝ }
+    requires { ⌜ GoodRows modes count (now terms) ⌝ }
+    ensures { λ r. ⌜ r ≡ tree-weight modes (now (tree .entry)) (terms-of 8 count (now (terms .entry))) ⌝ }
+{
+    let mut places = [0usize; 768];
+    fill_places(tree, &mut places);
+    rows_weight(modes, tree, &places, terms, count)
+}
+
+// The tree weight of the terms, or why tree or terms are refused.
+pub fn tree_weight(modes: usize, tree: &[u16], terms: &[u16]) -> TreeWeighed
+    ensures { λ r. ⌜ r ≡ tree-weighed 256 modes (now (tree .entry)) (now (terms .entry)) (tree-checked 256 modes (now (tree .entry))) ⌝ }
+{
+    match crate::check_tree(modes, tree) {
+        TreeChecked::Refused(refusal) => TreeWeighed::Unweighed(refusal),
+        TreeChecked::Accepted => match given::check_terms(modes, terms) {
+            Checked::Refused(refusal) => TreeWeighed::Unweighed(refusal),
+            Checked::Good(count) => TreeWeighed::Weight(accepted_weight(modes, tree, terms, count)),
+        },
+    }
+}
