@@ -15,7 +15,7 @@ pub mod Least
 pub mod Listed
 pub mod Totals
 pub mod Sums
-pub mod WrittenBehind
+pub mod Behind
 pub mod Kept
 pub mod Ranges
 pub mod Leading

@@ -15,7 +15,7 @@ use Rattle.lists.specs.Written.{written-at}
 use Rattle.lists.proofs.Steps.{drop-step}
 use Rattle.lists.proofs.Every.{every-at, every-append, keeps-passing}
 use Rattle.lists.proofs.Written.{length-written}
-use Rattle.lists.proofs.WrittenBehind.{written-behind}
+use Rattle.lists.proofs.Behind.{written-behind-front}
 use Rattle.terms.specs.declared.row.Triple.{Triple}
 use Rattle.merging.specs.Lawful.{LawfulHistory}
 use Rattle.merging.specs.Flatpack.{children, walk, rows-for, flatpack}
@@ -118,7 +118,7 @@ module _ (modes : ℕ) (history : List Triple) where
             let passed = rows-for modes history (take head labels) in
             put
             ∙ rw (w .written, ← passed-rows, coded, passed-on, rows-append (take head labels) (label ∷ []))
-            (written-behind passed (label ∷ children modes history label) before)
+            (written-behind-front passed (label ∷ children modes history label) before)
 
         pub walking-on : Walking modes history before after queued (head + 1)
         walking-on =

@@ -1,0 +1,5 @@
+-- What document 01 says of the journal's text.
+pub mod Decimal
+pub mod Lines
+pub mod Fields
+pub mod Reading

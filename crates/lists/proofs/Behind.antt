@@ -1,0 +1,79 @@
+-- Parts written one behind the other are one part.
+use mathlib.Core.Path.{_≡_, refl, ap, _∙_, sym}
+use mathlib.Core.List.{List, [], _∷_, _++_, append-assoc, append-nil}
+use Prim.Native.Nat.{ℕ, _+_, _-_, _<_, _≤_}
+use native.Mathlib.Nat.{zero-add}
+use native.Mathlib.Numerals.{add-one}
+use native.Mathlib.Omega.{arith}
+use borrow.Rule.Slice.PartMut.{putMid}
+use lib.ListN.{length, set, take, drop, length-append, length-drop, drop-of-length-le}
+use lib.Seq.{set-split, sets, sets-eq, drop-drop, drop-append-add, take-at, length-take-le}
+use Rattle.lists.specs.Written.{written-at}
+use Rattle.lists.proofs.Written.{length-written, drop-written}
+use Rattle.lists.proofs.Steps.{part-to-end}
+
+module _ {A : Type 0} where
+  pub set-written : (s : List A) (i : ℕ) (v : A) → i < length s → set s i v ≡ written-at i (v ∷ []) s
+  unfolding written-at
+  set-written s i v h = rw (add-one i) (set-split s i v h)
+
+  -- Stores one behind the other.
+  pub sets-written : (place : ℕ) (part s : List A) → place + length part ≤ length s → sets s place part ≡ written-at place part s
+  unfolding written-at
+  sets-written place part s h = sets-eq part s place h ∙ append-assoc (take place s) part (drop (place + length part) s)
+
+  -- What is left of a list lent from a place on, with a part written over its front.
+  pub rest-written : (place : ℕ) (part s : List A) → place ≤ length s
+      → putMid place (length s - place) s (written-at 0 part (take (length s - place) (drop place s))) ≡ written-at place part s
+  unfolding written-at
+  rest-written place part s h =
+      rw (
+        part-to-end s place,
+        zero-add (length part),
+        drop-drop (length part) place s,
+        drop-of-length-le (drop place s) {i = length s - place} (simp length-drop (omega arith)),
+        append-nil (part ++ drop (place + length part) s),
+      )
+
+  pub written-behind : (place : ℕ) (p q s : List A) → place + length p ≤ length s
+      → written-at (place + length p) q (written-at place p s) ≡ written-at place (p ++ q) s
+  unfolding written-at
+  written-behind place p q s h =
+      let front = take place s ++ p in
+      let l : length front ≡ place + length p =
+      length-append (take place s) p ∙ ap (λ n. n + length p) (length-take-le place s (omega arith)) in
+      let e : place + length p + length q ≡ place + length (p ++ q) = omega (arith, length-append p q) in
+      let near : take (place + length p) (written-at place p s) ≡ front =
+      ap (take (place + length p)) (sym (append-assoc (take place s) p (drop (place + length p) s)))
+      ∙ take-at front (drop (place + length p) s) (place + length p) l in
+      let far : drop (place + length p + length q) (written-at place p s) ≡ drop (place + length (p ++ q)) s =
+      drop-written place p s h (place + length p + length q) (omega arith) ∙ ap (λ n. drop n s) e in
+      both near far
+      ∙ append-assoc (take place s) p (q ++ drop (place + length (p ++ q)) s)
+      ∙ ap (λ l. take place s ++ l) (sym (append-assoc p q (drop (place + length (p ++ q)) s)))
+    where
+      both : {a b c d : List A} → a ≡ b → c ≡ d → a ++ (q ++ c) ≡ b ++ (q ++ d)
+      both e f = rw (e, f)
+
+  -- A part written over the front of what was lent from a place on, and one element stored behind it.
+  pub written-and-one : (place : ℕ) (part : List A) (mark : A) (s : List A) → place + (length part + 1) ≤ length s
+      → set (putMid place (length s - place) s (written-at 0 part (take (length s - place) (drop place s)))) (place + length part) mark
+      ≡ written-at place (part ++ (mark ∷ [])) s
+  written-and-one place part mark s h =
+      rw (rest-written place part s (omega arith))
+      (set-written (written-at place part s) (place + length part) mark (rw (length-written place part s (omega arith)) (omega arith))
+      ∙ written-behind place part (mark ∷ []) s (omega arith))
+
+  -- At the front there is always room.
+  pub written-behind-front : (p q s : List A) → written-at (length p) q (written-at 0 p s) ≡ written-at 0 (p ++ q) s
+  unfolding written-at
+  written-behind-front p q s =
+      rw (
+        zero-add (length p),
+        zero-add (length (p ++ q)),
+        take-at p (drop (length p) s) (length p) refl,
+        drop-append-add p (drop (length p) s) (length q),
+        drop-drop (length q) (length p) s,
+        length-append p q,
+      )
+      (sym (append-assoc p q (drop (length p + length q) s)))
