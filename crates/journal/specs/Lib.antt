@@ -3,3 +3,5 @@ pub mod Decimal
 pub mod Lines
 pub mod Fields
 pub mod Reading
+pub mod Obeying
+pub mod Writing
