@@ -1,6 +1,8 @@
-// What the benchmark calls from Rust: a HATT run on lent rows, its greedy weight alone.
+// What the tests call from Rust: a HATT run's greedy weight, and what the tree calls answer.
 use terms::given;
 use terms::given::Checked;
+use tree::TreeChecked;
+use tree::TreeWeighed;
 
 // The greedy weight of the terms, reduced where they stand; u64's largest where they are refused.
 #[no_mangle]
@@ -16,4 +18,46 @@ pub extern "C" fn bench_hatt(modes: usize, rows: &mut [u16]) -> u64 {
     };
     let run = merging::run::fresh(modes, live).finished(rows);
     run.weight as u64
+}
+
+// What the check of a tree answers: its refusal's number and place, and a zero; nothing where there is no room.
+#[no_mangle]
+pub extern "C" fn bench_check_tree(modes: usize, tree: &[u16], answer: &mut [u64]) {
+    match tree::check_tree(modes, tree) {
+        TreeChecked::Accepted => put(answer, 0, 0, 0),
+        TreeChecked::Refused(refusal) => {
+            put(
+                answer,
+                refusal::number(refusal) as u64,
+                refusal::place(refusal) as u64,
+                0,
+            )
+        }
+    }
+}
+
+// What the tree weight answers: its refusal's number and place, and the weight; nothing where there is no room.
+#[no_mangle]
+pub extern "C" fn bench_tree_weight(modes: usize, tree: &[u16], terms: &[u16], answer: &mut [u64]) {
+    match tree::weight::tree_weight(modes, tree, terms) {
+        TreeWeighed::Weight(weight) => put(answer, 0, 0, weight),
+        TreeWeighed::Unweighed(refusal) => {
+            put(
+                answer,
+                refusal::number(refusal) as u64,
+                refusal::place(refusal) as u64,
+                0,
+            )
+        }
+    }
+}
+
+// Three numbers, where there is room for them.
+fn put(answer: &mut [u64], first: u64, second: u64, third: u64) {
+    if answer.len() != 3 {
+        return;
+    }
+    answer[0] = first;
+    answer[1] = second;
+    answer[2] = third;
 }

@@ -7,3 +7,4 @@ mod trees;
 pub use random::Random;
 pub use terms::{any_terms, flat, terms, Shape, SHAPES};
 pub use trees::{any_tree, permute_labels, tree, tree_of_rows, Growth, ABSENT, GROWTHS};
+pub use trees::{change_length, exchange_codes, replace_code};

@@ -112,3 +112,30 @@ fn z_end(tree: &[u16], modes: usize, slot: usize) -> usize {
     }
     end
 }
+
+/// The tree with one code replaced by any of its own or by one that no tree has.
+pub fn replace_code(random: &mut Random, mut tree: Vec<u16>) -> Vec<u16> {
+    let at = random.below(tree.len());
+    let most = tree.len() as u16;
+    let any = random.below(tree.len() + 1) as u16;
+    tree[at] = random.one_of(&[any, any, any, most, 256, 65534, ABSENT]);
+    tree
+}
+
+/// The tree with one to three pairs of codes exchanged.
+pub fn exchange_codes(random: &mut Random, mut tree: Vec<u16>) -> Vec<u16> {
+    for _ in 0..random.between(1, 3) {
+        let (at, other) = (random.below(tree.len()), random.below(tree.len()));
+        tree.swap(at, other);
+    }
+    tree
+}
+
+/// The tree a code too long or too short.
+pub fn change_length(random: &mut Random, mut tree: Vec<u16>) -> Vec<u16> {
+    match random.below(2) {
+        0 => drop(tree.pop()),
+        _ => tree.push(random.below(tree.len()) as u16),
+    }
+    tree
+}

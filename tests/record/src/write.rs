@@ -2,6 +2,7 @@
 
 use crate::assign_cases::AssignCase;
 use crate::hatt_cases::HattCase;
+use crate::tree_cases::TreeCase;
 use cases::ABSENT;
 
 /// Writes a HATT case: modes, terms, weight and the rows in their order.
@@ -27,6 +28,22 @@ pub fn assign_case(text: &mut String, case: &AssignCase, answer: &(Vec<u16>, usi
     line(text, "weight", &[weight.to_string()]);
     for (label, children) in table.chunks(3).enumerate() {
         node_line(text, label, children);
+    }
+}
+
+/// Writes a tree case: modes, tree, terms, and the tree weight or the refusal with its place.
+pub fn tree_case(text: &mut String, case: &TreeCase, answer: &Result<u64, plain::Refusal>) {
+    line(text, "modes", &[case.modes.to_string()]);
+    for children in case.tree.chunks(3) {
+        line(text, "tree", &codes(children));
+    }
+    term_lines(text, &case.terms);
+    match answer {
+        Ok(weight) => line(text, "weight", &[weight.to_string()]),
+        Err(refusal) => {
+            let fields = [refusal.number.to_string(), refusal.place.to_string()];
+            line(text, "refused", &fields);
+        }
     }
 }
 
