@@ -13,3 +13,4 @@ pub mod LinesJoined
 pub mod TextLengths
 pub mod TextLines
 pub mod LineRead
+pub mod ObeyGreedy
