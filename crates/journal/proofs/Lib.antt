@@ -14,3 +14,5 @@ pub mod TextLengths
 pub mod TextLines
 pub mod LineRead
 pub mod ObeyGreedy
+pub mod GreedyLines
+pub mod Demand3
