@@ -16,3 +16,4 @@ pub mod LineRead
 pub mod ObeyGreedy
 pub mod GreedyLines
 pub mod Demand3
+pub mod Obedience
