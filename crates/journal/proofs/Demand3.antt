@@ -56,7 +56,7 @@ module _ (modes : ℕ) (terms : List (List ℕ)) (j : ℕ) (h : j ≤ modes) whe
   reached-trials = trials-total modes terms (modes - length reached) reached reached-lawful (omega (arith, length-reached))
 
 -- Every step and child is below 3n, and a line holds numbers up to 65535.
-module _ (modes count : ℕ) (terms : List (List ℕ)) (few : 3 * modes ≤ 65536) (light : length terms ≤ 65535) (counted : length terms ≡ count) where
+module _ (modes count : ℕ) (terms : List (List ℕ)) (few : 3 * modes ≤ 65535) (light : length terms ≤ 65535) (counted : length terms ≡ count) where
   abbrev texts : List (List ℕ)
   texts = unbroken-lines modes count terms
 

@@ -39,7 +39,7 @@ module _ (modes : ℕ) (terms : List (List ℕ)) where
       omega (arith, weight-at-most triple (rows-after modes terms history), rows-fewer modes terms history)
 
   -- A step and its entities are below 3n, which is what the numbers of a line must hold.
-  module _ (few : 3 * modes ≤ 65536) where
+  module _ (few : 3 * modes ≤ 65535) where
     open-fits : (history : List Triple) (entity : ℕ) → length history < modes → is-open modes history entity ≡ true → entity ≤ 65535
     unfolding next-parent
     open-fits history entity left o = omega (arith, open-below modes history entity o)
