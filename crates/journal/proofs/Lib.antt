@@ -15,5 +15,5 @@ pub mod TextLines
 pub mod LineRead
 pub mod ObeyGreedy
 pub mod GreedyLines
-pub mod Demand3
+pub mod CutAndResumed
 pub mod Obedience

@@ -7,9 +7,9 @@ use native.Mathlib.Omega.{arith}
 use borrow.Author.Tests.{eq-eqb}
 use lib.ListN.{length, take, length-take}
 use Rattle.terms.specs.declared.row.Triple.{Triple}
-use Rattle.merging.specs.History.{rows-after}
 use Rattle.merging.specs.Lawful.{LawfulHistory}
 use Rattle.merging.specs.Run.{greedy, finished, run-weight, trials}
+use Rattle.merging.specs.Flatpack.{flatpack}
 use Rattle.merging.specs.Trials.{trial-total}
 use Rattle.merging.proofs.RunLawful.{greedy-lawful, greedy-length}
 use Rattle.merging.proofs.TrialTotals.{trials-total}
@@ -30,7 +30,7 @@ pub record Resumes (modes count : ℕ) (terms : List (List ℕ)) (bytes : List �
   pub lawful : LawfulHistory modes history
   pub within : length history ≤ modes
   pub same-end : finished modes terms history ≡ finished modes terms []
-  pub same-rows : rows-after modes terms (finished modes terms history) ≡ rows-after modes terms (finished modes terms [])
+  pub same-rows : flatpack modes (finished modes terms history) ≡ flatpack modes (finished modes terms [])
   pub same-weight : run-weight modes terms (finished modes terms history) ≡ run-weight modes terms (finished modes terms [])
   pub same-bytes : kept-of bytes ++ new-text modes count terms (length (kept-of bytes)) history ≡ unbroken modes count terms
   pub trials-are : trials modes terms (modes - length history) history ≡ trial-total (modes - length history)
@@ -96,7 +96,7 @@ module _ (modes count : ℕ) (terms : List (List ℕ)) (few : 3 * modes ≤ 6553
           lawful = reached-lawful modes terms (whole - 1) merges-within;
           within = omega (arith, size, merges-within);
           same-end = end;
-          same-rows = ap (rows-after modes terms) end;
+          same-rows = ap (flatpack modes) end;
           same-weight = ap (run-weight modes terms) end;
           same-bytes =
               ap (λ kept. kept ++ new-text modes count terms (length kept) (greedy modes terms (whole - 1) [])) cut-kept
