@@ -17,3 +17,4 @@ pub mod ObeyGreedy
 pub mod GreedyLines
 pub mod CutAndResumed
 pub mod Obedience
+pub mod Examples
