@@ -17,4 +17,6 @@ pub mod ObeyGreedy
 pub mod GreedyLines
 pub mod CutAndResumed
 pub mod Obedience
+pub mod ObeyedText
+pub mod JournalRoom
 pub mod Examples

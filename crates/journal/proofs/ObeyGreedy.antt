@@ -31,6 +31,12 @@ rows-fewer modes terms [] = omega arith
 rows-fewer modes terms (merge ∷ history) =
     omega (arith, fewer-terms merge (next-parent modes history) (rows-after modes terms history), rows-fewer modes terms history)
 
+-- While a step is left, every open entity is below 3n.
+pub open-within : (modes : ℕ) (history : List Triple) (entity : ℕ) → length history < modes → is-open modes history entity ≡ true
+    → entity < 3 * modes
+unfolding next-parent
+open-within modes history entity left o = omega (arith, open-below modes history entity o)
+
 module _ (modes : ℕ) (terms : List (List ℕ)) where
   -- So no weight is more than the terms are.
   pub weight-within : (history : List Triple) (triple : Triple) → weight-in modes terms history triple ≤ length terms
@@ -40,10 +46,6 @@ module _ (modes : ℕ) (terms : List (List ℕ)) where
 
   -- A step and its entities are below 3n, which is what the numbers of a line must hold.
   module _ (few : 3 * modes ≤ 65535) where
-    open-fits : (history : List Triple) (entity : ℕ) → length history < modes → is-open modes history entity ≡ true → entity ≤ 65535
-    unfolding next-parent
-    open-fits history entity left o = omega (arith, open-below modes history entity o)
-
     module _ (history : List Triple) (merge : Triple) (left : length history < modes) (lawful : Lawful modes history merge)
         (light : weight-in modes terms history merge ≤ 65535) where
       abbrev says : MergeLine
@@ -52,8 +54,9 @@ module _ (modes : ℕ) (terms : List (List ℕ)) where
       pub line-read : merge-of-line (line-of modes terms history merge) ≡ MergeIs says
       unfolding line-of
       line-read =
-          merge-read says (omega arith) (open-fits history (merge .x) left (lawful .x-open))
-          (open-fits history (merge .y) left (lawful .y-open)) (open-fits history (merge .z) left (lawful .z-open)) light
+          merge-read says (omega arith) (omega (arith, open-within modes history (merge .x) left (lawful .x-open)))
+          (omega (arith, open-within modes history (merge .y) left (lawful .y-open)))
+          (omega (arith, open-within modes history (merge .z) left (lawful .z-open))) light
 
       pub line-obeyed : (line : ℕ) → obeyed-line modes terms history line (line-of modes terms history merge) ≡ went (merge ∷ history)
       unfolding obeyed-line obeyed-form obeyed-merge is-lawful
