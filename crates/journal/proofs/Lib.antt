@@ -1,4 +1,4 @@
--- The laws of the journal's text.
+-- The laws of the journal: its text, obeying it, and what a run writes.
 pub mod Numerals
 pub mod DecimalRead
 pub mod FieldRead
@@ -13,6 +13,10 @@ pub mod LinesJoined
 pub mod TextLengths
 pub mod TextLines
 pub mod LineRead
+pub mod MergeObeyed
+pub mod LineObeyed
+pub mod LinesObeyed
+pub mod JournalObeyed
 pub mod ObeyGreedy
 pub mod GreedyLines
 pub mod CutAndResumed

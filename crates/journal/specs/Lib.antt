@@ -4,4 +4,5 @@ pub mod Lines
 pub mod Fields
 pub mod Reading
 pub mod Obeying
+pub mod Promises
 pub mod Writing

@@ -3,4 +3,5 @@ pub mod header;
 pub mod lookup;
 pub mod merge_line;
 pub mod numbers;
+pub mod obeying;
 pub mod writing;

@@ -1,0 +1,105 @@
+-- The first state holds the call's terms; the first line is the header, and the others are obeyed from there.
+use mathlib.Core.Path.{sym}
+use native.Mathlib.Omega.{arith}
+use borrow.Author.Needs.{needs}
+use lib.Seq.{length-take-le}
+use Rattle.terms.specs.Rows.{terms-of}
+use Rattle.journal.proofs.LineSteps.{lines-none}
+use Rattle.journal.proofs.JournalObeyed.{text-begins, nothing-to-obey, header-refused, lines-behind}
+use Rattle.journal.proofs.obeying.obey.Statement.{statement}
+use Rattle.journal.proofs.obeying.obey.Tie as tie
+
+fresh-requires : tie.Need-fresh-requires
+fresh-requires c κs = search needs
+
+line-end-requires : tie.Need-line-end-requires
+line-end-requires c κs = search needs
+
+returns : tie.Need-returns
+returns c =
+    let start = c .before .before .before .before .before in
+    let rows = start .args .rows .now in
+    let read = start .args .read .now in
+    let modes = start .args .modes in
+    let live = start .args .live in
+    let fresh = c .before .before .fresh in
+    let first = fresh .ensures rows (start .pre .1) in
+    let end = c .before .line-end in
+    nothing-to-obey 769 256 modes live (terms-of 8 live rows) rows read (fresh .result) (first .0) (first .1) (first .3) (first .2)
+    (lines-none read 0 (end .result) (end .ensures .0) (c .if1 .taken))
+
+slice-aggregate-obey-header : tie.Need-slice-aggregate-obey-header
+slice-aggregate-obey-header c =
+    let end = c .before .before .line-end in
+    sym (length-take-le (end .result) (c .before .before .before .before .before .before .args .read .now) (end .ensures .1))
+
+obey-header-requires : tie.Need-obey-header-requires
+obey-header-requires c κs = search needs
+
+enum-known-why : tie.Need-enum-known-why
+enum-known-why c = search needs
+
+returns-2 : tie.Need-returns-2
+returns-2 c =
+    let start = c .before .before .before .before .before .before .before .before .before .before in
+    let rows = start .args .rows .now in
+    let read = start .args .read .now in
+    let modes = start .args .modes in
+    let live = start .args .live in
+    let fresh = c .before .before .before .before .before .before .before .fresh in
+    let first = fresh .ensures rows (start .pre .1) in
+    let end = c .before .before .before .before .before .before .line-end in
+    let next = text-begins read (end .result) (end .ensures .0) (c .before .before .before .before .before .if1 .left) in
+    header-refused 769 256 modes live (terms-of 8 live rows) rows read (fresh .result) (first .0) (first .1) (first .3) _ _ next
+    _ (c .before .before .before .obey-header .ensures (fresh .result) (first .2)) _ (c .before .why .given .1)
+
+enum-told : tie.Need-enum-told
+enum-told c = search needs
+
+obey-lines-requires : tie.Need-obey-lines-requires
+obey-lines-requires c κs =
+    let start = c .before .before .before .before .before .before .before .before .before .before in
+    let rows = start .args .rows .now in
+    let read = start .args .read .now in
+    let modes = start .args .modes in
+    let live = start .args .live in
+    let fresh = c .before .before .before .before .before .before .before .fresh in
+    let first = fresh .ensures rows (start .pre .1) in
+    let end = c .before .before .before .before .before .before .line-end in
+    let more = c .before .before .before .before .before .if1 .left in
+    ((terms-of 8 live rows, first .0), (omega arith, end .ensures .1))
+
+same-length : tie.Need-same-length
+same-length c = search needs
+
+returns-3 : tie.Need-returns-3
+returns-3 c =
+    let start = c .before .before .before .before .before .before .before .before .before .before .before .before .before in
+    let rows = start .args .rows .now in
+    let read = start .args .read .now in
+    let modes = start .args .modes in
+    let live = start .args .live in
+    let fresh = c .before .before .before .before .before .before .before .before .before .before .fresh in
+    let first = fresh .ensures rows (start .pre .1) in
+    let end = c .before .before .before .before .before .before .before .before .before .line-end in
+    let next = text-begins read (end .result) (end .ensures .0) (c .before .before .before .before .before .before .before .before .if1 .left) in
+    let obeyed = c .before .before .obey-lines in
+    lines-behind 769 256 modes live (terms-of 8 live rows) rows read (fresh .result) (first .0) (first .1) (first .3) _ _ next
+    _ (c .before .before .before .before .before .before .obey-header .ensures (fresh .result) (first .2)) (c .before .before .before .before .enum-told .given .1) (obeyed .last .1 .0) (obeyed .result)
+    (obeyed .ensures (terms-of 8 live rows) (first .0))
+
+pub obey-spec : {M : Type 1} → statement M
+obey-spec =
+    tie.close
+    (tie.spec
+    fresh-requires
+    line-end-requires
+    returns
+    slice-aggregate-obey-header
+    obey-header-requires
+    enum-known-why
+    returns-2
+    enum-told
+    obey-lines-requires
+    same-length
+    returns-3)
