@@ -44,6 +44,7 @@ use Rattle.journal.specs.Obeying.{
   obeyed-texts,
   obeyed,
 }
+use Rattle.journal.proofs.LinesObeyed.{refused-stays}
 
 -- What refuses does not go on.
 not-went : (refusal : Refusal) (history : List Triple) → refused refusal ≡ went history → ⊥
@@ -97,11 +98,6 @@ module _ (modes : ℕ) (terms : List (List ℕ)) where
   line-added history line bytes after e =
       let room = passed (ltb (length history) modes) _ (LineAfterLast line) after e in
       form-added history line after (ltb-true (length history) modes (room .0)) (merge-of-line bytes) (room .1)
-
-  stays-refused : (line : ℕ) (refusal : Refusal) (texts : List (List ℕ)) → obeyed-lines modes terms line (refused refusal) texts ≡ refused refusal
-  unfolding obeyed-lines obeyed-next
-  stays-refused line refusal [] = refl
-  stays-refused line refusal (text ∷ rest) = stays-refused (suc line) refusal rest
 
 -- Three zeros, where there is no such merge.
 abbrev pub no-merge : Triple
@@ -191,7 +187,7 @@ module _ (modes : ℕ) (terms : List (List ℕ)) where
           let longer = ap length (one .adds) in
           let good : LawfulHistory modes next = rw (one .adds) (one .lawful, lawful) in
           one-and-all history text rest next after one (ahead next good (omega (arith, longer, one .left)) g)
-      go (refused refusal) f g ahead = absurd (not-went refusal after (sym (stays-refused modes terms (suc line) refusal rest) ∙ g))
+      go (refused refusal) f g ahead = absurd (not-went refusal after (sym (refused-stays modes terms (suc line) refusal rest) ∙ g))
 
 -- The i-th merge of a history, counted from its oldest, and the merges before it.
 abbrev pub merge-of-step : List Triple → ℕ → Triple
@@ -257,7 +253,7 @@ module _ (modes count : ℕ) where
             let head = header-obeyed (header-of first) start f in
             let fresh : obeyed-lines modes terms 1 (went []) rest ≡ went history = rw (head .1) at g in
             rest-obedient first rest history (head .0) (all-added modes terms rest 1 [] history tt (omega arith) fresh)
-        go (refused refusal) f g = absurd (not-went refusal history (sym (stays-refused modes terms 1 refusal rest) ∙ g))
+        go (refused refusal) f g = absurd (not-went refusal history (sym (refused-stays modes terms 1 refusal rest) ∙ g))
 
     pub obedient : (bytes : List ℕ) (history : List Triple) → obeyed modes count terms bytes ≡ went history
         → Obedient modes count terms (lines bytes) history
