@@ -1,4 +1,6 @@
-// What the tests call from Rust: a HATT run's greedy weight, and what the tree calls answer.
+// What the tests call from Rust: a HATT run's greedy weight, what obeying a journal comes to, and what the tree calls answer.
+use journal::obeying;
+use journal::obeying::Verdict;
 use terms::given;
 use terms::given::Checked;
 use tree::TreeChecked;
@@ -18,6 +20,34 @@ pub extern "C" fn bench_hatt(modes: usize, rows: &mut [u16]) -> u64 {
     };
     let run = merging::run::fresh(modes, live).finished(rows);
     run.weight as u64
+}
+
+// What a journal comes to: its refusal's number and place, and the greedy weight of the run that goes on from it; nothing where the terms are refused.
+#[no_mangle]
+pub extern "C" fn bench_obey(modes: usize, rows: &mut [u16], read: &[u8], answer: &mut [u64]) {
+    if modes < 1 {
+        return;
+    }
+    if 256 < modes {
+        return;
+    }
+    let Checked::Good(live) = given::check_terms(modes, rows) else {
+        return;
+    };
+    let found = obeying::obey(modes, live, rows, read);
+    let verdict = found.verdict;
+    let run = found.run.finished(rows);
+    match verdict {
+        Verdict::Fine => put(answer, 0, 0, run.weight as u64),
+        Verdict::Refused(refusal) => {
+            put(
+                answer,
+                refusal::number(refusal) as u64,
+                refusal::place(refusal) as u64,
+                0,
+            )
+        }
+    }
 }
 
 // What the check of a tree answers: its refusal's number and place, and a zero; nothing where there is no room.

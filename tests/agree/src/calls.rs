@@ -1,5 +1,6 @@
-//! The plain program's calls with marked slices: what a call must leave alone is looked over after every one.
+//! The plain program's calls with marked slices: what a call must leave alone is looked over after every one, and every journal is given to the proved library too.
 
+use crate::proved;
 use crate::tally::equal;
 use plain::{Done, Refusal};
 
@@ -17,7 +18,7 @@ pub struct Finished {
     pub new: Vec<u8>,
 }
 
-/// Resumes. The outer error says that an element was altered which should not have been.
+/// Resumes. The outer error says that an element was altered which should not have been, or that the proved library obeys otherwise.
 pub fn resume(
     modes: usize,
     terms: &[u16],
@@ -27,6 +28,11 @@ pub fn resume(
     let mut rows = vec![MARK; 4 * modes + BEYOND];
     let mut journal = vec![BYTE_MARK; 16 + 21 * modes + BEYOND];
     let answer = plain::resume(modes, terms, read, &mut work, &mut rows, &mut journal);
+    let numbers = match answer {
+        Ok(done) => [0, 0, done.weight],
+        Err(refusal) => [u64::from(refusal.number), refusal.place as u64, 0],
+    };
+    equal("obeyed alike", proved::obey(modes, terms, read), numbers)?;
     let (written, new) = match answer {
         Ok(done) => (1, done.new),
         Err(_) => (0, 0),

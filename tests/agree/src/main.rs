@@ -1,10 +1,11 @@
-//! Compares the plain program with the oracle on seeded inputs, and its journals with themselves; prints counts by kind.
+//! Compares the plain program with the oracle on seeded inputs, and its journals with themselves and the proved library; prints counts by kind.
 
 mod calls;
 mod cuts;
 mod damage;
 mod invariants;
 mod judge;
+mod proved;
 mod rust;
 mod tally;
 
