@@ -132,15 +132,6 @@ module _ (number : ℕ) (h : number ≤ 65535) where
   pub decimal-is-number : is-number (decimal number) ≡ true
   decimal-is-number = is-numeral (decimal number) decimal-numeral
 
--- Any number's text has 1 to 5 digits.
-pub decimal-some : (number : ℕ) → 1 ≤ length (decimal number)
-unfolding decimal
-decimal-some number = some-digits 4 number
-
-pub decimal-short : (number : ℕ) → length (decimal number) ≤ 5
-unfolding decimal
-decimal-short number = length-digits 5 number
-
 -- The last of some bytes, and those before it.
 module _ (l : List ℕ) (some : 1 ≤ length l) where
   pub parted : l ≡ take (length l - 1) l ++ (getD l (length l - 1) 0 ∷ [])

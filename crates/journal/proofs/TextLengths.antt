@@ -11,7 +11,6 @@ use Rattle.terms.specs.declared.row.Triple.{Triple}
 use Rattle.journal.specs.Decimal.{digits, decimal}
 use Rattle.journal.specs.Fields.{header-text, merge-text}
 use Rattle.journal.proofs.Digits.{length-digits-one, length-digits-more}
-use Rattle.journal.proofs.DecimalRead.{decimal-short}
 use Rattle.journal.proofs.Texts.{length-header, length-merge}
 
 digits-below : (more k number : ℕ) → number < 10 ^ suc k → length (digits more number) ≤ suc k
@@ -32,22 +31,6 @@ digits-below (suc more) k number h = go (ltb number 10) refl k h (λ j. digits-b
 pub few-digits : (k number : ℕ) → number < 10 ^ suc k → length (decimal number) ≤ suc k
 unfolding decimal
 few-digits k number h = digits-below 5 k number h
-
--- Any lines.
-pub merge-within : (step : ℕ) (triple : Triple) (weight : ℕ) → length (merge-text step triple weight) ≤ 30
-merge-within step triple weight =
-    omega (
-      arith,
-      length-merge step triple weight,
-      decimal-short step,
-      decimal-short (triple .x),
-      decimal-short (triple .y),
-      decimal-short (triple .z),
-      decimal-short weight,
-    )
-
-pub header-within : (modes terms : ℕ) → length (header-text modes terms) ≤ 19
-header-within modes terms = omega (arith, length-header modes terms, decimal-short modes, decimal-short terms)
 
 -- The lines of a run: "journal bytes 16 + 21n".
 pub header-short : (modes terms : ℕ) → modes < 1000 → terms < 10000 → length (header-text modes terms) ≤ 16
