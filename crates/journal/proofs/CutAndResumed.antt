@@ -1,4 +1,4 @@
--- "The journal of an unbroken run, cut before or after any byte and resumed with the same modes and terms, ends in the same rows and weight, and kept bytes followed by new ones are the unbroken journal."
+-- An unbroken run's journal, cut after any byte, is obeyed and resumed to the same end.
 use mathlib.Core.Path.{_≡_, refl, ap, _∙_, sym}
 use mathlib.Core.List.{List, [], _++_, flatMap}
 use Prim.Native.Nat.{ℕ, zero, suc, _+_, _-_, _*_, _≤_}
@@ -13,27 +13,14 @@ use Rattle.merging.specs.Flatpack.{flatpack}
 use Rattle.merging.specs.Trials.{trial-total}
 use Rattle.merging.proofs.RunLawful.{greedy-lawful, greedy-length}
 use Rattle.merging.proofs.TrialTotals.{trials-total}
-use Rattle.journal.specs.Lines.{lines, kept-of, whole-in}
+use Rattle.journal.specs.Lines.{lines, kept-of}
 use Rattle.journal.specs.Obeying.{went, obeyed, obeyed-texts, obeyed-header}
 use Rattle.journal.specs.Writing.{new-text, unbroken}
-use Rattle.journal.proofs.LinesJoined.{lines-cut, kept-cut, whole-within}
+use Rattle.journal.specs.CutAndResumed.{Resumes}
+use Rattle.journal.proofs.LinesJoined.{whole-in, lines-cut, kept-cut, whole-within}
 use Rattle.journal.proofs.LineRead.{header-read}
 use Rattle.journal.proofs.ObeyGreedy.{greedy-obeyed}
 use Rattle.journal.proofs.GreedyLines.{greedy-on, unbroken-lines, unbroken-joined, unbroken-are-lines, length-unbroken-lines, kept-and-new}
-
--- Bytes that are obeyed to a history, one merge for each line behind the header, from where a run goes on to the end of an unbroken one.
-pub record Resumes (modes count : ℕ) (terms : List (List ℕ)) (bytes : List ℕ) : Type 0 where
-  pub history : List Triple
-  pub obeys : obeyed modes count terms bytes ≡ went history
-  pub a-line-each : length history ≡ length (lines bytes) - 1
-  pub as-unbroken : history ≡ greedy modes terms (length history) []
-  pub lawful : LawfulHistory modes history
-  pub within : length history ≤ modes
-  pub same-end : finished modes terms history ≡ finished modes terms []
-  pub same-rows : flatpack modes (finished modes terms history) ≡ flatpack modes (finished modes terms [])
-  pub same-weight : run-weight modes terms (finished modes terms history) ≡ run-weight modes terms (finished modes terms [])
-  pub same-bytes : kept-of bytes ++ new-text modes count terms (length (kept-of bytes)) history ≡ unbroken modes count terms
-  pub trials-are : trials modes terms (modes - length history) history ≡ trial-total (modes - length history)
 
 -- The history that an unbroken run has reached after some steps.
 module _ (modes : ℕ) (terms : List (List ℕ)) (j : ℕ) (h : j ≤ modes) where

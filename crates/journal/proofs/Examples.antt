@@ -1,7 +1,7 @@
 -- Document 01's examples P5 to P7, byte for byte: what obeying each journal comes to, and what a run then writes. One table, one claim.
 use mathlib.Core.Path.{_≡_, refl}
 use mathlib.Core.Bool.{Bool, true, _&&_}
-use mathlib.Core.List.{List, [], _∷_, _++_, map, flatMap}
+use mathlib.Core.List.{List, [], _∷_, _++_, flatMap}
 use Prim.Native.Nat.{ℕ, _+_}
 use lib.ListN.{length}
 use Rattle.lists.specs.Members.{every, keep, some-of, alike, firsts, firsts-after}
@@ -9,7 +9,6 @@ use Rattle.lists.specs.Counting.{sum, same, occurrences}
 use Rattle.lists.specs.Ranges.{listed}
 use Rattle.lists.specs.Least.{least, lighter}
 use Rattle.refusal.specs.Numbers.{numberOf, placeOf}
-use Rattle.terms.specs.declared.row.Triple.{Triple}
 use Rattle.terms.specs.Weight.{weight-of, term-weight, odd-ones}
 use Rattle.terms.specs.Reduction.{reduction, rewriting, sorted, put-in, replacement, dropped}
 use Rattle.merging.specs.History.{next-parent, among, is-open, z-end, holder, rows-after}

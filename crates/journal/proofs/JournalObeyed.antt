@@ -13,7 +13,7 @@ use Rattle.journal.specs.declared.obeying.Verdict.{Verdict}
 use Rattle.journal.specs.declared.obeying.Verdict.the-variants.{Fine, Refused}
 use Rattle.journal.specs.Fields.{header-of}
 use Rattle.journal.specs.Lines.{lines, first-line}
-use Rattle.journal.specs.Obeying.{Obeyed, went, refused, obeyed-header, obeyed-lines, obeyed-texts, obeyed}
+use Rattle.journal.specs.Obeying.{Obeyed, went, obeyed-header, obeyed-lines, obeyed-texts, obeyed}
 use Rattle.journal.specs.Promises.{came-to, Obeys}
 use Rattle.journal.proofs.MergeObeyed.{refuses, stays}
 use Rattle.journal.proofs.LineSteps.{lines-next}

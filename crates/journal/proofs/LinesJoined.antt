@@ -10,7 +10,7 @@ use lib.ListN.{length, take, length-append}
 use lib.Seq.{take-nil, take-append-seam, take-append-le, take-append-add}
 use Rattle.lists.specs.Members.{every}
 use Rattle.lists.proofs.Every.{every-cons, every-uncons, every-append}
-use Rattle.journal.specs.Lines.{lines, lines-after, kept-of, is-line, whole-in}
+use Rattle.journal.specs.Lines.{lines, lines-after, kept-of, is-line}
 
 -- What is begun behind the last LF, with what was begun before the text.
 unfoldable left-after : List ℕ → List ℕ → List ℕ
@@ -28,11 +28,6 @@ joined-after begun (byte ∷ p) q =
     let next = cond (eqb byte 10) [] (begun ++ (byte ∷ [])) in
     let done : List (List ℕ) = cond (eqb byte 10) ((begun ++ (byte ∷ [])) ∷ []) [] in
     ap (λ l. done ++ l) (joined-after next p q) ∙ sym (append-assoc done (lines-after next p) (lines-after (left-after next p) q))
-
-left-joined : (begun p q : List ℕ) → left-after begun (p ++ q) ≡ left-after (left-after begun p) q
-unfolding left-after
-left-joined begun [] q = refl
-left-joined begun (byte ∷ p) q = left-joined (cond (eqb byte 10) [] (begun ++ (byte ∷ []))) p q
 
 nothing-lost : (begun p : List ℕ) → flatMap (λ line. line) (lines-after begun p) ++ left-after begun p ≡ begun ++ p
 unfolding lines-after left-after flatMap
@@ -59,9 +54,7 @@ module _ (bytes : List ℕ) where
   unfolding kept-of lines
   kept-and-left = nothing-lost [] bytes
 
-  pub kept-within : length (kept-of bytes) ≤ length bytes
-  kept-within = omega (arith, ap length kept-and-left, length-append (kept-of bytes) (left-after [] bytes))
-
+  -- What is kept is the front of the text.
   pub kept-front : take (length (kept-of bytes)) bytes ≡ kept-of bytes
   kept-front = ap (take (length (kept-of bytes))) (sym kept-and-left) ∙ take-append-seam (kept-of bytes) (left-after [] bytes)
 
@@ -69,18 +62,6 @@ module _ (bytes : List ℕ) where
   nothing-left e =
       empty (left-after [] bytes)
       (omega (arith, ap length kept-and-left, ap length e, length-append (kept-of bytes) (left-after [] bytes)))
-
-  all-kept : left-after [] bytes ≡ [] → kept-of bytes ≡ bytes
-  all-kept e = sym (append-nil (kept-of bytes)) ∙ ap (λ l. kept-of bytes ++ l) (sym e) ∙ kept-and-left
-
--- A text that is empty, or ends in LF, is kept whole.
-pub kept-empty : kept-of [] ≡ []
-unfolding kept-of lines lines-after flatMap
-kept-empty = refl
-
-pub kept-ended : (p : List ℕ) → kept-of (p ++ (10 ∷ [])) ≡ p ++ (10 ∷ [])
-unfolding left-after
-kept-ended p = all-kept (p ++ (10 ∷ [])) (left-joined [] p (10 ∷ []))
 
 -- Behind a text that is kept whole another one's lines begin anew.
 pub lines-joined : (p q : List ℕ) → kept-of p ≡ p → lines (p ++ q) ≡ lines p ++ lines q
@@ -147,15 +128,6 @@ lines-of-lines (text ∷ rest) good =
     lines-joined text (flatMap (λ line. line) rest) (kept-line text (parts .0))
     ∙ rw (lines-one text (parts .0)) (ap (λ l. text ∷ l) (lines-of-lines rest (parts .1)))
 
-module _ (bytes : List ℕ) where
-  pub lines-kept : lines (kept-of bytes) ≡ lines bytes
-  unfolding kept-of
-  lines-kept = lines-of-lines (lines bytes) (lines-are-lines bytes)
-
-  pub kept-kept : kept-of (kept-of bytes) ≡ kept-of bytes
-  unfolding kept-of
-  kept-kept = ap (flatMap (λ line. line)) lines-kept
-
 -- A line that is cut is none.
 cut-after : (begun line : List ℕ) (k : ℕ) → is-line line ≡ true → k < length line → lines-after begun (take k line) ≡ []
 unfolding is-line lines-after
@@ -172,6 +144,11 @@ cut-after begun (byte ∷ rest) (suc k) e h = go (eqb byte 10) refl (λ f. cut-a
 pub line-cut : (line : List ℕ) (k : ℕ) → is-line line ≡ true → k < length line → lines (take k line) ≡ []
 unfolding lines
 line-cut line k e h = cut-after [] line k e h
+
+-- How many of the texts, one behind the other, stand whole in so many bytes.
+unfoldable pub whole-in : ℕ → List (List ℕ) → ℕ
+whole-in room [] = 0
+whole-in room (text ∷ rest) = cond (leb (length text) room) (suc (whole-in (room - length text) rest)) 0
 
 -- Lines that are cut after any number of bytes are as many of them as stand whole before the cut.
 pub lines-cut : (texts : List (List ℕ)) (k : ℕ) → every is-line texts ≡ true
@@ -211,31 +188,3 @@ whole-within (text ∷ rest) k = go (leb (length text) k) (whole-within rest (k 
     go : (b : Bool) → whole-in (k - length text) rest ≤ length rest → cond b (suc (whole-in (k - length text) rest)) 0 ≤ suc (length rest)
     go true h = omega arith
     go false h = omega arith
-
--- They fit, and one more would not.
-pub whole-fits : (texts : List (List ℕ)) (k : ℕ) → length (flatMap (λ line. line) (take (whole-in k texts) texts)) ≤ k
-unfolding flatMap whole-in
-whole-fits [] k = omega arith
-whole-fits (text ∷ rest) k = go (leb (length text) k) refl (whole-fits rest (k - length text))
-  where
-    go : (b : Bool) → leb (length text) k ≡ b
-        → length (flatMap (λ line. line) (take (whole-in (k - length text) rest) rest)) ≤ k - length text
-        → length (flatMap (λ line. line) (take (whole-in k (text ∷ rest)) (text ∷ rest))) ≤ k
-    go true e ahead = rw e (simp length-append (omega (arith, leb-true (length text) k e)))
-    go false e ahead = rw e (omega arith)
-
-pub whole-most : (texts : List (List ℕ)) (k : ℕ) → whole-in k texts < length texts
-    → k < length (flatMap (λ line. line) (take (suc (whole-in k texts)) texts))
-unfolding flatMap whole-in
-whole-most [] k h = absurd (omega arith)
-whole-most (text ∷ rest) k h = go (leb (length text) k) refl (whole-most rest (k - length text)) h
-  where
-    go : (b : Bool) → leb (length text) k ≡ b
-        → (whole-in (k - length text) rest < length rest
-        → k - length text < length (flatMap (λ line. line) (take (suc (whole-in (k - length text) rest)) rest)))
-        → whole-in k (text ∷ rest) < length (text ∷ rest)
-        → k < length (flatMap (λ line. line) (take (suc (whole-in k (text ∷ rest))) (text ∷ rest)))
-    go true e ahead h =
-        let more = ahead (let g = rw e at h in omega arith) in
-        rw e (simp length-append (omega (arith, leb-true (length text) k e)))
-    go false e ahead h = rw e (simp length-append (omega (arith, leb-false (length text) k e)))

@@ -23,6 +23,7 @@ use Rattle.refusal.specs.declared.Refusal.the-variants.{
 use Rattle.terms.specs.declared.row.Triple.{Triple}
 use Rattle.merging.specs.Lawful.{Lawful, LawfulHistory, three-open, paired, is-lawful}
 use Rattle.merging.specs.Choice.{weight-in}
+use Rattle.merging.specs.Flatpack.{merge-of}
 use Rattle.merging.proofs.LawfulTest.{test-lawful}
 use Rattle.journal.specs.declared.header.Header.{Header}
 use Rattle.journal.specs.declared.header.Header.the-variants.{Is as HeaderIs, Broken as HeaderBroken}
@@ -44,6 +45,7 @@ use Rattle.journal.specs.Obeying.{
   obeyed-texts,
   obeyed,
 }
+use Rattle.journal.specs.Obedience.{history-before, Obedient}
 use Rattle.journal.proofs.LinesObeyed.{refused-stays}
 
 -- What refuses does not go on.
@@ -100,7 +102,7 @@ module _ (modes : ℕ) (terms : List (List ℕ)) where
       form-added history line after (ltb-true (length history) modes (room .0)) (merge-of-line bytes) (room .1)
 
 -- Three zeros, where there is no such merge.
-abbrev pub no-merge : Triple
+abbrev no-merge : Triple
 no-merge = record { x = 0; y = 0; z = 0 }
 
 -- The i-th of so many newest merges, the oldest of them first, and the merges before it.
@@ -189,28 +191,6 @@ module _ (modes : ℕ) (terms : List (List ℕ)) where
           one-and-all history text rest next after one (ahead next good (omega (arith, longer, one .left)) g)
       go (refused refusal) f g ahead = absurd (not-went refusal after (sym (refused-stays modes terms (suc line) refusal rest) ∙ g))
 
--- The i-th merge of a history, counted from its oldest, and the merges before it.
-abbrev pub merge-of-step : List Triple → ℕ → Triple
-merge-of-step history i = getD history (length history - suc i) no-merge
-
-abbrev pub history-before : List Triple → ℕ → List Triple
-history-before history i = drop (length history - i) history
-
--- Lines that were obeyed to a history: no line at all and no merge, or a header and a line for each merge.
-pub record Obedient (modes count : ℕ) (terms : List (List ℕ)) (texts : List (List ℕ)) (history : List Triple) : Type 0 where
-  pub lawful : LawfulHistory modes history
-  pub within : length history ≤ modes
-  pub a-line-each : length history ≡ length texts - 1
-  pub header : 0 < length texts → header-of (getD texts 0 []) ≡ HeaderIs modes count
-  pub says : (i : ℕ) → i < length history
-      → merge-of-line (getD texts (suc i) [])
-      ≡ MergeIs
-      (record {
-        step = i;
-        triple = merge-of-step history i;
-        weight = weight-in modes terms (history-before history i) (merge-of-step history i);
-      })
-
 module _ (modes count : ℕ) where
   -- A header that was obeyed says the modes and the count of the terms, and no merge.
   header-obeyed : (said : Header) (history : List Triple) → obeyed-header modes count said ≡ went history
@@ -228,6 +208,7 @@ module _ (modes count : ℕ) where
   module _ (terms : List (List ℕ)) where
     rest-obedient : (first : List ℕ) (rest : List (List ℕ)) (history : List Triple) → header-of first ≡ HeaderIs modes count
         → Added-all modes terms [] rest history → Obedient modes count terms (first ∷ rest) history
+    unfolding merge-of
     rest-obedient first rest history h all =
         let size : length rest ≡ length history = omega (arith, all .longer) in
         record {

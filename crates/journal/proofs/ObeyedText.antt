@@ -2,7 +2,7 @@
 use mathlib.Core.Path.{_≡_, refl, sym}
 use mathlib.Core.Bool.{Bool, true, false, true≢false}
 use mathlib.Core.List.{List, [], _∷_}
-use Prim.Native.Nat.{ℕ, zero, suc, _-_, _<_}
+use Prim.Native.Nat.{ℕ, suc, _-_, _<_}
 use native.Mathlib.Omega.{arith}
 use borrow.Author.Tests.{eqb-true}
 use lib.Dec.{eqb}
@@ -10,13 +10,15 @@ use lib.ListN.{length, getD, length-drop}
 use Rattle.lists.proofs.Every.{every-at}
 use Rattle.terms.specs.declared.row.Triple.{Triple}
 use Rattle.merging.specs.Choice.{weight-in}
+use Rattle.merging.specs.Flatpack.{merge-of}
 use Rattle.journal.specs.Lines.{lines, is-line}
 use Rattle.journal.specs.Fields.{header-text}
 use Rattle.journal.specs.Obeying.{went, obeyed}
 use Rattle.journal.specs.Writing.{line-of}
+use Rattle.journal.specs.Obedience.{history-before}
 use Rattle.journal.proofs.LinesJoined.{lines-are-lines}
 use Rattle.journal.proofs.LineRead.{header-written, merge-written}
-use Rattle.journal.proofs.Obedience.{merge-of-step, history-before, obedient}
+use Rattle.journal.proofs.Obedience.{obedient}
 
 -- A line's last byte is its LF.
 line-ends : (line : List ℕ) → is-line line ≡ true → getD line (length line - 1) 0 ≡ 10
@@ -47,11 +49,11 @@ module _ (modes count : ℕ) (terms : List (List ℕ)) (bytes : List ℕ) (histo
       header-written (getD (lines bytes) 0 []) modes count (obedient modes count terms bytes history e .header some) (ends-well 0 some)
 
   pub merge-stands : (i : ℕ) → i < length history
-      → getD (lines bytes) (suc i) [] ≡ line-of modes terms (history-before history i) (merge-of-step history i)
+      → getD (lines bytes) (suc i) [] ≡ line-of modes terms (history-before history i) (merge-of history i)
   unfolding line-of
   merge-stands i h =
       let says = obedient modes count terms bytes history e in
-      let merge = merge-of-step history i in
+      let merge = merge-of history i in
       let before = history-before history i in
       let step : length before ≡ i = omega (arith, length-drop (length history - i) history) in
       rw step

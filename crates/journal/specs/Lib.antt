@@ -6,3 +6,5 @@ pub mod Reading
 pub mod Obeying
 pub mod Promises
 pub mod Writing
+pub mod CutAndResumed
+pub mod Obedience

@@ -1,8 +1,8 @@
 -- "Lines of text, counted from 0, … each ended by LF. … Bytes after the last LF are dropped."
 use mathlib.Core.Bool.{Bool, false, cond}
 use mathlib.Core.List.{List, [], _∷_, _++_, flatMap}
-use Prim.Native.Nat.{ℕ, suc, _-_}
-use lib.Dec.{eqb, leb}
+use Prim.Native.Nat.{ℕ, _-_}
+use lib.Dec.{eqb}
 use lib.ListN.{length, getD}
 
 -- The complete lines of a text, LF included, the first of them begun already.
@@ -31,8 +31,3 @@ found-line kept new line = getD (lines kept ++ lines new) line []
 unfoldable pub is-line : List ℕ → Bool
 is-line [] = false
 is-line (byte ∷ rest) = cond (eqb byte 10) (eqb (length rest) 0) (is-line rest)
-
--- How many of the texts, one behind the other, stand whole in so many bytes.
-unfoldable pub whole-in : ℕ → List (List ℕ) → ℕ
-whole-in room [] = 0
-whole-in room (text ∷ rest) = cond (leb (length text) room) (suc (whole-in (room - length text) rest)) 0

@@ -1,5 +1,5 @@
 -- "Obeyed line by line": from modes, terms and bytes to the history, or the refusal of the first bad line.
-use mathlib.Core.Bool.{Bool, cond, _&&_}
+use mathlib.Core.Bool.{cond, _&&_}
 use mathlib.Core.List.{List, [], _∷_}
 use Prim.Native.Nat.{ℕ, suc}
 use lib.Dec.{eqb, ltb}

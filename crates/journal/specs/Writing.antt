@@ -6,7 +6,6 @@ use lib.Dec.{eqb}
 use lib.ListN.{length}
 use Rattle.terms.specs.declared.row.Triple.{Triple}
 use Rattle.merging.specs.Choice.{weight-in, chosen}
-use Rattle.journal.specs.Lines.{kept-of}
 use Rattle.journal.specs.Fields.{header-text, merge-text}
 
 -- The line of a merge made after a history.

@@ -1,16 +1,13 @@
 -- The first of equals: each is like none before it, and they are no more than there were.
 use mathlib.Core.Path.{_≡_, refl}
-use mathlib.Core.Bool.{Bool, true, false, cond, _||_, true≢false}
+use mathlib.Core.Bool.{Bool, true, false, cond}
 use mathlib.Core.List.{List, [], _∷_, _++_, append-nil, append-assoc}
 use Prim.Native.Nat.{ℕ, zero, suc, _<_, _≤_}
 use native.Mathlib.Omega.{arith}
 use lib.ListN.{length, getD, take, length-append}
 use lib.Seq.{getD-take, length-take-le}
 use Rattle.lists.specs.Members.{keep, some-of, firsts-after, firsts}
-
-neither : (p q : Bool) → (p || q) ≡ false → (p ≡ false) × (q ≡ false)
-neither true q e = absurd (true≢false e)
-neither false q e = (refl, e)
+use Rattle.lists.proofs.Tests.{neither}
 
 module _ {A : Type 0} where
   none-at : (test : A → Bool) (l : List A) (i : ℕ) (d : A) → i < length l → some-of test l ≡ false → test (getD l i d) ≡ false

@@ -23,15 +23,6 @@ module _ {A : Type 0} (test : A → Bool) where
     unfolding leading
     leading-ends h = rw (drop-of-length-le s h)
 
-  pub leading-at-most : (l : List A) → leading test l ≤ length l
-  unfolding leading
-  leading-at-most [] = omega arith
-  leading-at-most (a ∷ l) = go (test a) refl (leading-at-most l)
-    where
-      go : (b : Bool) → test a ≡ b → leading test l ≤ length l → leading test (a ∷ l) ≤ suc (length l)
-      go true e h = rw e (omega arith)
-      go false e h = rw e (omega arith)
-
   -- The test holds of those that lead, and not of the one after them.
   pub leads : (l : List A) (i : ℕ) (d : A) → i < leading test l → test (getD l i d) ≡ true
   unfolding leading

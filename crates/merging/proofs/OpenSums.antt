@@ -8,12 +8,10 @@ use native.Mathlib.Omega.{arith}
 use borrow.Author.Tests.{ne-eqb, le-leb}
 use lib.Dec.{eqb}
 use lib.ListN.{length}
-use Rattle.lists.specs.Members.{keep}
 use Rattle.lists.proofs.Totals.{total, without, without-there, total-same, total-ones, total-add, total-times, total-apart, total-single}
-use Rattle.lists.proofs.Sums.{one-if, length-keep, sum-listed}
 use Rattle.terms.specs.declared.row.Triple.{Triple}
 use Rattle.merging.specs.History.{next-parent, among, is-open}
-use Rattle.merging.specs.Lawful.{Lawful, LawfulHistory, entities}
+use Rattle.merging.specs.Lawful.{Lawful, LawfulHistory}
 use Rattle.merging.proofs.Holders.{open-below, parent-open}
 
 pub parent-after : (modes : ℕ) (merge : Triple) (history : List Triple) → next-parent modes (merge ∷ history) ≡ suc (next-parent modes history)
@@ -147,21 +145,6 @@ open-count modes (merge ∷ history) lawful =
     let step = open-step modes history merge (lawful .0) (λ entity. 1) in
     let before = open-count modes history (lawful .1) in
     omega arith
-
--- The open entities, counted in words of lists.
-pub length-open : (modes : ℕ) (history : List Triple)
-    → length (keep (is-open modes history) (entities modes history)) ≡ open-sum modes history (λ entity. 1)
-unfolding entities open-sum share
-length-open modes history =
-    length-keep (is-open modes history) (entities modes history)
-    ∙ sum-listed (λ entity. one-if (is-open modes history entity)) (next-parent modes history)
-
--- While j merges are to come, 2j + 1 entities are open.
-pub open-number : (modes : ℕ) (history : List Triple) (j : ℕ) → LawfulHistory modes history → length history + j ≡ modes
-    → length (keep (is-open modes history) (entities modes history)) ≡ 2 * j + 1
-open-number modes history j lawful left =
-    let counted = open-count modes history lawful in
-    length-open modes history ∙ omega arith
 
 -- Where one entity alone is open, a sum over the open ones is its value.
 module _ (modes : ℕ) (history : List Triple) (root : ℕ) (opened : is-open modes history root ≡ true)

@@ -16,16 +16,15 @@ use Rattle.lists.proofs.Listed.{listed-at}
 use Rattle.lists.proofs.Tests.{same-or-not}
 use Rattle.merging.specs.History.{next-parent, among, is-open, z-end, holder}
 use Rattle.merging.specs.Couples.{OpensAre, EndsAre, HoldersAre, Tied}
-use Rattle.merging.specs.Fresh.{first-open}
 
 -- At the start the leaves are open, and everything is its own z-end and its own holder.
 pub tied-start : (room modes : ℕ) → 2 * modes + 1 ≤ room
-    → Tied room modes [] (listed (first-open modes) 0 room) (listed (λ entity. entity) 0 room) (listed (λ entity. entity) 0 room)
-unfolding next-parent is-open z-end holder first-open
+    → Tied room modes [] (listed (is-open modes []) 0 room) (listed (λ entity. entity) 0 room) (listed (λ entity. entity) 0 room)
+unfolding next-parent is-open z-end holder
 tied-start room modes h =
     record {
       within = omega arith;
-      opens-are = λ entity inside. rw (listed-at (first-open modes) 0 room entity false inside, zero-add entity);
+      opens-are = λ entity inside. rw (listed-at (is-open modes []) 0 room entity false inside, zero-add entity);
       ends-are = λ entity inside. rw (listed-at (λ e. e) 0 room entity 0 inside, zero-add entity);
       holders-are = λ leaf inside. rw (listed-at (λ e. e) 0 room leaf 0 inside, zero-add leaf);
     }

@@ -8,4 +8,3 @@ pub mod Flatpack
 pub mod Trials
 pub mod Recorded
 pub mod State
-pub mod Fresh

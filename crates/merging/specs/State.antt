@@ -1,13 +1,13 @@
 -- What the state of a run holds: the tables say what its history says, and the rows are those after it.
 use mathlib.Core.Path.{_≡_}
 use mathlib.Core.Bool.{false, true}
-use mathlib.Core.List.{List, [], _∷_, _++_}
+use mathlib.Core.List.{List, _++_}
 use Prim.Native.Nat.{ℕ, _+_, _-_, _*_, _≤_, _<_}
 use lib.ListN.{length, getD, set, drop, replicate}
 use Rattle.terms.specs.declared.row.Triple.{Triple}
 use Rattle.terms.specs.Rows.{Held, terms-of}
 use Rattle.merging.specs.declared.run.Run.{Run}
-use Rattle.merging.specs.History.{next-parent, rows-after}
+use Rattle.merging.specs.History.{rows-after}
 use Rattle.merging.specs.Lawful.{Lawful, LawfulHistory}
 use Rattle.merging.specs.Choice.{weight-in}
 use Rattle.merging.specs.Couples.{Tied}
@@ -45,7 +45,7 @@ pub record Holds (entities steps : ℕ) (terms : List (List ℕ)) (rows : List �
       → getD (run .weights) step 0
       ≡ weight-in (run .modes) terms (recorded (run .xs) (run .ys) (run .zs) step) (merge-at (run .xs) (run .ys) (run .zs) step)
 
--- The entities' tables after a merge: the three closed, their parent open with z's end, which it holds; all else as before.
+-- The entities' tables after a merge: the three closed, their parent open with z's end, which it holds; the merges written down as before.
 pub record EntitiesMerged (triple : Triple) (before after : Run) : Type 0 where
   pub opens : after .opens
       ≡ set (set (set (set (before .opens) (triple .x) false) (triple .y) false) (triple .z) false) (2 * before .modes + 1 + before .step) true
@@ -58,7 +58,7 @@ pub record EntitiesMerged (triple : Triple) (before after : Run) : Type 0 where
   pub zs : after .zs ≡ before .zs
   pub weights : after .weights ≡ before .weights
 
--- The merge written down as the next step; all else as before.
+-- The merge written down as the next step; the entities' tables as before.
 pub record Noted (triple : Triple) (weight : ℕ) (before after : Run) : Type 0 where
   pub xs : after .xs ≡ set (before .xs) (before .step) (triple .x)
   pub ys : after .ys ≡ set (before .ys) (before .step) (triple .y)

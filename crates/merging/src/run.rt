@@ -1,13 +1,13 @@
 // The state of a run, the merge, and the steps to the end.
 ghost use mathlib.Core.Path.{_≡_};
-ghost use mathlib.Core.List.{List, _∷_};
+ghost use mathlib.Core.List.{List, [], _∷_};
 ghost use Prim.Native.Nat.{ℕ, _+_, _*_, _≤_, _<_};
 ghost use lib.ListN.{length, getD};
 ghost use Rattle.lists.specs.Ranges.{listed};
 ghost use Rattle.terms.specs.Rows.{Held, «terms-of»};
+ghost use Rattle.merging.specs.History.{«is-open»};
 ghost use Rattle.merging.specs.Choice.{chosen};
 ghost use Rattle.merging.specs.Run.{finished as «finished-from»};
-ghost use Rattle.merging.specs.Fresh.{«first-open»};
 ghost use Rattle.merging.specs.State.{«history-of», Holds, EntitiesMerged, Noted, Ready, Went};
 use crate::choice;
 use crate::choice::Best;
@@ -48,7 +48,7 @@ fn identity() -> [u16; 769]
 // The leaves open, and nothing else.
 fn leaves(modes: usize) -> [bool; 769]
     requires { ⌜ modes ≤ 256 ⌝ }
-    ensures { λ r. ⌜ r ≡ listed (first-open modes) 0 769 ⌝ }
+    ensures { λ r. ⌜ r ≡ listed (is-open modes []) 0 769 ⌝ }
 {
     let mut opens = [false; 769];
     let mut leaf = 0;

@@ -19,12 +19,13 @@ use Rattle.tree.specs.Table.{absent, child, place-of}
 use Rattle.tree.specs.OneTree.{root-of}
 use Rattle.tree.specs.Pairs.{chain-end}
 use Rattle.tree.specs.Check.{codes-good, tree-checked}
+use Rattle.tree.specs.Accepted.{PairUnder}
 use Rattle.tree.proofs.AcceptedParts.{accepted-parts}
 use Rattle.tree.proofs.OneTreeSays.{OneTreeSays}
 use Rattle.tree.proofs.TableSteps.{chain-rests}
 use Rattle.tree.proofs.Standing.{only-there, place-nowhere}
 use Rattle.tree.proofs.Under.{met, met-node}
-use Rattle.tree.proofs.AcceptedTree.{PairUnder, accepted-says, accepted-tree}
+use Rattle.tree.proofs.AcceptedTree.{accepted-says, accepted-tree}
 
 -- One step along a z-chain, and one step back: from a code under a Z edge to its node; any other code stays.
 unfoldable pub along : ℕ → List ℕ → ℕ → ℕ

@@ -19,24 +19,12 @@ use Rattle.tree.specs.Table.{absent, nodes, child, climb}
 use Rattle.tree.specs.OneTree.{root-of}
 use Rattle.tree.specs.Pairs.{chain-end, pair-under, pair-right, pairs-right}
 use Rattle.tree.specs.Check.{tree-checked}
+use Rattle.tree.specs.Accepted.{under, PairUnder, IsTree}
 use Rattle.tree.proofs.AcceptedParts.{accepted-parts, parts-accepted}
 use Rattle.tree.proofs.OneTreeSays.{OneTreeSays, one-tree-says, says-one-tree}
 use Rattle.tree.proofs.Standing.{parent-is, above-below}
 use Rattle.tree.proofs.EachStands.{root-nowhere, all-good, full-says}
-use Rattle.tree.proofs.Under.{above, under, met, met-top, met-other, met-below}
-
--- Leaves 2k and 2k+1 end the z-chains from this node's X and Y children.
-pub record PairUnder (modes : ℕ) (table : List ℕ) (k node : ℕ) : Type 0 where
-  pub inside : node < modes
-  pub even : chain-end modes table modes (child table node 0) ≡ modes + 2 * k
-  pub odd : chain-end modes table modes (child table node 1) ≡ modes + 2 * k + 1
-
--- The table is one tree with this root, each part of it once, and its pairs are right.
-pub record IsTree (modes : ℕ) (table : List ℕ) (root : ℕ) : Type 0 where
-  pub inside : root < modes
-  pub each-once : (code : ℕ) → code < 3 * modes → occurrences code (under modes table (suc modes) root) ≡ 1
-  pub absent-once : occurrences absent (under modes table (suc modes) root) ≡ 1
-  pub pairs : (k : ℕ) → k < modes → (node : ℕ) × PairUnder modes table k node
+use Rattle.tree.proofs.Under.{above, met, met-top, met-other, met-below}
 
 module _ (modes : ℕ) (table : List ℕ) (whole : length table ≡ 3 * modes) (root : ℕ) (says : OneTreeSays modes table root) where
   -- A node that climbs to the root in so many steps is met through one node more.

@@ -10,20 +10,12 @@ use lib.ListN.{length}
 use Rattle.lists.specs.Counting.{same, occurrences}
 use Rattle.lists.proofs.Sums.{same-none, occurrences-append}
 use Rattle.tree.specs.Table.{child, place-of}
+use Rattle.tree.specs.Accepted.{under}
 use Rattle.tree.proofs.Standing.{held-once, held-never, above-below}
 
 -- The node under which a code stands that stands in the table.
 abbrev pub above : List ℕ → ℕ → ℕ
 above table code = place-of table code / 3
-
--- The codes met going down from a code through at most so many nodes: the code, and where it is a node those under its three children.
-unfoldable pub under : ℕ → List ℕ → ℕ → ℕ → List ℕ
-under modes table zero code = cond (ltb code modes) [] (code ∷ [])
-under modes table (suc nodes) code =
-    code
-    ∷ cond (ltb code modes)
-    (under modes table nodes (child table code 0) ++ (under modes table nodes (child table code 1) ++ under modes table nodes (child table code 2)))
-    []
 
 -- How often a code is met under another.
 unfoldable pub met : ℕ → List ℕ → ℕ → ℕ → ℕ → ℕ

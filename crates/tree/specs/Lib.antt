@@ -3,5 +3,6 @@ pub mod Table
 pub mod OneTree
 pub mod Pairs
 pub mod Check
+pub mod Accepted
 pub mod Weight
 pub mod Promises

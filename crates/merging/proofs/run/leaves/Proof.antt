@@ -1,4 +1,5 @@
 -- Open up to the last leaf, closed from there on.
+use mathlib.Core.List.{[]}
 use mathlib.Core.Path.{_≡_}
 use mathlib.Core.Bool.{false}
 use Prim.Native.Nat.{_≤_, _+_, _-_, _*_}
@@ -6,7 +7,7 @@ use native.Mathlib.Omega.{arith}
 use borrow.Author.Needs.{needs}
 use lib.ListN.{length, take, drop, replicate, length-set}
 use Rattle.lists.specs.Ranges.{listed}
-use Rattle.merging.specs.Fresh.{first-open}
+use Rattle.merging.specs.History.{is-open}
 use Rattle.merging.proofs.FirstOpen.{opened-next, closed-next, leaves-open}
 use Rattle.merging.proofs.run.leaves.Statement.{statement}
 use Rattle.merging.proofs.run.leaves.Tie as tie
@@ -15,7 +16,7 @@ abbrev Inv-loop : tie.InvT-loop
 Inv-loop modes opens₀ leaf₀ opens leaf =
     (leaf ≤ 2 * modes + 1)
     × (length opens ≡ 769)
-    × (take leaf opens ≡ listed (first-open modes) 0 leaf)
+    × (take leaf opens ≡ listed (is-open modes []) 0 leaf)
     × (drop leaf opens ≡ replicate (769 - leaf) false)
 
 abbrev μ-loop : tie.MeasureT-loop
