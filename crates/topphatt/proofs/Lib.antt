@@ -1,0 +1,2 @@
+-- The laws of assignment.
+pub mod Examples
