@@ -21,3 +21,6 @@ pub mod Ranges
 pub mod Leading
 pub mod Occurring
 pub mod Pigeonholes
+pub mod Narrowing
+pub mod Onto
+pub mod Replaced

@@ -97,11 +97,11 @@ module _ (modes : ℕ) (table : List ℕ) where
 module _ (modes : ℕ) (table : List ℕ) (whole : length table ≡ 3 * modes) (good : length table ≤ codes-good modes table) (root : ℕ)
     (says : OneTreeSays modes table root) where
   -- Every code of the table is below 3n or absent, and stands there alone.
-  code-good : (i : ℕ) → i < length table → (ltb (getD table i absent) (3 * modes) || eqb (getD table i absent) absent) ≡ true
+  pub code-good : (i : ℕ) → i < length table → (ltb (getD table i absent) (3 * modes) || eqb (getD table i absent) absent) ≡ true
   unfolding codes-good
   code-good i h = leads (λ code. ltb code (3 * modes) || eqb code absent) table i absent (omega arith)
 
-  stands-once : (i : ℕ) → i < length table → occurrences (getD table i absent) table ≡ 1
+  pub stands-once : (i : ℕ) → i < length table → occurrences (getD table i absent) table ≡ 1
   stands-once i h =
       go (getD table i absent) (occurs-at (getD table i absent) table i absent h refl) (code-good i h)
       (ltb (getD table i absent) modes) refl (ltb (getD table i absent) (3 * modes)) refl (eqb (getD table i absent) root) refl
@@ -114,7 +114,7 @@ module _ (modes : ℕ) (table : List ℕ) (whole : length table ≡ 3 * modes) (
       go code some ok false en false el false er =
           ap (λ v. occurrences v table) (eqb-true code absent (rw el at ok)) ∙ says .absent-once
 
-  child-place : (node edge : ℕ) → node < modes → edge < 3 → place-of table (child table node edge) ≡ 3 * node + edge
+  pub child-place : (node edge : ℕ) → node < modes → edge < 3 → place-of table (child table node edge) ≡ 3 * node + edge
   unfolding child
   child-place node edge h k =
       only-there (child table node edge) absent table (stands-once (3 * node + edge) (omega arith)) (3 * node + edge) (omega arith) refl
@@ -133,14 +133,14 @@ module _ (modes : ℕ) (table : List ℕ) (whole : length table ≡ 3 * modes) (
       let place = place-nowhere root table (says .top) in
       rw (ne-eqb (place-of table root % 3) 2 (λ e. absurd (omega arith)))
 
-  child-begins : (node edge : ℕ) → node < modes → edge < 2 → back table (child table node edge) ≡ child table node edge
+  pub child-begins : (node edge : ℕ) → node < modes → edge < 2 → back table (child table node edge) ≡ child table node edge
   unfolding back
   child-begins node edge h k =
       let place = child-place node edge h (omega arith) in
       rw (ne-eqb (place-of table (child table node edge) % 3) 2 (λ e. absurd (omega arith)))
 
   -- The way back from a chain's end arrives where the chain began.
-  end-to-top : (start : ℕ) → back table start ≡ start → (steps : ℕ) → chain-top table steps (chain-end modes table steps start) ≡ start
+  pub end-to-top : (start : ℕ) → back table start ≡ start → (steps : ℕ) → chain-top table steps (chain-end modes table steps start) ≡ start
   unfolding chain-top along
   end-to-top start begins zero = chain-none modes table start
   end-to-top start begins (suc steps) = go (ltb (chain-end modes table steps start) modes) refl (end-to-top start begins steps)

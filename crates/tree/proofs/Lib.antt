@@ -10,3 +10,4 @@ pub mod OneTreeSays
 pub mod EachStands
 pub mod AcceptedTree
 pub mod AbsentEnds
+pub mod EachHosts
