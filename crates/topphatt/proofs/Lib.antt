@@ -1,2 +1,6 @@
 -- The laws of assignment.
 pub mod Examples
+pub mod ActiveNodes
+pub mod NumberBounds
+pub mod ChosenRight
+pub mod ChosenOne
