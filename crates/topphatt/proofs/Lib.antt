@@ -4,3 +4,4 @@ pub mod ActiveNodes
 pub mod NumberBounds
 pub mod ChosenRight
 pub mod ChosenOne
+pub mod FairCounts

@@ -6,3 +6,4 @@ pub mod Choice
 pub mod Rounds
 pub mod Answer
 pub mod Promises
+pub mod Assignment

@@ -1,0 +1,163 @@
+-- Where each pair has a mode or none and no two the same, as many pairs have none as modes are unassigned; and giving a pair that has none
+-- a mode that is unassigned leaves it so.
+use mathlib.Core.Path.{_≡_, refl, ap, _∙_, sym}
+use mathlib.Core.Bool.{Bool, true, false, cond, not}
+use mathlib.Core.List.{List, [], _∷_}
+use mathlib.Core.Logic.{_⊎_, inl, inr, ⊎-elim}
+use Prim.Native.Nat.{ℕ, zero, suc, _+_, _<_, _≤_}
+use native.Mathlib.Omega.{arith}
+use borrow.Author.Tests.{lt-ltb, eq-eqb, ne-eqb, eqb-false, eqb-true}
+use lib.Dec.{eqb, ltb}
+use lib.ListN.{length, getD, set, replicate, length-set, length-replicate, getD-replicate}
+use lib.Seq.{getD-set-same, getD-set-other}
+use Rattle.lists.specs.Counting.{same, occurrences}
+use Rattle.lists.specs.Members.{every, some-of}
+use Rattle.lists.specs.Ranges.{listed}
+use Rattle.lists.proofs.Tests.{same-or-not, neither}
+use Rattle.lists.proofs.Every.{every-cons}
+use Rattle.lists.proofs.Occurring.{occurs-at}
+use Rattle.lists.proofs.Replaced.{occurrences-set, occurs-twice, occurs-where}
+use Rattle.lists.proofs.Pigeonholes.{counted-all}
+use Rattle.lists.proofs.Totals.{total, total-add, total-same, total-ones}
+use Rattle.lists.proofs.Sums.{one-if, same-one, same-none, length-keep, sum-listed}
+use Rattle.topphatt.specs.Choices.{unassigned}
+use Rattle.topphatt.specs.Assignment.{Fair, Given}
+
+every-by-place : (test : ℕ → Bool) (l : List ℕ) (d : ℕ) → ((i : ℕ) → i < length l → test (getD l i d) ≡ true) → every test l ≡ true
+unfolding every
+every-by-place test [] d each = refl
+every-by-place test (a ∷ l) d each =
+    every-cons test a l (each 0 (omega arith)) (every-by-place test l d (λ i h. each (suc i) (omega arith)))
+
+-- A mode that no entry has occurs nowhere, and one that occurs is had by some.
+pub none-occurs : (v : ℕ) (l : List ℕ) → some-of (eqb v) l ≡ false → occurrences v l ≡ 0
+unfolding some-of occurrences
+none-occurs v [] e = refl
+none-occurs v (a ∷ l) e =
+    let r = neither (eqb v a) (some-of (eqb v) l) e in
+    omega (arith, same-none a v (λ q. eqb-false v a (r .0) (sym q)), none-occurs v l (r .1))
+
+some-occurs : (v : ℕ) (l : List ℕ) → some-of (eqb v) l ≡ true → 1 ≤ occurrences v l
+unfolding some-of occurrences
+some-occurs v [] e = let z : _≡_ {A = ℕ} 0 1 = cc in absurd (omega arith)
+some-occurs v (a ∷ l) e = go (eqb v a) refl (some-occurs v l)
+  where
+    go : (b : Bool) → eqb v a ≡ b → (some-of (eqb v) l ≡ true → 1 ≤ occurrences v l) → 1 ≤ same a v + occurrences v l
+    go true q on = omega (arith, same-one a v (sym (eqb-true v a q)))
+    go false q on = omega (arith, on (rw q at e))
+
+one-or-none : (v : ℕ) (l : List ℕ) → occurrences v l ≤ 1 → occurrences v l + one-if (not (some-of (eqb v) l)) ≡ 1
+one-or-none v l h = go (some-of (eqb v) l) refl
+  where
+    go : (b : Bool) → some-of (eqb v) l ≡ b → occurrences v l + one-if (not b) ≡ 1
+    go true q = omega (arith, some-occurs v l q)
+    go false q = omega (arith, none-occurs v l q)
+
+occurrences-replicate : (v x n : ℕ) → (x ≡ v → ⊥) → occurrences v (replicate n x) ≡ 0
+unfolding occurrences
+occurrences-replicate v x zero apart = refl
+occurrences-replicate v x (suc n) apart = omega (arith, same-none x v apart, occurrences-replicate v x n apart)
+
+-- Before the first round no pair has a mode.
+pub fair-before : (modes : ℕ) → Fair modes (replicate modes modes)
+fair-before modes =
+    record {
+      whole = length-replicate modes modes;
+      known = λ k h. omega (arith, getD-replicate modes k modes modes h);
+      once = λ mode h. omega (arith, occurrences-replicate mode modes modes (λ e. absurd (omega arith)));
+    }
+
+module _ (modes : ℕ) (assigned : List ℕ) (fair : Fair modes assigned) where
+  pub as-many : occurrences modes assigned ≡ length (unassigned modes assigned)
+  unfolding unassigned total
+  as-many =
+      let below : every (λ v. ltb v (suc modes)) assigned ≡ true =
+      every-by-place (λ v. ltb v (suc modes)) assigned modes
+      (λ i h. lt-ltb (getD assigned i modes) (suc modes) (omega (arith, fair .known i (omega (arith, fair .whole))))) in
+      let all : total (λ v. occurrences v assigned) (suc modes) ≡ length assigned = counted-all (suc modes) assigned below in
+      let missing : ℕ → ℕ = λ v. one-if (not (some-of (eqb v) assigned)) in
+      let each : total (λ v. occurrences v assigned + missing v) modes ≡ modes =
+      total-same (λ v. occurrences v assigned + missing v) (λ v. 1) modes (λ v h. one-or-none v assigned (fair .once v h)) ∙ total-ones modes in
+      let listed-missing : length (unassigned modes assigned) ≡ total missing modes =
+      length-keep (λ v. not (some-of (eqb v) assigned)) (listed (λ v. v) 0 modes) ∙ sum-listed missing modes in
+      omega (arith, total-add (λ v. occurrences v assigned) missing modes, fair .whole)
+
+  -- A mode is unassigned exactly where a pair has none; where two pairs have none, two modes are.
+  pub pair-without : 0 < length (unassigned modes assigned) → (k : ℕ) × (k < modes) × (getD assigned k modes ≡ modes)
+  pair-without h =
+      let r = occurs-where modes assigned modes (omega (arith, as-many)) in
+      (r .0, omega (arith, r .1, fair .whole), r .2)
+
+  pub mode-left : (k : ℕ) → k < modes → modes ≤ getD assigned k modes → 0 < length (unassigned modes assigned)
+  mode-left k h none = omega (arith, as-many, fair .known k h, occurs-at modes assigned k modes (omega (arith, fair .whole)) (omega (arith, fair .known k h)))
+
+  pub two-left : (j k : ℕ) → j < modes → k < modes → (j ≡ k → ⊥) → modes ≤ getD assigned j modes → modes ≤ getD assigned k modes
+      → 2 ≤ length (unassigned modes assigned)
+  two-left j k h l apart none nor =
+      omega (
+        arith,
+        as-many,
+        occurs-twice modes assigned j k modes (omega (arith, fair .whole)) (omega (arith, fair .whole)) apart
+            (omega (arith, fair .known j h)) (omega (arith, fair .known k l)),
+      )
+
+  module _ (k mode : ℕ) (h : k < modes) (none : modes ≤ getD assigned k modes) (free : mode < modes) (new : occurrences mode assigned ≡ 0) where
+    had-none : getD assigned k modes ≡ modes
+    had-none = omega (arith, fair .known k h)
+
+    inside : k < length assigned
+    inside = omega (arith, fair .whole)
+
+    entries-now : (j : ℕ) → ((j ≡ k) × (getD (set assigned k mode) j modes ≡ mode)) ⊎ ((j ≡ k → ⊥) × (getD (set assigned k mode) j modes ≡ getD assigned j modes))
+    entries-now j =
+        ⊎-elim
+        (λ e. inl (e, rw e (getD-set-same assigned k mode modes inside)))
+        (λ other. inr (other, getD-set-other assigned k j mode modes other))
+        (same-or-not j k)
+
+    -- Only the new mode and the mark for none occur otherwise than before.
+    pub others-stay : (v : ℕ) → v < modes → (v ≡ mode → ⊥) → occurrences v (set assigned k mode) ≡ occurrences v assigned
+    others-stay v l other =
+        omega (
+          arith,
+          occurrences-set v assigned k mode modes inside,
+          same-none mode v (λ e. other (sym e)),
+          same-none (getD assigned k modes) v (λ e. absurd (omega (arith, had-none))),
+        )
+
+    pub given : Given modes assigned (set assigned k mode)
+    given =
+        record {
+          fair = record {
+            whole = length-set assigned k mode ∙ fair .whole;
+            known = λ j l. ⊎-elim (λ here. omega (arith, here .1)) (λ there. omega (arith, there .1, fair .known j l)) (entries-now j);
+            once =
+                λ v l.
+                ⊎-elim
+                (λ e.
+                omega (
+                  arith,
+                  ap (λ u. occurrences u assigned) e,
+                  occurrences-set v assigned k mode modes inside,
+                  same-one mode v (sym e),
+                ))
+                (λ other. omega (arith, others-stay v l other, fair .once v l))
+                (same-or-not v mode);
+          };
+          fewer =
+              omega (
+                arith,
+                occurrences-set modes assigned k mode modes inside,
+                same-one (getD assigned k modes) modes had-none,
+                same-none mode modes (λ e. absurd (omega arith)),
+              );
+          stays = λ j l. ⊎-elim (λ here. absurd (omega (arith, ap (λ i. getD assigned i modes) (here .0)))) (λ there. there .1) (entries-now j);
+        }
+
+pub given-twice : (modes : ℕ) (first second third : List ℕ) → Given modes first second → Given modes second third → Given modes first third
+given-twice modes first second third g h =
+    record {
+      fair = h .fair;
+      fewer = omega (arith, g .fewer, h .fewer);
+      stays = λ k l. h .stays k (omega (arith, g .stays k l)) ∙ g .stays k l;
+    }

@@ -1,0 +1,44 @@
+-- What a reader may believe of the rounds and of the answer, on an accepted tree.
+use mathlib.Core.Path.{_≡_}
+use mathlib.Core.Bool.{false}
+use mathlib.Core.List.{List}
+use Prim.Native.Nat.{ℕ, _*_, _<_, _≤_}
+use lib.ListN.{length, getD}
+use Rattle.lists.specs.Counting.{occurrences}
+use Rattle.tree.specs.Table.{absent}
+use Rattle.topphatt.specs.Slots.{slot, unfixed}
+use Rattle.topphatt.specs.Choice.{candidates, chosen}
+use Rattle.topphatt.specs.Rounds.{Rounds, next}
+
+-- Each pair has a mode or none, which is n; no two pairs have the same mode.
+pub record Fair (modes : ℕ) (assigned : List ℕ) : Type 0 where
+  pub whole : length assigned ≡ modes
+  pub known : (k : ℕ) → k < modes → getD assigned k modes ≤ modes
+  pub once : (mode : ℕ) → mode < modes → occurrences mode assigned ≤ 1
+
+-- Pairs were given modes: fewer have none, none lost or changed its mode, and no two have the same.
+pub record Given (modes : ℕ) (assigned now : List ℕ) : Type 0 where
+  pub fair : Fair modes now
+  pub fewer : occurrences modes now < occurrences modes assigned
+  pub stays : (k : ℕ) → getD assigned k modes < modes → getD now k modes ≡ getD assigned k modes
+
+-- A round has a choice; of its node's X and Y slots both are unfixed or neither is; and it gives modes to pairs.
+pub record RoundGoes (modes : ℕ) (table : List ℕ) (heuristic : ℕ) (state : Rounds) : Type 0 where
+  pub some-choice : 0 < length (candidates modes table heuristic (state .round) (state .assigned))
+  pub together : (node : ℕ) → chosen modes table heuristic (state .round) (state .assigned) (state .rows) .node ≡ node
+      → unfixed modes (slot modes table (state .assigned) node 0) ≡ unfixed modes (slot modes table (state .assigned) node 1)
+  pub gives : Given modes (state .assigned) (next modes table heuristic state .assigned)
+
+-- Every pair has a mode, each mode is one pair's, and no slot is unfixed.
+pub record AllAssigned (modes : ℕ) (table assigned : List ℕ) : Type 0 where
+  pub whole : length assigned ≡ modes
+  pub inside : (k : ℕ) → k < modes → getD assigned k modes < modes
+  pub each-once : (mode : ℕ) → mode < modes → occurrences mode assigned ≡ 1
+  pub none-unfixed : (node edge : ℕ) → unfixed modes (slot modes table assigned node edge) ≡ false
+
+-- The answer has every node and the absent child where the given tree has them, and each leaf once.
+pub record SameShape (modes : ℕ) (table answer : List ℕ) : Type 0 where
+  pub whole : length answer ≡ length table
+  pub node-stays : (place : ℕ) → place < length table → getD table place absent < modes → getD answer place absent ≡ getD table place absent
+  pub absent-stays : (place : ℕ) → place < length table → getD table place absent ≡ absent → getD answer place absent ≡ absent
+  pub leaf-once : (code : ℕ) → modes ≤ code → code < 3 * modes → occurrences code answer ≡ 1
