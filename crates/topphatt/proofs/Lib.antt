@@ -5,3 +5,5 @@ pub mod NumberBounds
 pub mod ChosenRight
 pub mod ChosenOne
 pub mod FairCounts
+pub mod SlotCases
+pub mod Distances
