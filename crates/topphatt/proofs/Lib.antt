@@ -7,3 +7,4 @@ pub mod ChosenOne
 pub mod FairCounts
 pub mod SlotCases
 pub mod Distances
+pub mod ActiveSlots

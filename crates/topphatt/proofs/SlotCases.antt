@@ -100,7 +100,7 @@ module _ (modes : ℕ) (assigned : List ℕ) (code : ℕ) where
           omega (
             arith,
             slot-without
-            (record { low = ltb-false code modes q; high = h; none = ltb-false (getD assigned (pair-of modes code) modes) modes s }),
+                (record { low = ltb-false code modes q; high = h; none = ltb-false (getD assigned (pair-of modes code) modes) modes s }),
           )
 
   pub low-fixed : code < 3 * modes → is-fixed modes (slot-of modes assigned code) ≡ not (unfixed modes (slot-of modes assigned code))
