@@ -37,7 +37,7 @@ pub record OnlyZ (modes : ℕ) (table assigned : List ℕ) (node : ℕ) : Type 0
   pub z-without : Without modes assigned (child table node 2)
 
 module _ (modes : ℕ) (table assigned : List ℕ) (node : ℕ) where
-  z-incomplete : Without modes assigned (child table node 2) → complete modes table assigned node ≡ false
+  pub z-incomplete : Without modes assigned (child table node 2) → complete modes table assigned node ≡ false
   unfolding complete slot
   z-incomplete w =
       rw (without-unfixed modes assigned (child table node 2) w)
@@ -48,7 +48,7 @@ module _ (modes : ℕ) (table assigned : List ℕ) (node : ℕ) where
       go true false = refl
       go false b = refl
 
-  x-incomplete : Without modes assigned (child table node 0) → complete modes table assigned node ≡ false
+  pub x-incomplete : Without modes assigned (child table node 0) → complete modes table assigned node ≡ false
   unfolding complete slot is-fixed
   x-incomplete w = rw (without-unfixed modes assigned (child table node 0) w)
 
@@ -62,7 +62,7 @@ module _ (modes : ℕ) (table assigned : List ℕ) (node : ℕ) where
 
 module _ (most modes : ℕ) (table : List ℕ) (accepted : tree-checked most modes table ≡ Accepted) (fits : 3 * modes ≤ absent)
     (heuristic round : ℕ) (assigned : List ℕ) (fresh : eqb round 0 ≡ true → (k : ℕ) → modes ≤ getD assigned k modes) where
-  left-incomplete : (node : ℕ) → complete modes table assigned node ≡ false → (eqb round 0 || not (complete modes table assigned node)) ≡ true
+  pub left-incomplete : (node : ℕ) → complete modes table assigned node ≡ false → (eqb round 0 || not (complete modes table assigned node)) ≡ true
   left-incomplete node e = rw e (go (eqb round 0))
     where
       go : (b : Bool) → (b || true) ≡ true

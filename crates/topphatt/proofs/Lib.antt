@@ -8,3 +8,4 @@ pub mod FairCounts
 pub mod SlotCases
 pub mod Distances
 pub mod ActiveSlots
+pub mod SomeChoice
