@@ -9,3 +9,4 @@ pub mod SlotCases
 pub mod Distances
 pub mod ActiveSlots
 pub mod SomeChoice
+pub mod RoundGives
