@@ -17,7 +17,7 @@ use Rattle.lists.proofs.Tests.{same-or-not, neither}
 use Rattle.lists.proofs.Every.{every-cons}
 use Rattle.lists.proofs.Occurring.{occurs-at}
 use Rattle.lists.proofs.Replaced.{occurrences-set, occurs-twice, occurs-where}
-use Rattle.lists.proofs.Pigeonholes.{counted-all}
+use Rattle.lists.proofs.Pigeonholes.{counted-all, values-same}
 use Rattle.lists.proofs.Totals.{total, total-add, total-same, total-ones}
 use Rattle.lists.proofs.Sums.{one-if, same-one, same-none, length-keep, sum-listed}
 use Rattle.topphatt.specs.Choices.{unassigned}
@@ -68,13 +68,15 @@ fair-before modes =
     }
 
 module _ (modes : ℕ) (assigned : List ℕ) (fair : Fair modes assigned) where
+  entries-below : every (λ v. ltb v (suc modes)) assigned ≡ true
+  entries-below =
+      every-by-place (λ v. ltb v (suc modes)) assigned modes
+      (λ i h. lt-ltb (getD assigned i modes) (suc modes) (omega (arith, fair .known i (omega (arith, fair .whole)))))
+
   pub as-many : occurrences modes assigned ≡ length (unassigned modes assigned)
   unfolding unassigned total
   as-many =
-      let below : every (λ v. ltb v (suc modes)) assigned ≡ true =
-      every-by-place (λ v. ltb v (suc modes)) assigned modes
-      (λ i h. lt-ltb (getD assigned i modes) (suc modes) (omega (arith, fair .known i (omega (arith, fair .whole))))) in
-      let all : total (λ v. occurrences v assigned) (suc modes) ≡ length assigned = counted-all (suc modes) assigned below in
+      let all : total (λ v. occurrences v assigned) (suc modes) ≡ length assigned = counted-all (suc modes) assigned entries-below in
       let missing : ℕ → ℕ = λ v. one-if (not (some-of (eqb v) assigned)) in
       let each : total (λ v. occurrences v assigned + missing v) modes ≡ modes =
       total-same (λ v. occurrences v assigned + missing v) (λ v. 1) modes (λ v h. one-or-none v assigned (fair .once v h)) ∙ total-ones modes in
@@ -100,6 +102,14 @@ module _ (modes : ℕ) (assigned : List ℕ) (fair : Fair modes assigned) where
         occurs-twice modes assigned j k modes (omega (arith, fair .whole)) (omega (arith, fair .whole)) apart
             (omega (arith, fair .known j h)) (omega (arith, fair .known k l)),
       )
+
+  -- Where no pair has none, each mode is one pair's.
+  pub each-assigned : occurrences modes assigned ≡ 0 → (mode : ℕ) → mode < modes → occurrences mode assigned ≡ 1
+  unfolding total
+  each-assigned none mode h =
+      let all = counted-all (suc modes) assigned entries-below in
+      sym
+      (values-same (λ v. 1) (λ v. occurrences v assigned) modes (λ v l. fair .once v l) (omega (arith, total-ones modes, fair .whole)) mode h)
 
   module _ (k mode : ℕ) (h : k < modes) (none : modes ≤ getD assigned k modes) (free : mode < modes) (new : occurrences mode assigned ≡ 0) where
     had-none : getD assigned k modes ≡ modes

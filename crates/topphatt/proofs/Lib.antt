@@ -10,3 +10,4 @@ pub mod Distances
 pub mod ActiveSlots
 pub mod SomeChoice
 pub mod RoundGives
+pub mod RoundsGo

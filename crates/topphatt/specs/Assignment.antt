@@ -7,8 +7,8 @@ use lib.ListN.{length, getD}
 use Rattle.lists.specs.Counting.{occurrences}
 use Rattle.tree.specs.Table.{absent}
 use Rattle.topphatt.specs.Slots.{slot, unfixed}
-use Rattle.topphatt.specs.Choice.{candidates, chosen}
-use Rattle.topphatt.specs.Rounds.{Rounds, next}
+use Rattle.topphatt.specs.Choice.{Choice, candidates, Chosen}
+use Rattle.topphatt.specs.Rounds.{Rounds, after, next}
 
 -- Each pair has a mode or none, which is n; no two pairs have the same mode.
 pub record Fair (modes : ℕ) (assigned : List ℕ) : Type 0 where
@@ -22,12 +22,19 @@ pub record Given (modes : ℕ) (assigned now : List ℕ) : Type 0 where
   pub fewer : occurrences modes now < occurrences modes assigned
   pub stays : (k : ℕ) → getD assigned k modes < modes → getD now k modes ≡ getD assigned k modes
 
--- A round has a choice; of its node's X and Y slots both are unfixed or neither is; and it gives modes to pairs.
-pub record RoundGoes (modes : ℕ) (table : List ℕ) (heuristic : ℕ) (state : Rounds) : Type 0 where
+-- A round has a choice, and takes the one that document 01 describes; of its node's X and Y slots both are unfixed or neither is; and it
+-- gives modes to pairs.
+pub record RoundGoes (modes : ℕ) (table : List ℕ) (heuristic : ℕ) (state : Rounds) (choice : Choice) : Type 0 where
   pub some-choice : 0 < length (candidates modes table heuristic (state .round) (state .assigned))
-  pub together : (node : ℕ) → chosen modes table heuristic (state .round) (state .assigned) (state .rows) .node ≡ node
-      → unfixed modes (slot modes table (state .assigned) node 0) ≡ unfixed modes (slot modes table (state .assigned) node 1)
+  pub right : Chosen modes table heuristic (state .round) (state .assigned) (state .rows) choice
+  pub together : unfixed modes (slot modes table (state .assigned) (choice .node) 0) ≡ unfixed modes (slot modes table (state .assigned) (choice .node) 1)
+  pub goes-on : next modes table heuristic state ≡ after modes table choice state
   pub gives : Given modes (state .assigned) (next modes table heuristic state .assigned)
+
+-- What holds before the first round and after each: the modes are fairly given, and in round 0 none is.
+pub record UnderWay (modes : ℕ) (state : Rounds) : Type 0 where
+  pub fair : Fair modes (state .assigned)
+  pub fresh : state .round ≡ 0 → (k : ℕ) → modes ≤ getD (state .assigned) k modes
 
 -- Every pair has a mode, each mode is one pair's, and no slot is unfixed.
 pub record AllAssigned (modes : ℕ) (table assigned : List ℕ) : Type 0 where
