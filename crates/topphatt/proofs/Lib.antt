@@ -11,3 +11,4 @@ pub mod ActiveSlots
 pub mod SomeChoice
 pub mod RoundGives
 pub mod RoundsGo
+pub mod AnswerShape

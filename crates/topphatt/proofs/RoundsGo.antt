@@ -38,6 +38,7 @@ pairs-at-most modes assigned fair = omega (arith, counted-with modes modes assig
 every-pair : (modes : ℕ) (table assigned : List ℕ) → Fair modes assigned → occurrences modes assigned ≡ 0 → AllAssigned modes table assigned
 every-pair modes table assigned fair none =
     record {
+      none-left = omega (arith, as-many modes assigned fair);
       whole = fair .whole;
       inside = inside;
       each-once = λ mode h. each-assigned modes assigned fair none mode h;

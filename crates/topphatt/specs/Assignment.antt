@@ -7,6 +7,7 @@ use lib.ListN.{length, getD}
 use Rattle.lists.specs.Counting.{occurrences}
 use Rattle.tree.specs.Table.{absent}
 use Rattle.topphatt.specs.Slots.{slot, unfixed}
+use Rattle.topphatt.specs.Choices.{unassigned}
 use Rattle.topphatt.specs.Choice.{Choice, candidates, Chosen}
 use Rattle.topphatt.specs.Rounds.{Rounds, after, next}
 
@@ -36,8 +37,9 @@ pub record UnderWay (modes : ℕ) (state : Rounds) : Type 0 where
   pub fair : Fair modes (state .assigned)
   pub fresh : state .round ≡ 0 → (k : ℕ) → modes ≤ getD (state .assigned) k modes
 
--- Every pair has a mode, each mode is one pair's, and no slot is unfixed.
+-- No mode is unassigned: every pair has a mode, each mode is one pair's, and no slot is unfixed.
 pub record AllAssigned (modes : ℕ) (table assigned : List ℕ) : Type 0 where
+  pub none-left : length (unassigned modes assigned) ≡ 0
   pub whole : length assigned ≡ modes
   pub inside : (k : ℕ) → k < modes → getD assigned k modes < modes
   pub each-once : (mode : ℕ) → mode < modes → occurrences mode assigned ≡ 1

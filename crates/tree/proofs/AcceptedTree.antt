@@ -98,7 +98,7 @@ module _ (most modes : ℕ) (table : List ℕ) (accepted : tree-checked most mod
       go false q = absurd (omega (arith, accepted-says .node-once node h (eqb-false node (root-of modes table) q)))
 
 -- Pairs that all are right lead to the end.
-pairs-lead : (modes : ℕ) (table : List ℕ) → ((k : ℕ) → k < modes → (node : ℕ) × PairUnder modes table k node) → pairs-right modes table ≡ modes
+pub pairs-lead : (modes : ℕ) (table : List ℕ) → ((k : ℕ) → k < modes → (node : ℕ) × PairUnder modes table k node) → pairs-right modes table ≡ modes
 unfolding pairs-right pair-right pair-under nodes
 pairs-lead modes table pairs =
     leading-from (pair-right modes table) 0 modes

@@ -24,7 +24,7 @@ pub record OneTreeSays (modes : ℕ) (table : List ℕ) (root : ℕ) : Type 0 wh
 
 module _ (modes : ℕ) (table : List ℕ) where
   module _ (whole : length table ≡ 3 * modes) where
-    parent-below : (node : ℕ) → node < modes → parent-of table node < modes
+    pub parent-below : (node : ℕ) → node < modes → parent-of table node < modes
     unfolding parent-of
     parent-below node h = go (ltb (place-of table node) (length table)) refl
       where
