@@ -42,7 +42,7 @@ module _ (modes : ℕ) (table assigned : List ℕ) (all : AllAssigned modes tabl
   absent-kept given h = rw (slot-empty modes assigned given h, eq-eqb (2 * modes) (2 * modes) refl)
 
   -- The mode of a leaf's pair.
-  pub mode-of : ℕ → ℕ
+  unfoldable pub mode-of : ℕ → ℕ
   mode-of given = getD assigned (pair-of modes given) modes
 
   pub mode-below : (given : ℕ) → modes ≤ given → given < 3 * modes → mode-of given < modes

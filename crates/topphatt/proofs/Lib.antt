@@ -12,3 +12,4 @@ pub mod SomeChoice
 pub mod RoundGives
 pub mod RoundsGo
 pub mod AnswerShape
+pub mod AnswerAccepted

@@ -1,0 +1,228 @@
+-- The answer of an assignment is itself an accepted tree: its nodes hang together as in the given tree, each leaf stands once, and the leaves
+-- of a pair became the leaves of the pair's mode, so that they still end the z-chains from one node's X and Y children.
+use mathlib.Core.Path.{_≡_, refl, ap, _∙_, sym}
+use mathlib.Core.Bool.{Bool, true, false, cond, _||_}
+use mathlib.Core.List.{List, [], _∷_, map, List·Memᴰ}
+use mathlib.Core.Logic.{_⊎_, inl, inr, ⊎-elim}
+use Prim.Native.Nat.{ℕ, zero, suc, _+_, _*_, _/_, _<_, _≤_}
+use native.Mathlib.Omega.{arith}
+use borrow.Author.Tests.{lt-ltb, le-ltb, eq-eqb, ne-eqb, eqb-true, ltb-true, ltb-false}
+use lib.Dec.{eqb, ltb}
+use lib.ListN.{length, getD, length-map}
+use Rattle.lists.specs.Counting.{same, occurrences}
+use Rattle.lists.specs.Members.{leading}
+use Rattle.lists.proofs.Sums.{same-one, same-none}
+use Rattle.lists.proofs.Replaced.{occurrences-map, place-of-member}
+use Rattle.tree.specs.declared.TreeChecked.the-variants.{Accepted}
+use Rattle.tree.specs.Table.{absent, child, place-of, parent-of, climb}
+use Rattle.tree.specs.OneTree.{root-of}
+use Rattle.tree.specs.Pairs.{chain-end, pairs-right}
+use Rattle.tree.specs.Check.{codes-good, tree-checked}
+use Rattle.tree.specs.Accepted.{PairUnder}
+use Rattle.tree.proofs.AcceptedParts.{AcceptedParts, accepted-parts, parts-accepted}
+use Rattle.tree.proofs.OneTreeSays.{OneTreeSays, says-one-tree, parent-below}
+use Rattle.tree.proofs.AcceptedTree.{accepted-says, pairs-lead}
+use Rattle.tree.proofs.AbsentEnds.{code-good}
+use Rattle.tree.proofs.EachHosts.{host, host-pair}
+use Rattle.topphatt.specs.Slots.{parity-of}
+use Rattle.topphatt.specs.Answer.{answer-table}
+use Rattle.topphatt.specs.Rounds.{Rounds, ended}
+use Rattle.topphatt.specs.Assignment.{AllAssigned, SameShape}
+use Rattle.topphatt.proofs.SlotCases.{even-pair, odd-pair, even-parity, odd-parity}
+use Rattle.topphatt.proofs.RoundsGo.{all-assigned}
+use Rattle.topphatt.proofs.AnswerShape.{relabelled, node-kept, absent-kept, mode-of, mode-below, leaf-relabelled, answer-at, answer-length, pair-with, node-same, node-counts, same-shape}
+
+-- A test that holds at every place leads to the end.
+leading-all : (test : ℕ → Bool) (l : List ℕ) (d : ℕ) → ((i : ℕ) → i < length l → test (getD l i d) ≡ true) → leading test l ≡ length l
+unfolding leading
+leading-all test [] d each = refl
+leading-all test (a ∷ l) d each = rw (each 0 (omega arith)) (ap suc (leading-all test l d (λ i h. each (suc i) (omega arith))))
+
+-- A code stands where it stood if no other becomes it.
+place-mapped : (f : ℕ → ℕ) (v : ℕ) (l : List ℕ) → ((a : ℕ) → eqb (f a) v ≡ eqb a v) → place-of (map f l) v ≡ place-of l v
+unfolding place-of leading
+place-mapped f v [] each = refl
+place-mapped f v (a ∷ l) each = rw (each a) (ap (λ n. cond (cond (eqb a v) false true) (suc n) 0) (place-mapped f v l each))
+
+module _ (modes : ℕ) (table assigned : List ℕ) (all : AllAssigned modes table assigned) (fits : 3 * modes ≤ absent) where
+  answer : List ℕ
+  answer = answer-table modes assigned table
+
+  node-test : (node given : ℕ) → node < modes → eqb (relabelled modes assigned given) node ≡ eqb given node
+  unfolding same
+  node-test node given h = go (eqb (relabelled modes assigned given) node) (eqb given node) (node-same modes table assigned all fits node given h)
+    where
+      go : (a b : Bool) → cond {A = ℕ} a 1 0 ≡ cond b 1 0 → a ≡ b
+      go true true e = refl
+      go false false e = refl
+      go true false e = absurd (omega arith)
+      go false true e = absurd (omega arith)
+
+  same-place : (node : ℕ) → node < modes → place-of answer node ≡ place-of table node
+  unfolding answer answer-table relabelled
+  same-place node h = place-mapped (relabelled modes assigned) node table (λ given. node-test node given h)
+
+  answer-long : length answer ≡ length table
+  unfolding answer
+  answer-long = answer-length modes table assigned all fits
+
+  same-parent : (node : ℕ) → node < modes → parent-of answer node ≡ parent-of table node
+  unfolding parent-of
+  same-parent node h = rw (same-place node h, answer-long)
+
+  child-relabelled : (node edge : ℕ) → child answer node edge ≡ relabelled modes assigned (child table node edge)
+  unfolding child answer
+  child-relabelled node edge = answer-at modes table assigned all fits (3 * node + edge)
+
+  same-node : (given : ℕ) → ltb (relabelled modes assigned given) modes ≡ ltb given modes
+  same-node given = go (ltb given modes) refl (ltb given (3 * modes)) refl
+    where
+      go : (n : Bool) → ltb given modes ≡ n → (l : Bool) → ltb given (3 * modes) ≡ l → ltb (relabelled modes assigned given) modes ≡ n
+      go true q l r = rw (node-kept modes table assigned all fits given (ltb-true given modes q)) q
+      go false q true r =
+          let low = ltb-false given modes q in
+          le-ltb (relabelled modes assigned given) modes
+          (omega (arith, leaf-relabelled modes table assigned all fits given low (ltb-true given (3 * modes) r)))
+      go false q false r =
+          le-ltb (relabelled modes assigned given) modes (omega (arith, absent-kept modes table assigned all fits given (ltb-false given (3 * modes) r)))
+
+  -- The z-chain from what a code became ends in what its end became.
+  chain-relabelled : (steps given : ℕ) → chain-end modes answer steps (relabelled modes assigned given) ≡ relabelled modes assigned (chain-end modes table steps given)
+  unfolding chain-end
+  chain-relabelled zero given = refl
+  chain-relabelled (suc steps) given = go (ltb given modes) refl (chain-relabelled steps)
+    where
+      go : (n : Bool) → ltb given modes ≡ n
+          → ((other : ℕ) → chain-end modes answer steps (relabelled modes assigned other) ≡ relabelled modes assigned (chain-end modes table steps other))
+          → chain-end modes answer (suc steps) (relabelled modes assigned given) ≡ relabelled modes assigned (chain-end modes table (suc steps) given)
+      go true q on =
+          rw (same-node given, q, node-kept modes table assigned all fits given (ltb-true given modes q), child-relabelled given 2)
+          (on (child table given 2))
+      go false q on = rw (same-node given, q) (on given)
+
+  -- The leaves of a pair become those of its mode.
+  even-now : (k mode : ℕ) → k < modes → getD assigned k modes ≡ mode → relabelled modes assigned (modes + 2 * k) ≡ modes + 2 * mode
+  unfolding mode-of
+  even-now k mode l e =
+      let has : mode-of modes table assigned all fits (modes + 2 * k) ≡ mode = ap (λ j. getD assigned j modes) (even-pair modes k) ∙ e in
+      omega (arith, leaf-relabelled modes table assigned all fits (modes + 2 * k) (omega arith) (omega arith), even-parity modes k)
+
+  odd-now : (k mode : ℕ) → k < modes → getD assigned k modes ≡ mode → relabelled modes assigned (modes + 2 * k + 1) ≡ modes + 2 * mode + 1
+  unfolding mode-of
+  odd-now k mode l e =
+      let has : mode-of modes table assigned all fits (modes + 2 * k + 1) ≡ mode = ap (λ j. getD assigned j modes) (odd-pair modes k) ∙ e in
+      omega (arith, leaf-relabelled modes table assigned all fits (modes + 2 * k + 1) (omega arith) (omega arith), odd-parity modes k)
+
+  module _ (most : ℕ) (accepted : tree-checked most modes table ≡ Accepted) where
+    known : (place : ℕ) → place < length table → (ltb (getD table place absent) (3 * modes) || eqb (getD table place absent) absent) ≡ true
+    known place h =
+        let parts = accepted-parts most modes table accepted in
+        code-good modes table (parts .whole) (parts .good) (root-of modes table) (accepted-says most modes table accepted) place h
+
+    same-climb : (steps node : ℕ) → node < modes → climb answer steps node ≡ climb table steps node
+    unfolding climb
+    same-climb zero node h = refl
+    same-climb (suc steps) node h =
+        rw (same-parent node h)
+        (same-climb steps (parent-of table node) (parent-below modes table (accepted-parts most modes table accepted .whole) node h))
+
+    -- What a code of the table becomes is a code of a table.
+    known-still : (given : ℕ) → (ltb given (3 * modes) || eqb given absent) ≡ true
+        → (ltb (relabelled modes assigned given) (3 * modes) || eqb (relabelled modes assigned given) absent) ≡ true
+    unfolding parity-of
+    known-still given ok = go (ltb given modes) refl (ltb given (3 * modes)) refl
+      where
+        low-known : (v : ℕ) → v < 3 * modes → (ltb v (3 * modes) || eqb v absent) ≡ true
+        low-known v h = rw (lt-ltb v (3 * modes) h)
+
+        go : (n : Bool) → ltb given modes ≡ n → (l : Bool) → ltb given (3 * modes) ≡ l
+            → (ltb (relabelled modes assigned given) (3 * modes) || eqb (relabelled modes assigned given) absent) ≡ true
+        go true q l r = let h = ltb-true given modes q in low-known _ (omega (arith, node-kept modes table assigned all fits given h))
+        go false q true r =
+            let low = ltb-false given modes q in
+            let high = ltb-true given (3 * modes) r in
+            low-known _
+            (omega (arith, leaf-relabelled modes table assigned all fits given low high, mode-below modes table assigned all fits given low high))
+        go false q false r =
+            let high = ltb-false given (3 * modes) r in
+            rw
+            (absent-kept modes table assigned all fits given high, eq-eqb absent absent refl, le-ltb absent (3 * modes) fits)
+
+    absent-same : (given : ℕ) → (ltb given (3 * modes) || eqb given absent) ≡ true → same (relabelled modes assigned given) absent ≡ same given absent
+    unfolding parity-of
+    absent-same given ok = go (ltb given modes) refl (ltb given (3 * modes)) refl
+      where
+        go : (n : Bool) → ltb given modes ≡ n → (l : Bool) → ltb given (3 * modes) ≡ l → same (relabelled modes assigned given) absent ≡ same given absent
+        go true q l r = rw (node-kept modes table assigned all fits given (ltb-true given modes q))
+        go false q true r =
+            let low = ltb-false given modes q in
+            let high = ltb-true given (3 * modes) r in
+            same-none (relabelled modes assigned given) absent
+            (λ e.
+            absurd
+            (omega (arith, leaf-relabelled modes table assigned all fits given low high, mode-below modes table assigned all fits given low high)))
+            ∙ sym (same-none given absent (λ e. absurd (omega arith)))
+        go false q false r =
+            rw (absent-kept modes table assigned all fits given (ltb-false given (3 * modes) r), eqb-true given absent (rw r at ok))
+
+    absent-counts : occurrences absent answer ≡ occurrences absent table
+    unfolding answer answer-table relabelled
+    absent-counts =
+        occurrences-map (relabelled modes assigned) absent absent table
+        (λ given m.
+        let at = place-of-member given table absent m in
+        absent-same given (rw (at .2) at (known (at .0) (at .1))))
+
+    answer-says : OneTreeSays modes answer (root-of modes table)
+    unfolding answer
+    answer-says =
+        let says = accepted-says most modes table accepted in
+        let shape = same-shape modes table assigned all fits most accepted in
+        record {
+          inside = says .inside;
+          top = node-counts modes table assigned all fits (root-of modes table) (says .inside) ∙ says .top;
+          node-once = λ node h other. node-counts modes table assigned all fits node h ∙ says .node-once node h other;
+          leaf-once = shape .leaf-once;
+          absent-once = absent-counts ∙ says .absent-once;
+          reached = λ node h. same-climb modes node h ∙ says .reached node h;
+        }
+
+    -- The pair of a mode hangs under the node of the pair that has the mode.
+    answer-pairs : (mode : ℕ) → mode < modes → (node : ℕ) × PairUnder modes answer mode node
+    answer-pairs mode h =
+        let from = pair-with modes table assigned all fits mode h in
+        let k = from .0 in
+        let pair = host-pair most modes table accepted k (from .1) in (
+          host modes table k,
+          record {
+            inside = pair .inside;
+            even = rw (child-relabelled (host modes table k) 0, chain-relabelled modes (child table (host modes table k) 0), pair .even) (even-now k mode (from .1) (from .2));
+            odd = rw (child-relabelled (host modes table k) 1, chain-relabelled modes (child table (host modes table k) 1), pair .odd) (odd-now k mode (from .1) (from .2));
+          },
+        )
+
+    pub accepted-still : tree-checked most modes (answer-table modes assigned table) ≡ Accepted
+    unfolding answer codes-good
+    accepted-still =
+        let parts = accepted-parts most modes table accepted in
+        parts-accepted most modes (answer-table modes assigned table)
+        (record {
+          some = parts .some;
+          few = parts .few;
+          whole = answer-long ∙ parts .whole;
+          good =
+              omega (
+                arith,
+                leading-all (λ given. ltb given (3 * modes) || eqb given absent) (answer-table modes assigned table) absent
+                    (λ i h. rw (answer-at modes table assigned all fits i) (known-still (getD table i absent) (known i (omega (arith, answer-long))))),
+              );
+          one = says-one-tree modes answer (root-of modes table) answer-says;
+          right = omega (arith, pairs-lead modes answer answer-pairs);
+        })
+
+-- After all rounds.
+pub answer-accepted : (most modes : ℕ) (table : List ℕ) (heuristic : ℕ) (terms : List (List ℕ)) → tree-checked most modes table ≡ Accepted
+    → 3 * modes + 2 < 65536 → tree-checked most modes (answer-table modes (ended modes table heuristic terms .assigned) table) ≡ Accepted
+answer-accepted most modes table heuristic terms accepted few =
+    accepted-still modes table (ended modes table heuristic terms .assigned) (all-assigned most modes table accepted few heuristic terms) (omega arith)
+    most accepted
