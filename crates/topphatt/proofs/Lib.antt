@@ -13,3 +13,4 @@ pub mod RoundGives
 pub mod RoundsGo
 pub mod AnswerShape
 pub mod AnswerAccepted
+pub mod RoundsWent

@@ -31,7 +31,7 @@ unfolding slot
 slot-unfixed modes table assigned node edge e = unfixed-without modes assigned (child table node edge) e
 
 -- A pair without a mode is a pair, so there are no more than n.
-pairs-at-most : (modes : ℕ) (assigned : List ℕ) → Fair modes assigned → occurrences modes assigned ≤ modes
+pub pairs-at-most : (modes : ℕ) (assigned : List ℕ) → Fair modes assigned → occurrences modes assigned ≤ modes
 pairs-at-most modes assigned fair = omega (arith, counted-with modes modes assigned (omega arith), fair .whole)
 
 -- Where no pair is without a mode, each mode is one pair's and no slot is unfixed.

@@ -37,6 +37,13 @@ pub record UnderWay (modes : ℕ) (state : Rounds) : Type 0 where
   pub fair : Fair modes (state .assigned)
   pub fresh : state .round ≡ 0 → (k : ℕ) → modes ≤ getD (state .assigned) k modes
 
+-- The rounds from one state to another, as document 01 tells them: while a mode is unassigned, a round with the choice that it describes.
+pub data Went (modes : ℕ) (table : List ℕ) (heuristic : ℕ) : Rounds → Rounds → Type 0 where
+  no-more : {state end : Rounds} → length (unassigned modes (state .assigned)) ≡ 0 → end ≡ state → Went modes table heuristic state end
+  one-more : {state end : Rounds} → 0 < length (unassigned modes (state .assigned)) → (choice : Choice)
+      → Chosen modes table heuristic (state .round) (state .assigned) (state .rows) choice
+      → Went modes table heuristic (after modes table choice state) end → Went modes table heuristic state end
+
 -- No mode is unassigned: every pair has a mode, each mode is one pair's, and no slot is unfixed.
 pub record AllAssigned (modes : ℕ) (table assigned : List ℕ) : Type 0 where
   pub none-left : length (unassigned modes assigned) ≡ 0
