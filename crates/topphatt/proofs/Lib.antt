@@ -14,3 +14,4 @@ pub mod RoundsGo
 pub mod AnswerShape
 pub mod AnswerAccepted
 pub mod RoundsWent
+pub mod OutcomeRight

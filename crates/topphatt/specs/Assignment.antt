@@ -6,10 +6,13 @@ use Prim.Native.Nat.{ℕ, _*_, _<_, _≤_}
 use lib.ListN.{length, getD}
 use Rattle.lists.specs.Counting.{occurrences}
 use Rattle.tree.specs.Table.{absent}
+use Rattle.tree.specs.Check.{tree-checked}
+use Rattle.tree.specs.declared.TreeChecked.the-variants.{Accepted}
 use Rattle.topphatt.specs.Slots.{slot, unfixed}
 use Rattle.topphatt.specs.Choices.{unassigned}
 use Rattle.topphatt.specs.Choice.{Choice, candidates, Chosen}
-use Rattle.topphatt.specs.Rounds.{Rounds, after, next}
+use Rattle.topphatt.specs.Rounds.{Rounds, before, after, next}
+use Rattle.topphatt.specs.Answer.{answer-table}
 
 -- Each pair has a mode or none, which is n; no two pairs have the same mode.
 pub record Fair (modes : ℕ) (assigned : List ℕ) : Type 0 where
@@ -58,3 +61,13 @@ pub record SameShape (modes : ℕ) (table answer : List ℕ) : Type 0 where
   pub node-stays : (place : ℕ) → place < length table → getD table place absent < modes → getD answer place absent ≡ getD table place absent
   pub absent-stays : (place : ℕ) → place < length table → getD table place absent ≡ absent → getD answer place absent ≡ absent
   pub leaf-once : (code : ℕ) → modes ≤ code → code < 3 * modes → occurrences code answer ≡ 1
+
+-- What a call that is done has computed: the sum of the chosen weights of the rounds that document 01 tells, and their tree, which is accepted.
+pub record AnswerRight (most modes : ℕ) (table : List ℕ) (heuristic : ℕ) (terms : List (List ℕ)) (weight : ℕ) (answer : List ℕ) : Type 0 where
+  pub end : Rounds
+  pub went : Went modes table heuristic (before modes terms) end
+  pub weight-is : weight ≡ end .weight
+  pub answer-is : answer ≡ answer-table modes (end .assigned) table
+  pub all : AllAssigned modes table (end .assigned)
+  pub shape : SameShape modes table answer
+  pub accepted : tree-checked most modes answer ≡ Accepted
