@@ -21,6 +21,11 @@ module _ {A : Type 0} (test : A → Bool) where
   every-at (a ∷ l) zero d h e = every-uncons a l e .0
   every-at (a ∷ l) (suc i) d h e = every-at l i d (omega arith) (every-uncons a l e .1)
 
+  pub every-by-place : (l : List A) (d : A) → ((i : ℕ) → i < length l → test (getD l i d) ≡ true) → every test l ≡ true
+  unfolding every
+  every-by-place [] d each = refl
+  every-by-place (a ∷ l) d each = every-cons a l (each 0 (omega arith)) (every-by-place l d (λ i h. each (suc i) (omega arith)))
+
   pub every-append : (l m : List A) → every test l ≡ true → every test m ≡ true → every test (l ++ m) ≡ true
   every-append [] m e f = f
   every-append (a ∷ l) m e f =

@@ -1,5 +1,5 @@
 -- How many elements lead before the first of which a test doesn't hold: step by step, and what is known of those elements.
-use mathlib.Core.Path.{_≡_, refl}
+use mathlib.Core.Path.{_≡_, refl, ap}
 use mathlib.Core.Bool.{Bool, true, false}
 use mathlib.Core.List.{List, [], _∷_}
 use Prim.Native.Nat.{ℕ, zero, suc, _+_, _<_, _≤_}
@@ -44,3 +44,9 @@ module _ {A : Type 0} (test : A → Bool) where
           → (leading test l < length l → test (getD l (leading test l) d) ≡ false) → test (getD (a ∷ l) (leading test (a ∷ l)) d) ≡ false
       go true e k on = rw e (on (omega (arith, rw e at k)))
       go false e k on = rw e e
+
+  -- Where the test holds at every place, all lead.
+  pub leading-all : (l : List A) (d : A) → ((i : ℕ) → i < length l → test (getD l i d) ≡ true) → leading test l ≡ length l
+  unfolding leading
+  leading-all [] d each = refl
+  leading-all (a ∷ l) d each = rw (each 0 (omega arith)) (ap suc (leading-all l d (λ i h. each (suc i) (omega arith))))

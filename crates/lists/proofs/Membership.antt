@@ -55,3 +55,9 @@ unfolding listed
 of-counted v from zero m = absurd (List·Memᴰ·not-nil m)
 of-counted v from (suc count) m =
     ⊎-elim (λ e. omega arith) (λ later. omega (arith, of-counted v (suc from) count later)) (List·Memᴰ·cases-cons m)
+
+pub counted-below : (v from count : ℕ) → List·Memᴰ v (listed (λ number. number) from count) → v < from + count
+unfolding listed
+counted-below v from zero m = absurd (List·Memᴰ·not-nil m)
+counted-below v from (suc count) m =
+    ⊎-elim (λ e. omega arith) (λ later. omega (arith, counted-below v (suc from) count later)) (List·Memᴰ·cases-cons m)

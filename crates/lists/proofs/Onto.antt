@@ -1,12 +1,12 @@
 -- A rule that takes the numbers below a count to numbers below it, no two to the same, arrives at each of them.
-use mathlib.Core.Path.{_≡_, refl, ap, _∙_, sym}
+use mathlib.Core.Path.{_≡_, refl, _∙_, sym}
 use mathlib.Core.Bool.{Bool, true, false}
-use mathlib.Core.List.{List, [], _∷_, map}
+use mathlib.Core.List.{List, map}
 use Prim.Native.Nat.{ℕ, zero, suc, _<_, _≤_}
 use native.Mathlib.Omega.{arith}
 use borrow.Author.Tests.{lt-ltb, ltb-true, eqb-true, eqb-false}
 use lib.Dec.{eqb, ltb}
-use lib.ListN.{length, length-map}
+use lib.ListN.{length-map}
 use Rattle.lists.specs.Counting.{same, occurrences}
 use Rattle.lists.specs.Members.{every}
 use Rattle.lists.specs.Ranges.{listed}

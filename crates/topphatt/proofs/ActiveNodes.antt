@@ -1,28 +1,19 @@
 -- The nodes of a round: some of the farthest remaining ones, ascending, and at least one where any remains.
-use mathlib.Core.Path.{_≡_, refl, ap, _∙_, sym}
+use mathlib.Core.Path.{_≡_, refl, ap}
 use mathlib.Core.Bool.{Bool, true, false, cond, not, _||_}
-use mathlib.Core.List.{List, [], _∷_, map, List·Memᴰ, List·Memᴰ·head, List·Memᴰ·tail, List·Memᴰ·cases-cons, List·Memᴰ·not-nil}
-use mathlib.Core.Logic.{_⊎_, inl, inr, ⊎-elim}
-use Prim.Native.Nat.{ℕ, zero, suc, _+_, _-_, _<_, _≤_, max}
+use mathlib.Core.List.{List, [], _∷_, map, List·Memᴰ, List·Memᴰ·head, List·Memᴰ·tail}
+use Prim.Native.Nat.{ℕ, _-_, _<_, _≤_, max}
 use native.Mathlib.Omega.{arith}
 use borrow.Author.Tests.{eqb-true, eq-eqb, leb-true, leb-false}
 use lib.Dec.{eqb, leb}
 use lib.ListN.{length, take, drop, length-drop}
-use Rattle.lists.specs.Members.{keep, alike, firsts}
+use Rattle.lists.specs.Members.{firsts}
 use Rattle.lists.specs.Ranges.{listed}
-use Rattle.lists.proofs.Membership.{kept, of-kept, counted}
+use Rattle.lists.proofs.Membership.{kept, of-kept, counted, counted-below}
 use Rattle.lists.proofs.Ordered.{Ascending, counted-ascends, kept-ascends}
-use Rattle.lists.proofs.Narrowing.{some-member, member-of-some, of-taken, of-dropped, of-first, some-first, taken-ascends, dropped-ascends, firsts-ascend}
+use Rattle.lists.proofs.Narrowing.{some-member, of-taken, of-dropped, of-first, some-first, taken-ascends, dropped-ascends, firsts-ascend}
 use Rattle.tree.specs.Table.{nodes}
-use Rattle.topphatt.specs.Slots.{slots}
 use Rattle.topphatt.specs.Nodes.{distance, complete, remaining, largest, farthest, narrowed, active}
-
--- A number of a range is below its end.
-pub counted-below : (v from count : ℕ) → List·Memᴰ v (listed (λ number. number) from count) → v < from + count
-unfolding listed
-counted-below v from zero m = absurd (List·Memᴰ·not-nil m)
-counted-below v from (suc count) m =
-    ⊎-elim (λ e. omega arith) (λ later. omega (arith, counted-below v (suc from) count later)) (List·Memᴰ·cases-cons m)
 
 -- A heuristic keeps some of the nodes, in their order, and at least one.
 module _ (heuristic : ℕ) (like : ℕ → ℕ → Bool) (far : List ℕ) where

@@ -1,11 +1,11 @@
 -- An active node's unfixed slots, on an accepted tree: X and Y are the two leaves of one pair without a mode, or neither is unfixed and Z is.
 -- Were X an unfixed leaf and Y a node, the leaf's partner would end the z-chain from Y under Z of a node farther from the root that isn't
 -- complete either.
-use mathlib.Core.Path.{_≡_, refl, ap, _∙_, sym}
-use mathlib.Core.Bool.{Bool, true, false, cond, not, _&&_, _||_}
+use mathlib.Core.Path.{_≡_, refl, _∙_, sym}
+use mathlib.Core.Bool.{Bool, true, false, not, _&&_, _||_}
 use mathlib.Core.List.{List}
 use mathlib.Core.Logic.{_⊎_, inl, inr, ⊎-elim}
-use Prim.Native.Nat.{ℕ, suc, _+_, _*_, _<_, _≤_}
+use Prim.Native.Nat.{ℕ, _+_, _*_, _<_, _≤_}
 use native.Mathlib.Omega.{arith}
 use borrow.Author.Tests.{ltb-true, ltb-false, not-true}
 use lib.Dec.{eqb, ltb}
@@ -18,10 +18,10 @@ use Rattle.tree.specs.Accepted.{PairUnder}
 use Rattle.tree.proofs.TableSteps.{chain-rests}
 use Rattle.tree.proofs.EachHosts.{each-hosts, pair-children}
 use Rattle.topphatt.specs.Slots.{pair-of, slot-of, slot, unfixed}
-use Rattle.topphatt.specs.Nodes.{distance, is-fixed, complete}
+use Rattle.topphatt.specs.Nodes.{is-fixed, complete}
 use Rattle.topphatt.proofs.ActiveNodes.{Active}
 use Rattle.topphatt.proofs.SlotCases.{Without, without-unfixed, unfixed-without, low-fixed, even-pair, odd-pair, even-without, odd-without}
-use Rattle.topphatt.proofs.Distances.{deeper, ChainHolder, chain-holder}
+use Rattle.topphatt.proofs.Distances.{deeper, chain-holder}
 
 -- X and Y are the leaves of pair k, which has no mode.
 pub record PairHere (modes : ℕ) (table assigned : List ℕ) (node k : ℕ) : Type 0 where

@@ -2,47 +2,35 @@
 -- of a pair became the leaves of the pair's mode, so that they still end the z-chains from one node's X and Y children.
 use mathlib.Core.Path.{_≡_, refl, ap, _∙_, sym}
 use mathlib.Core.Bool.{Bool, true, false, cond, _||_}
-use mathlib.Core.List.{List, [], _∷_, map, List·Memᴰ}
-use mathlib.Core.Logic.{_⊎_, inl, inr, ⊎-elim}
-use Prim.Native.Nat.{ℕ, zero, suc, _+_, _*_, _/_, _<_, _≤_}
+use mathlib.Core.List.{List}
+use Prim.Native.Nat.{ℕ, zero, suc, _+_, _*_, _<_, _≤_}
 use native.Mathlib.Omega.{arith}
-use borrow.Author.Tests.{lt-ltb, le-ltb, eq-eqb, ne-eqb, eqb-true, ltb-true, ltb-false}
+use borrow.Author.Tests.{lt-ltb, le-ltb, eq-eqb, eqb-true, ltb-true, ltb-false}
 use lib.Dec.{eqb, ltb}
-use lib.ListN.{length, getD, length-map}
+use lib.ListN.{length, getD}
 use Rattle.lists.specs.Counting.{same, occurrences}
-use Rattle.lists.specs.Members.{leading}
-use Rattle.lists.proofs.Sums.{same-one, same-none}
+use Rattle.lists.proofs.Leading.{leading-all}
+use Rattle.lists.proofs.Sums.{same-none}
 use Rattle.lists.proofs.Replaced.{occurrences-map, place-of-member}
 use Rattle.tree.specs.declared.TreeChecked.the-variants.{Accepted}
 use Rattle.tree.specs.Table.{absent, child, place-of, parent-of, climb}
 use Rattle.tree.specs.OneTree.{root-of}
-use Rattle.tree.specs.Pairs.{chain-end, pairs-right}
+use Rattle.tree.specs.Pairs.{chain-end}
 use Rattle.tree.specs.Check.{codes-good, tree-checked}
 use Rattle.tree.specs.Accepted.{PairUnder}
-use Rattle.tree.proofs.AcceptedParts.{AcceptedParts, accepted-parts, parts-accepted}
+use Rattle.tree.proofs.AcceptedParts.{accepted-parts, parts-accepted}
+use Rattle.tree.proofs.Standing.{place-mapped}
 use Rattle.tree.proofs.OneTreeSays.{OneTreeSays, says-one-tree, parent-below}
 use Rattle.tree.proofs.AcceptedTree.{accepted-says, pairs-lead}
 use Rattle.tree.proofs.AbsentEnds.{code-good}
 use Rattle.tree.proofs.EachHosts.{host, host-pair}
 use Rattle.topphatt.specs.Slots.{parity-of}
 use Rattle.topphatt.specs.Answer.{answer-table}
-use Rattle.topphatt.specs.Rounds.{Rounds, ended}
-use Rattle.topphatt.specs.Assignment.{AllAssigned, SameShape}
+use Rattle.topphatt.specs.Rounds.{ended}
+use Rattle.topphatt.specs.Assignment.{AllAssigned}
 use Rattle.topphatt.proofs.SlotCases.{even-pair, odd-pair, even-parity, odd-parity}
 use Rattle.topphatt.proofs.RoundsGo.{all-assigned}
 use Rattle.topphatt.proofs.AnswerShape.{relabelled, node-kept, absent-kept, mode-of, mode-below, leaf-relabelled, answer-at, answer-length, pair-with, node-same, node-counts, same-shape}
-
--- A test that holds at every place leads to the end.
-leading-all : (test : ℕ → Bool) (l : List ℕ) (d : ℕ) → ((i : ℕ) → i < length l → test (getD l i d) ≡ true) → leading test l ≡ length l
-unfolding leading
-leading-all test [] d each = refl
-leading-all test (a ∷ l) d each = rw (each 0 (omega arith)) (ap suc (leading-all test l d (λ i h. each (suc i) (omega arith))))
-
--- A code stands where it stood if no other becomes it.
-place-mapped : (f : ℕ → ℕ) (v : ℕ) (l : List ℕ) → ((a : ℕ) → eqb (f a) v ≡ eqb a v) → place-of (map f l) v ≡ place-of l v
-unfolding place-of leading
-place-mapped f v [] each = refl
-place-mapped f v (a ∷ l) each = rw (each a) (ap (λ n. cond (cond (eqb a v) false true) (suc n) 0) (place-mapped f v l each))
 
 module _ (modes : ℕ) (table assigned : List ℕ) (all : AllAssigned modes table assigned) (fits : 3 * modes ≤ absent) where
   answer : List ℕ

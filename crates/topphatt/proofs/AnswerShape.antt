@@ -1,25 +1,27 @@
 -- The answer where every pair has a mode: each node and the absent child stay where they are, and each leaf stands once.
 use mathlib.Core.Path.{_≡_, refl, ap, _∙_, sym}
-use mathlib.Core.Bool.{Bool, true, false, cond}
+use mathlib.Core.Bool.{Bool, true, false}
 use mathlib.Core.List.{List, map}
-use mathlib.Core.Logic.{_⊎_, inl, inr, ⊎-elim}
-use Prim.Native.Nat.{ℕ, suc, _+_, _-_, _*_, _/_, _%_, _<_, _≤_}
+use mathlib.Core.Logic.{⊎-elim}
+use Prim.Native.Nat.{ℕ, _+_, _-_, _*_, _<_, _≤_}
 use native.Mathlib.Omega.{arith}
 use borrow.Author.Tests.{lt-ltb, le-ltb, eq-eqb, ne-eqb, ltb-true, ltb-false}
-use lib.Dec.{eqb, ltb}
+use lib.Dec.{ltb}
 use lib.ListN.{length, getD, length-map, List·getD-map}
 use Rattle.lists.specs.Counting.{same, occurrences}
 use Rattle.lists.proofs.Tests.{same-or-not}
 use Rattle.lists.proofs.Sums.{same-one, same-none}
-use Rattle.lists.proofs.Replaced.{occurrences-map, occurs-where, occurs-twice}
+use Rattle.lists.proofs.Replaced.{occurrences-map}
+use Rattle.lists.proofs.Occurring.{occurs-twice}
 use Rattle.merging.specs.Flatpack.{code}
 use Rattle.tree.specs.declared.TreeChecked.the-variants.{Accepted}
-use Rattle.tree.specs.Table.{absent}
+use Rattle.tree.specs.Table.{absent, place-of}
 use Rattle.tree.specs.Check.{tree-checked}
+use Rattle.tree.proofs.Standing.{place-within, stands-there}
 use Rattle.tree.proofs.AcceptedTree.{accepted-says}
 use Rattle.topphatt.specs.Slots.{pair-of, parity-of, slot-of}
 use Rattle.topphatt.specs.Answer.{answer-table}
-use Rattle.topphatt.specs.Rounds.{Rounds, ended}
+use Rattle.topphatt.specs.Rounds.{ended}
 use Rattle.topphatt.specs.Assignment.{AllAssigned, SameShape}
 use Rattle.topphatt.proofs.SlotCases.{slot-child, slot-empty, slot-fixed, pair-below}
 use Rattle.topphatt.proofs.RoundsGo.{all-assigned}
@@ -80,8 +82,8 @@ module _ (modes : ℕ) (table assigned : List ℕ) (all : AllAssigned modes tabl
 
   pub pair-with : (mode : ℕ) → mode < modes → (k : ℕ) × (k < modes) × (getD assigned k modes ≡ mode)
   pair-with mode h =
-      let r = occurs-where mode assigned modes (omega (arith, all .each-once mode h)) in
-      (r .0, omega (arith, r .1, all .whole), r .2)
+      let some : 1 ≤ occurrences mode assigned = omega (arith, all .each-once mode h) in
+      (place-of assigned mode, omega (arith, place-within mode assigned some, all .whole), stands-there mode modes assigned some)
 
   -- A node's code stands in the answer as in the table, wherever it is looked for.
   pub node-same : (node given : ℕ) → node < modes → same (relabelled modes assigned given) node ≡ same given node

@@ -1,8 +1,8 @@
 -- Document 01's words for the choice of a round leave no room: two choices that fit them are the same, triple and node.
-use mathlib.Core.Path.{_≡_, ap, _∙_, sym}
+use mathlib.Core.Path.{_≡_, sym}
 use mathlib.Core.List.{List}
-use mathlib.Core.Logic.{_⊎_, ⊎-elim}
-use Prim.Native.Nat.{ℕ, _≤_}
+use mathlib.Core.Logic.{⊎-elim}
+use Prim.Native.Nat.{ℕ}
 use native.Mathlib.Omega.{arith}
 use Rattle.terms.specs.declared.row.Triple.{Triple}
 use Rattle.terms.specs.Weight.{weight-of}

@@ -1,6 +1,6 @@
 -- While there is a candidate, the computed choice of a round is the one that document 01 describes.
-use mathlib.Core.Path.{_≡_, refl, ap, _∙_, sym}
-use mathlib.Core.List.{List, [], _∷_, map, flatMap, List·Memᴰ, Memᴰ·of-map}
+use mathlib.Core.Path.{_≡_, ap}
+use mathlib.Core.List.{List, [], _∷_, map, List·Memᴰ, Memᴰ·of-map}
 use mathlib.Core.Logic.{_⊎_, inl, inr, ⊎-elim}
 use Prim.Native.Nat.{ℕ, _+_, _-_, _*_, _<_, _≤_}
 use native.Mathlib.Omega.{arith}
@@ -17,7 +17,7 @@ use Rattle.topphatt.specs.Nodes.{active}
 use Rattle.topphatt.specs.Choices.{choices-at}
 use Rattle.topphatt.specs.Choice.{Choice, candidates, packed, rank, least-of, chosen, Larger, Chosen}
 use Rattle.topphatt.proofs.ActiveNodes.{active-ascends}
-use Rattle.topphatt.proofs.NumberBounds.{Small, choices-small}
+use Rattle.topphatt.proofs.NumberBounds.{choices-small}
 
 -- One choice of no higher node than another.
 abbrev pub Lower : Choice → Choice → Type 0

@@ -1,14 +1,13 @@
 -- In an accepted tree a node's child that is a node is one step farther from the root; and the z-chain from a node ends under Z of a node
 -- that is no nearer.
 use mathlib.Core.Path.{_≡_, refl, ap, _∙_, sym}
-use mathlib.Core.Bool.{Bool, true, false, cond}
+use mathlib.Core.Bool.{Bool, true, false}
 use mathlib.Core.List.{List}
 use Prim.Native.Nat.{ℕ, zero, suc, _+_, _*_, _/_, _<_, _≤_}
 use native.Mathlib.Omega.{arith}
 use borrow.Author.Tests.{lt-ltb, le-ltb, ltb-true, ltb-false}
 use lib.Dec.{ltb}
 use lib.ListN.{length}
-use Rattle.lists.specs.Counting.{occurrences}
 use Rattle.tree.specs.declared.TreeChecked.the-variants.{Accepted}
 use Rattle.tree.specs.Table.{child, place-of, parent-of, climb}
 use Rattle.tree.specs.OneTree.{root-of}

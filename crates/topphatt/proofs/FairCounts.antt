@@ -1,50 +1,29 @@
 -- Where each pair has a mode or none and no two the same, as many pairs have none as modes are unassigned; and giving a pair that has none
 -- a mode that is unassigned leaves it so.
 use mathlib.Core.Path.{_≡_, refl, ap, _∙_, sym}
-use mathlib.Core.Bool.{Bool, true, false, cond, not}
-use mathlib.Core.List.{List, [], _∷_}
+use mathlib.Core.Bool.{Bool, true, false, not}
+use mathlib.Core.List.{List}
 use mathlib.Core.Logic.{_⊎_, inl, inr, ⊎-elim}
-use Prim.Native.Nat.{ℕ, zero, suc, _+_, _<_, _≤_}
+use Prim.Native.Nat.{ℕ, suc, _+_, _<_, _≤_}
 use native.Mathlib.Omega.{arith}
-use borrow.Author.Tests.{lt-ltb, eq-eqb, ne-eqb, eqb-false, eqb-true}
+use borrow.Author.Tests.{lt-ltb}
 use lib.Dec.{eqb, ltb}
 use lib.ListN.{length, getD, set, replicate, length-set, length-replicate, getD-replicate}
 use lib.Seq.{getD-set-same, getD-set-other}
-use Rattle.lists.specs.Counting.{same, occurrences}
+use Rattle.lists.specs.Counting.{occurrences}
 use Rattle.lists.specs.Members.{every, some-of}
 use Rattle.lists.specs.Ranges.{listed}
-use Rattle.lists.proofs.Tests.{same-or-not, neither}
-use Rattle.lists.proofs.Every.{every-cons}
-use Rattle.lists.proofs.Occurring.{occurs-at}
-use Rattle.lists.proofs.Replaced.{occurrences-set, occurs-twice, occurs-where}
+use Rattle.lists.proofs.Tests.{same-or-not}
+use Rattle.lists.proofs.Every.{every-by-place}
+use Rattle.lists.proofs.Occurring.{occurs-at, occurs-twice, none-occurs, some-occurs}
+use Rattle.lists.proofs.Replaced.{occurrences-set, occurrences-replicate}
 use Rattle.lists.proofs.Pigeonholes.{counted-all, values-same}
 use Rattle.lists.proofs.Totals.{total, total-add, total-same, total-ones}
 use Rattle.lists.proofs.Sums.{one-if, same-one, same-none, length-keep, sum-listed}
+use Rattle.tree.specs.Table.{place-of}
+use Rattle.tree.proofs.Standing.{place-within, stands-there}
 use Rattle.topphatt.specs.Choices.{unassigned}
 use Rattle.topphatt.specs.Assignment.{Fair, Given}
-
-every-by-place : (test : ℕ → Bool) (l : List ℕ) (d : ℕ) → ((i : ℕ) → i < length l → test (getD l i d) ≡ true) → every test l ≡ true
-unfolding every
-every-by-place test [] d each = refl
-every-by-place test (a ∷ l) d each =
-    every-cons test a l (each 0 (omega arith)) (every-by-place test l d (λ i h. each (suc i) (omega arith)))
-
--- A mode that no entry has occurs nowhere, and one that occurs is had by some.
-pub none-occurs : (v : ℕ) (l : List ℕ) → some-of (eqb v) l ≡ false → occurrences v l ≡ 0
-unfolding some-of occurrences
-none-occurs v [] e = refl
-none-occurs v (a ∷ l) e =
-    let r = neither (eqb v a) (some-of (eqb v) l) e in
-    omega (arith, same-none a v (λ q. eqb-false v a (r .0) (sym q)), none-occurs v l (r .1))
-
-some-occurs : (v : ℕ) (l : List ℕ) → some-of (eqb v) l ≡ true → 1 ≤ occurrences v l
-unfolding some-of occurrences
-some-occurs v [] e = let z : _≡_ {A = ℕ} 0 1 = cc in absurd (omega arith)
-some-occurs v (a ∷ l) e = go (eqb v a) refl (some-occurs v l)
-  where
-    go : (b : Bool) → eqb v a ≡ b → (some-of (eqb v) l ≡ true → 1 ≤ occurrences v l) → 1 ≤ same a v + occurrences v l
-    go true q on = omega (arith, same-one a v (sym (eqb-true v a q)))
-    go false q on = omega (arith, on (rw q at e))
 
 one-or-none : (v : ℕ) (l : List ℕ) → occurrences v l ≤ 1 → occurrences v l + one-if (not (some-of (eqb v) l)) ≡ 1
 one-or-none v l h = go (some-of (eqb v) l) refl
@@ -52,11 +31,6 @@ one-or-none v l h = go (some-of (eqb v) l) refl
     go : (b : Bool) → some-of (eqb v) l ≡ b → occurrences v l + one-if (not b) ≡ 1
     go true q = omega (arith, some-occurs v l q)
     go false q = omega (arith, none-occurs v l q)
-
-occurrences-replicate : (v x n : ℕ) → (x ≡ v → ⊥) → occurrences v (replicate n x) ≡ 0
-unfolding occurrences
-occurrences-replicate v x zero apart = refl
-occurrences-replicate v x (suc n) apart = omega (arith, same-none x v apart, occurrences-replicate v x n apart)
 
 -- Before the first round no pair has a mode.
 pub fair-before : (modes : ℕ) → Fair modes (replicate modes modes)
@@ -87,8 +61,8 @@ module _ (modes : ℕ) (assigned : List ℕ) (fair : Fair modes assigned) where
   -- A mode is unassigned exactly where a pair has none; where two pairs have none, two modes are.
   pub pair-without : 0 < length (unassigned modes assigned) → (k : ℕ) × (k < modes) × (getD assigned k modes ≡ modes)
   pair-without h =
-      let r = occurs-where modes assigned modes (omega (arith, as-many)) in
-      (r .0, omega (arith, r .1, fair .whole), r .2)
+      let some : 1 ≤ occurrences modes assigned = omega (arith, as-many) in
+      (place-of assigned modes, omega (arith, place-within modes assigned some, fair .whole), stands-there modes modes assigned some)
 
   pub mode-left : (k : ℕ) → k < modes → modes ≤ getD assigned k modes → 0 < length (unassigned modes assigned)
   mode-left k h none = omega (arith, as-many, fair .known k h, occurs-at modes assigned k modes (omega (arith, fair .whole)) (omega (arith, fair .known k h)))

@@ -1,21 +1,20 @@
 -- The numbers of slots and of choices are small: a slot is at most 3n+2, a leaf below 2n.
-use mathlib.Core.Path.{_≡_, refl, ap, _∙_, sym}
+use mathlib.Core.Path.{_≡_, refl, ap, sym}
 use mathlib.Core.Bool.{Bool, true, false, cond, not, _&&_}
 use mathlib.Core.List.{List, [], _∷_, map, flatMap, List·Memᴰ, List·Memᴰ·eq-of-singleton, Memᴰ·of-map}
 use mathlib.Core.Logic.{_⊎_, inl, inr, ⊎-elim}
-use Prim.Native.Nat.{ℕ, _+_, _-_, _*_, _%_, _<_, _≤_}
+use Prim.Native.Nat.{ℕ, _+_, _*_, _<_, _≤_}
 use native.Mathlib.Omega.{arith}
-use borrow.Author.Tests.{ltb-true, ltb-false, eqb-false, not-true}
+use borrow.Author.Tests.{ltb-true, eqb-false, not-true}
 use lib.Dec.{eqb, ltb}
 use lib.ListN.{getD}
-use Rattle.lists.specs.Members.{keep, some-of}
+use Rattle.lists.specs.Members.{some-of}
 use Rattle.lists.specs.Ranges.{listed}
-use Rattle.lists.proofs.Membership.{of-kept, of-joined}
+use Rattle.lists.proofs.Membership.{of-kept, of-joined, counted-below}
 use Rattle.terms.specs.declared.row.Triple.{Triple}
 use Rattle.tree.specs.Table.{child}
 use Rattle.topphatt.specs.Slots.{pair-of, parity-of, leaf-slot, slot-of, slot, unfixed, leaf-of}
 use Rattle.topphatt.specs.Choices.{unassigned, without, numbers, with-z, choices, choices-at}
-use Rattle.topphatt.proofs.ActiveNodes.{counted-below}
 
 module _ (modes : ℕ) where
   pub leaf-slot-most : (mode parity : ℕ) → parity ≤ 1 → leaf-slot modes mode parity ≤ 3 * modes + 2

@@ -1,8 +1,8 @@
 -- A call that is done has computed what document 01 describes.
-use mathlib.Core.Path.{_≡_, refl, ap, _∙_, sym}
-use mathlib.Core.Bool.{Bool, true, false, cond, _&&_}
+use mathlib.Core.Path.{_≡_, refl}
+use mathlib.Core.Bool.{Bool, true, false, _&&_}
 use mathlib.Core.List.{List}
-use Prim.Native.Nat.{ℕ, _+_, _*_, _<_, _≤_}
+use Prim.Native.Nat.{ℕ, _+_, _*_, _<_}
 use native.Mathlib.Omega.{arith}
 use lib.Dec.{leb}
 use Rattle.refusal.specs.declared.Refusal.{Refusal}
@@ -14,8 +14,8 @@ use Rattle.tree.specs.Check.{tree-checked}
 use Rattle.tree.specs.declared.TreeChecked.{TreeChecked}
 use Rattle.tree.specs.declared.TreeChecked.the-variants.{Accepted, Refused as BadTree}
 use Rattle.tree.proofs.AcceptedParts.{accepted-parts}
-use Rattle.topphatt.specs.Rounds.{Rounds, ended}
-use Rattle.topphatt.specs.Answer.{Outcome, done, refused, answer-table, with-room, with-terms, with-tree, outcome}
+use Rattle.topphatt.specs.Rounds.{ended}
+use Rattle.topphatt.specs.Answer.{done, refused, answer-table, with-room, with-terms, with-tree, outcome}
 use Rattle.topphatt.specs.Assignment.{AnswerRight}
 use Rattle.topphatt.proofs.RoundsGo.{all-assigned}
 use Rattle.topphatt.proofs.RoundsWent.{ended-went}

@@ -1,30 +1,30 @@
 -- On an accepted tree each choice of a round gives modes to pairs that had none: the pair under X and Y one, the pair of a Z leaf another.
 use mathlib.Core.Path.{_≡_, refl, ap, _∙_, sym}
-use mathlib.Core.Bool.{Bool, true, false, cond, _&&_}
+use mathlib.Core.Bool.{Bool, true, false}
 use mathlib.Core.List.{List, List·Memᴰ}
-use mathlib.Core.Logic.{_⊎_, inl, inr, ⊎-elim}
-use Prim.Native.Nat.{ℕ, suc, _+_, _-_, _*_, _/_, _%_, _<_, _≤_}
+use mathlib.Core.Logic.{⊎-elim}
+use Prim.Native.Nat.{ℕ, _*_, _/_, _<_, _≤_}
 use native.Mathlib.Omega.{arith}
 use lib.Dec.{eqb}
-use lib.ListN.{length, getD, set}
+use lib.ListN.{getD, set}
 use lib.Seq.{getD-set-same, getD-set-other}
 use Rattle.lists.specs.Counting.{occurrences}
-use Rattle.lists.proofs.Tests.{same-or-not}
+use Rattle.lists.proofs.Occurring.{none-occurs}
 use Rattle.terms.specs.declared.row.Triple.{Triple}
 use Rattle.tree.specs.declared.TreeChecked.the-variants.{Accepted}
 use Rattle.tree.specs.Table.{absent, child}
 use Rattle.tree.specs.Check.{tree-checked}
 use Rattle.topphatt.specs.Slots.{pair-of, parity-of, slot-of, slot, unfixed, leaf-of}
 use Rattle.topphatt.specs.Nodes.{active}
-use Rattle.topphatt.specs.Choices.{unassigned, without, numbers, choices, choices-at}
+use Rattle.topphatt.specs.Choices.{unassigned, without, numbers, choices-at}
 use Rattle.topphatt.specs.Choice.{Choice, candidates}
 use Rattle.topphatt.specs.Rounds.{fixed, fixed-by}
 use Rattle.topphatt.specs.Assignment.{Fair, Given}
-use Rattle.topphatt.proofs.ActiveNodes.{Active, of-active}
+use Rattle.topphatt.proofs.ActiveNodes.{of-active}
 use Rattle.topphatt.proofs.NumberBounds.{of-unassigned, of-without, of-numbers, Pairwise, Singly, of-choices}
 use Rattle.topphatt.proofs.ChosenRight.{of-candidates}
-use Rattle.topphatt.proofs.FairCounts.{none-occurs, given, given-twice, others-stay}
-use Rattle.topphatt.proofs.SlotCases.{Without, slot-without, without-unfixed, unfixed-without, fixed-not-unfixed, pair-below, even-pair, odd-pair, even-without, odd-without}
+use Rattle.topphatt.proofs.FairCounts.{given, given-twice, others-stay}
+use Rattle.topphatt.proofs.SlotCases.{Without, slot-without, without-unfixed, unfixed-without, fixed-not-unfixed, pair-below, even-pair, odd-pair, even-without}
 use Rattle.topphatt.proofs.ActiveSlots.{PairHere, OnlyZ, active-slots, here-unfixed}
 
 module _ (modes : ℕ) (table : List ℕ) (node edge number : ℕ) (assigned : List ℕ) where

@@ -1,8 +1,7 @@
 -- On an accepted tree every round with a mode unassigned has a choice and gives modes to pairs; so after all rounds every pair has one.
-use mathlib.Core.Path.{_≡_, refl, ap, _∙_, sym}
-use mathlib.Core.Bool.{Bool, true, false, cond}
+use mathlib.Core.Path.{_≡_, refl}
+use mathlib.Core.Bool.{Bool, true, false}
 use mathlib.Core.List.{List}
-use mathlib.Core.Logic.{_⊎_, inl, inr, ⊎-elim}
 use Prim.Native.Nat.{ℕ, zero, suc, _+_, _*_, _<_, _≤_}
 use native.Mathlib.Omega.{arith}
 use borrow.Author.Tests.{eqb-true, eqb-false, ltb-true, ltb-false}
@@ -14,11 +13,11 @@ use Rattle.lists.proofs.Pigeonholes.{counted-with}
 use Rattle.tree.specs.declared.TreeChecked.the-variants.{Accepted}
 use Rattle.tree.specs.Table.{child}
 use Rattle.tree.specs.Check.{tree-checked}
-use Rattle.topphatt.specs.Slots.{pair-of, slot-of, slot, unfixed}
+use Rattle.topphatt.specs.Slots.{pair-of, slot, unfixed}
 use Rattle.topphatt.specs.Choices.{unassigned}
-use Rattle.topphatt.specs.Choice.{Choice, chosen}
+use Rattle.topphatt.specs.Choice.{chosen}
 use Rattle.topphatt.specs.Rounds.{Rounds, before, after, next, rounds, ended}
-use Rattle.topphatt.specs.Assignment.{Fair, Given, RoundGoes, UnderWay, AllAssigned}
+use Rattle.topphatt.specs.Assignment.{Fair, RoundGoes, UnderWay, AllAssigned}
 use Rattle.topphatt.proofs.ChosenRight.{of-candidates, chosen-first, chosen-right}
 use Rattle.topphatt.proofs.FairCounts.{fair-before, as-many, each-assigned}
 use Rattle.topphatt.proofs.SlotCases.{Without, unfixed-without, pair-below}

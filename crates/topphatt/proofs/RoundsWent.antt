@@ -1,5 +1,5 @@
 -- The computed rounds are those that document 01 tells, and its words leave no room: from one state they come to one end.
-use mathlib.Core.Path.{_≡_, refl, ap, _∙_, sym}
+use mathlib.Core.Path.{_≡_, refl, _∙_, sym}
 use mathlib.Core.Bool.{Bool, true, false}
 use mathlib.Core.List.{List}
 use Prim.Native.Nat.{ℕ, zero, suc, _+_, _*_, _<_, _≤_}
@@ -11,9 +11,9 @@ use Rattle.lists.specs.Counting.{occurrences}
 use Rattle.tree.specs.declared.TreeChecked.the-variants.{Accepted}
 use Rattle.tree.specs.Check.{tree-checked}
 use Rattle.topphatt.specs.Choices.{unassigned}
-use Rattle.topphatt.specs.Choice.{Choice, chosen}
+use Rattle.topphatt.specs.Choice.{chosen}
 use Rattle.topphatt.specs.Rounds.{Rounds, before, after, next, rounds, ended}
-use Rattle.topphatt.specs.Assignment.{RoundGoes, UnderWay, Went, no-more, one-more}
+use Rattle.topphatt.specs.Assignment.{UnderWay, Went, no-more, one-more}
 use Rattle.topphatt.proofs.ChosenOne.{chosen-one}
 use Rattle.topphatt.proofs.FairCounts.{as-many}
 use Rattle.topphatt.proofs.RoundsGo.{pairs-at-most, under-way-before, under-way-next, round-goes}

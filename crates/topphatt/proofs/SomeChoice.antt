@@ -1,35 +1,33 @@
 -- While a mode is unassigned a round has a choice: some node remains, and an active node has choices. Where its X, Y and Z are all unfixed
 -- two pairs have no mode, so two modes are unassigned.
-use mathlib.Core.Path.{_≡_, refl, ap, _∙_, sym}
-use mathlib.Core.Bool.{Bool, true, false, cond, not, _&&_, _||_}
+use mathlib.Core.Path.{_≡_, refl, _∙_, sym}
+use mathlib.Core.Bool.{Bool, true, false, not}
 use mathlib.Core.List.{List, [], _∷_, map, List·Memᴰ, List·Memᴰ·head, List·Memᴰ·tail, Memᴰ·map}
-use mathlib.Core.Logic.{_⊎_, inl, inr, ⊎-elim}
-use Prim.Native.Nat.{ℕ, suc, _+_, _*_, _/_, _<_, _≤_}
+use mathlib.Core.Logic.{⊎-elim}
+use Prim.Native.Nat.{ℕ, _+_, _*_, _<_, _≤_}
 use native.Mathlib.Omega.{arith}
 use borrow.Author.Tests.{ltb-true, ltb-false, ne-eqb}
 use lib.Dec.{eqb, ltb}
 use lib.ListN.{length, getD}
-use Rattle.lists.specs.Ranges.{listed}
 use Rattle.lists.proofs.Tests.{same-or-not}
 use Rattle.lists.proofs.Membership.{kept, joined}
 use Rattle.lists.proofs.Ordered.{Ascending, counted-ascends, kept-ascends}
 use Rattle.lists.proofs.Narrowing.{some-member, member-of-some}
-use Rattle.terms.specs.declared.row.Triple.{Triple}
 use Rattle.tree.specs.declared.TreeChecked.the-variants.{Accepted}
 use Rattle.tree.specs.Table.{absent, child}
 use Rattle.tree.specs.Pairs.{chain-end}
 use Rattle.tree.specs.Check.{tree-checked}
 use Rattle.tree.proofs.TableSteps.{chain-rests}
 use Rattle.tree.proofs.EachHosts.{host, host-pair, child-apart}
-use Rattle.topphatt.specs.Slots.{pair-of, slot-of, slot, unfixed, leaf-of}
+use Rattle.topphatt.specs.Slots.{pair-of, slot, unfixed, leaf-of}
 use Rattle.topphatt.specs.Nodes.{active, complete}
 use Rattle.topphatt.specs.Choices.{unassigned, without, numbers, with-z, choices, choices-at}
-use Rattle.topphatt.specs.Choice.{Choice, candidates}
+use Rattle.topphatt.specs.Choice.{candidates}
 use Rattle.topphatt.specs.Assignment.{Fair}
 use Rattle.topphatt.proofs.ActiveNodes.{Active, of-active, some-active}
 use Rattle.topphatt.proofs.FairCounts.{pair-without, two-left}
 use Rattle.topphatt.proofs.SlotCases.{Without, without-unfixed, unfixed-without, pair-below, even-without}
-use Rattle.topphatt.proofs.Distances.{ChainHolder, chain-holder}
+use Rattle.topphatt.proofs.Distances.{chain-holder}
 use Rattle.topphatt.proofs.ActiveSlots.{PairHere, OnlyZ, active-slots, here-unfixed, left-incomplete, z-incomplete, x-incomplete}
 
 module _ (modes : ℕ) where

@@ -19,7 +19,7 @@ use Rattle.tree.specs.Table.{absent, nodes, child, climb}
 use Rattle.tree.specs.OneTree.{root-of}
 use Rattle.tree.specs.Pairs.{chain-end, pair-under, pair-right, pairs-right}
 use Rattle.tree.specs.Check.{tree-checked}
-use Rattle.tree.specs.Accepted.{under, PairUnder, IsTree}
+use Rattle.tree.specs.Accepted.{PairUnder, IsTree}
 use Rattle.tree.proofs.AcceptedParts.{accepted-parts, parts-accepted}
 use Rattle.tree.proofs.OneTreeSays.{OneTreeSays, one-tree-says, says-one-tree}
 use Rattle.tree.proofs.Standing.{parent-is, above-below}

@@ -1,7 +1,7 @@
 -- Where a code stands: a code that stands once stands at its place and nowhere else, under one edge of one node.
 use mathlib.Core.Path.{_≡_, refl, ap, _∙_, sym}
-use mathlib.Core.Bool.{Bool, true, false}
-use mathlib.Core.List.{List, [], _∷_}
+use mathlib.Core.Bool.{Bool, true, false, cond}
+use mathlib.Core.List.{List, [], _∷_, map}
 use Prim.Native.Nat.{ℕ, zero, suc, _+_, _*_, _/_, _%_, _<_, _≤_}
 use native.Mathlib.Omega.{arith}
 use borrow.Author.Tests.{eq-eqb, ne-eqb, lt-ltb, le-ltb, eqb-true, eqb-false}
@@ -70,6 +70,12 @@ own-parent code table h = rw (le-ltb (place-of table code) (length table) (omega
 pub parent-is : (code : ℕ) (table : List ℕ) → 1 ≤ occurrences code table → parent-of table code ≡ place-of table code / 3
 unfolding parent-of
 parent-is code table h = rw (lt-ltb (place-of table code) (length table) (place-within code table h))
+
+-- A code stands where it stood if no other becomes it.
+pub place-mapped : (f : ℕ → ℕ) (v : ℕ) (l : List ℕ) → ((a : ℕ) → eqb (f a) v ≡ eqb a v) → place-of (map f l) v ≡ place-of l v
+unfolding place-of leading
+place-mapped f v [] each = refl
+place-mapped f v (a ∷ l) each = rw (each a) (ap (λ n. cond (cond (eqb a v) false true) (suc n) 0) (place-mapped f v l each))
 
 -- What stands at a place is the code exactly where the place is the code's.
 same-place : (code d : ℕ) (l : List ℕ) → occurrences code l ≡ 1 → (i : ℕ) → i < length l → same (getD l i d) code ≡ same i (place-of l code)
