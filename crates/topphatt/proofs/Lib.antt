@@ -15,3 +15,4 @@ pub mod AnswerShape
 pub mod AnswerAccepted
 pub mod RoundsWent
 pub mod OutcomeRight
+pub mod RoundList

@@ -1,0 +1,97 @@
+-- The round list: a slot that isn't unfixed stays as it is, so a complete node stays complete, and after a round the nodes that remain are
+-- those that remained before it but the complete ones.
+use mathlib.Core.Path.{_≡_, refl, ap, _∙_, sym}
+use mathlib.Core.Bool.{Bool, true, false, cond, not, _&&_, _||_}
+use mathlib.Core.List.{List, [], _∷_, _++_}
+use Prim.Native.Nat.{ℕ, suc, _+_, _*_, _<_, _≤_}
+use native.Mathlib.Omega.{arith}
+use borrow.Author.Tests.{ltb-true, ltb-false, ne-eqb, not-true}
+use lib.Dec.{eqb, ltb}
+use lib.ListN.{length, getD}
+use Rattle.lists.specs.Members.{keep}
+use Rattle.lists.proofs.Tests.{both}
+use Rattle.tree.specs.declared.TreeChecked.the-variants.{Accepted}
+use Rattle.tree.specs.Table.{nodes, child}
+use Rattle.tree.specs.Check.{tree-checked}
+use Rattle.topphatt.specs.Slots.{pair-of, parity-of, slot-of, slot, unfixed}
+use Rattle.topphatt.specs.Nodes.{is-fixed, complete, remaining}
+use Rattle.topphatt.specs.Choices.{unassigned}
+use Rattle.topphatt.specs.Rounds.{Rounds, next}
+use Rattle.topphatt.specs.Assignment.{Given, UnderWay, RoundGoes}
+use Rattle.topphatt.proofs.SlotCases.{slot-child, slot-empty, slot-leaf, without-unfixed}
+use Rattle.topphatt.proofs.RoundsGo.{round-goes}
+
+module _ (modes : ℕ) (assigned now : List ℕ) (given : Given modes assigned now) where
+  pub slot-stays : (code : ℕ) → unfixed modes (slot-of modes assigned code) ≡ false → slot-of modes now code ≡ slot-of modes assigned code
+  slot-stays code e =
+      go (ltb code modes) refl (ltb code (3 * modes)) refl (ltb (getD assigned (pair-of modes code) modes) modes) refl
+    where
+      go : (n : Bool) → ltb code modes ≡ n → (l : Bool) → ltb code (3 * modes) ≡ l
+          → (m : Bool) → ltb (getD assigned (pair-of modes code) modes) modes ≡ m → slot-of modes now code ≡ slot-of modes assigned code
+      go true q l r m s = let h = ltb-true code modes q in slot-child modes now code h ∙ sym (slot-child modes assigned code h)
+      go false q false r m s = let h = ltb-false code (3 * modes) r in slot-empty modes now code h ∙ sym (slot-empty modes assigned code h)
+      go false q true r true s =
+          let low = ltb-false code modes q in
+          let high = ltb-true code (3 * modes) r in
+          rw (slot-leaf modes now code low high, slot-leaf modes assigned code low high, given .stays (pair-of modes code) (ltb-true (getD assigned (pair-of modes code) modes) modes s))
+      go false q true r false s =
+          let f = without-unfixed modes assigned code
+          (record {
+            low = ltb-false code modes q;
+            high = ltb-true code (3 * modes) r;
+            none = ltb-false (getD assigned (pair-of modes code) modes) modes s;
+          }) in
+          let z : _≡_ {A = ℕ} 0 1 = cc in absurd (omega arith)
+
+  module _ (table : List ℕ) where
+    pub complete-stays : (node : ℕ) → complete modes table assigned node ≡ true → complete modes table now node ≡ true
+    unfolding complete slot is-fixed
+    complete-stays node e =
+        let x = slot-of modes assigned (child table node 0) in
+        let y = slot-of modes assigned (child table node 1) in
+        let z = slot-of modes assigned (child table node 2) in
+        let p = both (is-fixed modes x) (is-fixed modes y && not (unfixed modes z)) e in
+        let q = both (is-fixed modes y) (not (unfixed modes z)) (p .1) in
+        let px = both (not (unfixed modes x)) (not (eqb x (2 * modes))) (p .0) in
+        let py = both (not (unfixed modes y)) (not (eqb y (2 * modes))) (q .0) in
+        rw (
+          slot-stays (child table node 0) (not-true (unfixed modes x) (px .0)),
+          slot-stays (child table node 1) (not-true (unfixed modes y) (py .0)),
+          slot-stays (child table node 2) (not-true (unfixed modes z) (q .1)),
+        ) e
+
+-- To keep by two tests, one after the other, is to keep by both.
+keep-twice : (first second third : ℕ → Bool) → ((a : ℕ) → third a ≡ (first a && second a)) → (l : List ℕ) → keep third l ≡ keep second (keep first l)
+unfolding keep
+keep-twice first second third each [] = refl
+keep-twice first second third each (a ∷ l) = rw (each a) (go (first a) (second a) refl (keep-twice first second third each l))
+  where
+    go : (p q : Bool) → second a ≡ q → keep third l ≡ keep second (keep first l)
+        → cond (p && q) (a ∷ []) [] ++ keep third l ≡ keep second (cond p (a ∷ []) [] ++ keep first l)
+    go true true e on = rw e (ap (_∷_ a) on)
+    go true false e on = rw e on
+    go false q e on = on
+
+module _ (modes : ℕ) (table assigned now : List ℕ) (given : Given modes assigned now) (round : ℕ) where
+  leaves-by : (node : ℕ)
+      → (eqb (suc round) 0 || not (complete modes table now node))
+      ≡ ((eqb round 0 || not (complete modes table assigned node)) && not (complete modes table now node))
+  leaves-by node = rw (ne-eqb (suc round) 0 (λ e. absurd (omega arith))) (go (complete modes table assigned node) refl (complete modes table now node) refl (eqb round 0))
+    where
+      go : (a : Bool) → complete modes table assigned node ≡ a → (c : Bool) → complete modes table now node ≡ c → (b : Bool) → not c ≡ ((b || not a) && not c)
+      go true e true f b = none (b || false)
+        where
+          none : (b : Bool) → false ≡ (b && false)
+          none true = refl
+          none false = refl
+      go true e false f b =
+          let g = complete-stays modes assigned now given table node e in
+          let z : _≡_ {A = ℕ} 0 1 = cc in absurd (omega arith)
+      go false e c f true = refl
+      go false e c f false = refl
+
+  pub complete-leave : remaining modes table (suc round) now ≡ keep (λ node. not (complete modes table now node)) (remaining modes table round assigned)
+  unfolding remaining
+  complete-leave =
+      keep-twice (λ node. eqb round 0 || not (complete modes table assigned node)) (λ node. not (complete modes table now node))
+      (λ node. eqb (suc round) 0 || not (complete modes table now node)) leaves-by (nodes modes)
