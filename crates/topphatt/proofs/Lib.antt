@@ -16,3 +16,4 @@ pub mod AnswerAccepted
 pub mod RoundsWent
 pub mod OutcomeRight
 pub mod RoundList
+pub mod ChosenLeaves

@@ -3,23 +3,18 @@
 use mathlib.Core.Path.{_≡_, refl, ap, _∙_, sym}
 use mathlib.Core.Bool.{Bool, true, false, cond, not, _&&_, _||_}
 use mathlib.Core.List.{List, [], _∷_, _++_}
-use Prim.Native.Nat.{ℕ, suc, _+_, _*_, _<_, _≤_}
+use Prim.Native.Nat.{ℕ, suc, _*_}
 use native.Mathlib.Omega.{arith}
 use borrow.Author.Tests.{ltb-true, ltb-false, ne-eqb, not-true}
 use lib.Dec.{eqb, ltb}
-use lib.ListN.{length, getD}
+use lib.ListN.{getD}
 use Rattle.lists.specs.Members.{keep}
 use Rattle.lists.proofs.Tests.{both}
-use Rattle.tree.specs.declared.TreeChecked.the-variants.{Accepted}
 use Rattle.tree.specs.Table.{nodes, child}
-use Rattle.tree.specs.Check.{tree-checked}
-use Rattle.topphatt.specs.Slots.{pair-of, parity-of, slot-of, slot, unfixed}
+use Rattle.topphatt.specs.Slots.{pair-of, slot-of, slot, unfixed}
 use Rattle.topphatt.specs.Nodes.{is-fixed, complete, remaining}
-use Rattle.topphatt.specs.Choices.{unassigned}
-use Rattle.topphatt.specs.Rounds.{Rounds, next}
-use Rattle.topphatt.specs.Assignment.{Given, UnderWay, RoundGoes}
+use Rattle.topphatt.specs.Assignment.{Given}
 use Rattle.topphatt.proofs.SlotCases.{slot-child, slot-empty, slot-leaf, without-unfixed}
-use Rattle.topphatt.proofs.RoundsGo.{round-goes}
 
 module _ (modes : ℕ) (assigned now : List ℕ) (given : Given modes assigned now) where
   pub slot-stays : (code : ℕ) → unfixed modes (slot-of modes assigned code) ≡ false → slot-of modes now code ≡ slot-of modes assigned code

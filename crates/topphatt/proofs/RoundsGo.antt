@@ -23,6 +23,8 @@ use Rattle.topphatt.proofs.FairCounts.{fair-before, as-many, each-assig
 use Rattle.topphatt.proofs.SlotCases.{Without, unfixed-without, pair-below}
 use Rattle.topphatt.proofs.SomeChoice.{some-choice}
 use Rattle.topphatt.proofs.RoundGives.{slots-together, choice-gives}
+use Rattle.topphatt.proofs.RoundList.{complete-leave}
+use Rattle.topphatt.proofs.ChosenLeaves.{chosen-complete}
 
 slot-unfixed : (modes : ℕ) (table assigned : List ℕ) (node edge : ℕ) → unfixed modes (slot modes table assigned node edge) ≡ true
     → Without modes assigned (child table node edge)
@@ -75,11 +77,13 @@ module _ (most modes : ℕ) (table : List ℕ) (accepted : tree-checked most mod
     fresh-now : eqb (state .round) 0 ≡ true → (k : ℕ) → modes ≤ getD (state .assigned) k modes
     fresh-now e = way .fresh (eqb-true (state .round) 0 e)
 
-    pub round-goes : RoundGoes modes table heuristic state (chosen modes table heuristic (state .round) (state .assigned) (state .rows))
+    pub round-goes : RoundGoes modes table heuristic state (next modes table heuristic state) (chosen modes table heuristic (state .round) (state .assigned) (state .rows))
     unfolding next after
     round-goes =
         let some = some-choice most modes table accepted (omega arith) heuristic (state .round) (state .assigned) fresh-now (way .fair) left in
         let found = chosen-first modes table heuristic (state .round) (state .assigned) (state .rows) some .member in
+        let gives = choice-gives most modes table accepted (omega arith) heuristic (state .round) (state .assigned) fresh-now (way .fair)
+        (chosen modes table heuristic (state .round) (state .assigned) (state .rows)) found in
         record {
           some-choice = some;
           right = chosen-right modes table heuristic (state .round) (state .assigned) (state .rows) few some;
@@ -87,9 +91,11 @@ module _ (most modes : ℕ) (table : List ℕ) (accepted : tree-checked most mod
               slots-together most modes table accepted (omega arith) heuristic (state .round) (state .assigned) fresh-now (way .fair) _
               (of-candidates modes table heuristic (state .round) (state .assigned) found .0);
           goes-on = refl;
-          gives =
-              choice-gives most modes table accepted (omega arith) heuristic (state .round) (state .assigned) fresh-now (way .fair)
+          gives = gives;
+          done =
+              chosen-complete most modes table accepted (omega arith) heuristic (state .round) (state .assigned) fresh-now (way .fair)
               (chosen modes table heuristic (state .round) (state .assigned) (state .rows)) found;
+          leave = complete-leave modes table (state .assigned) _ gives (state .round);
         }
 
     counts : next modes table heuristic state .round ≡ suc (state .round)

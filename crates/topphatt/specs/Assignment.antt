@@ -1,17 +1,19 @@
 -- What a reader may believe of the rounds and of the answer, on an accepted tree.
 use mathlib.Core.Path.{_≡_}
-use mathlib.Core.Bool.{false}
+use mathlib.Core.Bool.{true, false, not}
 use mathlib.Core.List.{List}
 use Prim.Native.Nat.{ℕ, _*_, _<_, _≤_}
 use lib.ListN.{length, getD}
 use Rattle.lists.specs.Counting.{occurrences}
+use Rattle.lists.specs.Members.{keep}
 use Rattle.tree.specs.Table.{absent}
 use Rattle.tree.specs.Check.{tree-checked}
 use Rattle.tree.specs.declared.TreeChecked.the-variants.{Accepted}
 use Rattle.topphatt.specs.Slots.{slot, unfixed}
+use Rattle.topphatt.specs.Nodes.{complete, remaining}
 use Rattle.topphatt.specs.Choices.{unassigned}
 use Rattle.topphatt.specs.Choice.{Choice, candidates, Chosen}
-use Rattle.topphatt.specs.Rounds.{Rounds, before, after, next}
+use Rattle.topphatt.specs.Rounds.{Rounds, before, after}
 use Rattle.topphatt.specs.Answer.{answer-table}
 
 -- Each pair has a mode or none, which is n; no two pairs have the same mode.
@@ -26,14 +28,17 @@ pub record Given (modes : ℕ) (assigned now : List ℕ) : Type 0 where
   pub fewer : occurrences modes now < occurrences modes assigned
   pub stays : (k : ℕ) → getD assigned k modes < modes → getD now k modes ≡ getD assigned k modes
 
--- A round has a choice, and takes the one that document 01 describes; of its node's X and Y slots both are unfixed or neither is; and it
--- gives modes to pairs.
-pub record RoundGoes (modes : ℕ) (table : List ℕ) (heuristic : ℕ) (state : Rounds) (choice : Choice) : Type 0 where
+-- A round has a choice, and takes the one that document 01 describes; of its node's X and Y slots both are unfixed or neither is; it gives
+-- modes to pairs; its node is then complete, and the complete nodes leave the round list.
+pub record RoundGoes (modes : ℕ) (table : List ℕ) (heuristic : ℕ) (state now : Rounds) (choice : Choice) : Type 0 where
   pub some-choice : 0 < length (candidates modes table heuristic (state .round) (state .assigned))
   pub right : Chosen modes table heuristic (state .round) (state .assigned) (state .rows) choice
   pub together : unfixed modes (slot modes table (state .assigned) (choice .node) 0) ≡ unfixed modes (slot modes table (state .assigned) (choice .node) 1)
-  pub goes-on : next modes table heuristic state ≡ after modes table choice state
-  pub gives : Given modes (state .assigned) (next modes table heuristic state .assigned)
+  pub goes-on : now ≡ after modes table choice state
+  pub gives : Given modes (state .assigned) (now .assigned)
+  pub done : complete modes table (now .assigned) (choice .node) ≡ true
+  pub leave : remaining modes table (now .round) (now .assigned)
+      ≡ keep (λ node. not (complete modes table (now .assigned) node)) (remaining modes table (state .round) (state .assigned))
 
 -- What holds before the first round and after each: the modes are fairly given, and in round 0 none is.
 pub record UnderWay (modes : ℕ) (state : Rounds) : Type 0 where
