@@ -17,3 +17,4 @@ pub mod RoundsWent
 pub mod OutcomeRight
 pub mod RoundList
 pub mod ChosenLeaves
+pub mod WeightAtMost
