@@ -1,8 +1,8 @@
 -- The round list: a slot that isn't unfixed stays as it is, so a complete node stays complete, and after a round the nodes that remain are
 -- those that remained before it but the complete ones.
-use mathlib.Core.Path.{_≡_, refl, ap, _∙_, sym}
-use mathlib.Core.Bool.{Bool, true, false, cond, not, _&&_, _||_}
-use mathlib.Core.List.{List, [], _∷_, _++_}
+use mathlib.Core.Path.{_≡_, refl, _∙_, sym}
+use mathlib.Core.Bool.{Bool, true, false, not, _&&_, _||_}
+use mathlib.Core.List.{List}
 use Prim.Native.Nat.{ℕ, suc, _*_}
 use native.Mathlib.Omega.{arith}
 use borrow.Author.Tests.{ltb-true, ltb-false, ne-eqb, not-true}
@@ -10,6 +10,7 @@ use lib.Dec.{eqb, ltb}
 use lib.ListN.{getD}
 use Rattle.lists.specs.Members.{keep}
 use Rattle.lists.proofs.Tests.{both}
+use Rattle.lists.proofs.Kept.{keep-twice}
 use Rattle.tree.specs.Table.{nodes, child}
 use Rattle.topphatt.specs.Slots.{pair-of, slot-of, slot, unfixed}
 use Rattle.topphatt.specs.Nodes.{is-fixed, complete, remaining}
@@ -54,18 +55,6 @@ module _ (modes : ℕ) (assigned now : List ℕ) (given : Given modes assigned n
           slot-stays (child table node 1) (not-true (unfixed modes y) (py .0)),
           slot-stays (child table node 2) (not-true (unfixed modes z) (q .1)),
         ) e
-
--- To keep by two tests, one after the other, is to keep by both.
-keep-twice : (first second third : ℕ → Bool) → ((a : ℕ) → third a ≡ (first a && second a)) → (l : List ℕ) → keep third l ≡ keep second (keep first l)
-unfolding keep
-keep-twice first second third each [] = refl
-keep-twice first second third each (a ∷ l) = rw (each a) (go (first a) (second a) refl (keep-twice first second third each l))
-  where
-    go : (p q : Bool) → second a ≡ q → keep third l ≡ keep second (keep first l)
-        → cond (p && q) (a ∷ []) [] ++ keep third l ≡ keep second (cond p (a ∷ []) [] ++ keep first l)
-    go true true e on = rw e (ap (_∷_ a) on)
-    go true false e on = rw e on
-    go false q e on = on
 
 module _ (modes : ℕ) (table assigned now : List ℕ) (given : Given modes assigned now) (round : ℕ) where
   leaves-by : (node : ℕ)

@@ -7,9 +7,6 @@ use native.Mathlib.Nat.{mul-le-mul-left}
 use native.Mathlib.Omega.{arith}
 use lib.Dec.{eqb}
 use lib.ListN.{length}
-use Rattle.terms.specs.declared.row.Triple.{Triple}
-use Rattle.terms.specs.Weight.{weight-of}
-use Rattle.terms.specs.Reduction.{reduction}
 use Rattle.terms.proofs.WeightBound.{weight-at-most}
 use Rattle.terms.proofs.NoTwoEqual.{fewer-terms}
 use Rattle.topphatt.specs.Choices.{unassigned}
