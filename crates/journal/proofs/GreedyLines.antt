@@ -20,7 +20,7 @@ use Rattle.journal.proofs.Texts.{length-header}
 use Rattle.journal.proofs.TextLines.{header-is-line, merge-is-line}
 
 -- Texts one behind the other.
-joined-texts : (p q : List (List ℕ)) → flatMap (λ line. line) (p ++ q) ≡ flatMap (λ line. line) p ++ flatMap (λ line. line) q
+pub joined-texts : (p q : List (List ℕ)) → flatMap (λ line. line) (p ++ q) ≡ flatMap (λ line. line) p ++ flatMap (λ line. line) q
 unfolding flatMap
 joined-texts [] q = refl
 joined-texts (text ∷ p) q =
@@ -34,6 +34,22 @@ module _ (modes : ℕ) (terms : List (List ℕ)) where
   greedy-on (suc j) more history =
       let e : suc j + more ≡ suc (j + more) = omega arith in
       rw e (greedy-on j more (chosen modes terms history ∷ history))
+
+  -- One step more, at the end.
+  pub greedy-more : (j : ℕ) (history : List Triple)
+      → greedy modes terms (suc j) history ≡ chosen modes terms (greedy modes terms j history) ∷ greedy modes terms j history
+  unfolding greedy
+  greedy-more zero history = refl
+  greedy-more (suc j) history = greedy-more j (chosen modes terms history ∷ history)
+
+  pub greedy-lines-more : (j : ℕ) (history : List Triple)
+      → greedy-lines modes terms (suc j) history
+      ≡ greedy-lines modes terms j history
+      ++ (line-of modes terms (greedy modes terms j history) (chosen modes terms (greedy modes terms j history)) ∷ [])
+  unfolding greedy greedy-lines
+  greedy-lines-more zero history = refl
+  greedy-lines-more (suc j) history =
+      ap (λ l. line-of modes terms history (chosen modes terms history) ∷ l) (greedy-lines-more j (chosen modes terms history ∷ history))
 
   pub lines-on : (j steps : ℕ) (history : List Triple) → j ≤ steps
       → take j (greedy-lines modes terms steps history) ++ greedy-lines modes terms (steps - j) (greedy modes terms j history)

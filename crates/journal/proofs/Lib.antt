@@ -19,6 +19,10 @@ pub mod LinesObeyed
 pub mod JournalObeyed
 pub mod ObeyGreedy
 pub mod GreedyLines
+pub mod NotedLines
+pub mod PuttingLines
+pub mod RunEnds
+pub mod JournalAnswered
 pub mod CutAndResumed
 pub mod Obedience
 pub mod ObeyedText

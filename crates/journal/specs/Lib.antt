@@ -4,7 +4,9 @@ pub mod Lines
 pub mod Fields
 pub mod Reading
 pub mod Obeying
-pub mod Promises
 pub mod Writing
+pub mod NewLines
+pub mod Resuming
+pub mod Promises
 pub mod CutAndResumed
 pub mod Obedience

@@ -2,11 +2,11 @@
 use mathlib.Core.Path.{_≡_, refl, ap, _∙_, sym}
 use mathlib.Core.List.{List, [], _∷_, _++_, append-assoc, append-nil}
 use Prim.Native.Nat.{ℕ, _+_, _-_, _<_, _≤_}
-use native.Mathlib.Nat.{zero-add}
+use native.Mathlib.Nat.{zero-add, add-zero}
 use native.Mathlib.Numerals.{add-one}
 use native.Mathlib.Omega.{arith}
 use borrow.Rule.Slice.PartMut.{putMid}
-use lib.ListN.{length, set, take, drop, length-append, length-drop, drop-of-length-le}
+use lib.ListN.{length, set, take, drop, length-append, length-drop, drop-of-length-le, take-append-drop}
 use lib.Seq.{set-split, sets, sets-eq, drop-drop, drop-append-add, take-at, length-take-le}
 use Rattle.lists.specs.Written.{written-at}
 use Rattle.lists.proofs.Written.{length-written, drop-written}
@@ -16,6 +16,10 @@ module _ {A : Type 0} where
   pub set-written : (s : List A) (i : ℕ) (v : A) → i < length s → set s i v ≡ written-at i (v ∷ []) s
   unfolding written-at
   set-written s i v h = rw (add-one i) (set-split s i v h)
+
+  pub nothing-written : (place : ℕ) (s : List A) → written-at place [] s ≡ s
+  unfolding written-at
+  nothing-written place s = rw (add-zero place) (take-append-drop place s)
 
   -- Stores one behind the other.
   pub sets-written : (place : ℕ) (part s : List A) → place + length part ≤ length s → sets s place part ≡ written-at place part s

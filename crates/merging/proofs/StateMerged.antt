@@ -5,12 +5,12 @@ use mathlib.Core.List.{List, _∷_}
 use Prim.Native.Nat.{ℕ, _+_, _*_, _%_, _<_, _≤_}
 use native.Mathlib.Omega.{arith}
 use borrow.Author.Count.{below-more}
-use lib.ListN.{length, getD, set, length-set, length-map}
+use lib.ListN.{length, getD, set, length-set}
 use lib.Seq.{getD-set-same, getD-set-other}
 use Rattle.terms.specs.declared.row.Triple.{Triple}
 use Rattle.terms.specs.Rows.{rows-of, term, terms-of}
 use Rattle.terms.specs.Promises.{Reduced}
-use Rattle.terms.proofs.RowSteps.{length-rows}
+use Rattle.terms.proofs.RowSteps.{length-terms}
 use Rattle.terms.proofs.WeightBound.{weight-at-most}
 use Rattle.merging.specs.declared.run.Run.{Run}
 use Rattle.merging.specs.History.{next-parent, rows-after}
@@ -39,11 +39,6 @@ next-run run triple weight kept =
       zs = set (run .zs) (run .step) (triple .z);
       weights = set (run .weights) (run .step) (weight % 65536);
     }
-
--- The weight of a triple in the live rows is at most their number.
-pub length-terms : (w count : ℕ) (s : List ℕ) → length (terms-of w count s) ≡ count
-unfolding terms-of
-length-terms w count s = length-map (rows-of w count s) term ∙ length-rows w count s
 
 module _ (entities steps : ℕ) (terms : List (List ℕ)) (rows : List ℕ) (run : Run) (triple : Triple) (weight : ℕ)
     (room : 3 * steps + 1 ≤ entities) (ready : Ready entities steps terms rows run triple weight) where

@@ -9,6 +9,7 @@ use Rattle.terms.specs.declared.row.Triple.{Triple}
 use Rattle.terms.specs.Rows.{terms-of}
 use Rattle.terms.specs.Weight.{weight-of}
 use Rattle.terms.proofs.WeightBound.{weight-at-most}
+use Rattle.terms.proofs.RowSteps.{length-terms}
 use Rattle.merging.specs.declared.choice.Best.{Best}
 use Rattle.merging.specs.declared.run.Run.{Run}
 use Rattle.merging.specs.History.{next-parent}
@@ -22,7 +23,6 @@ use Rattle.merging.proofs.PairCount.{some-pair}
 use Rattle.merging.proofs.Recording.{length-recorded}
 use Rattle.merging.proofs.RunLawful.{chosen-lawful}
 use Rattle.merging.proofs.Seeking.{sought}
-use Rattle.merging.proofs.StateMerged.{length-terms}
 
 module _ (entities steps : ℕ) (terms : List (List ℕ)) (rows : List ℕ) (run : Run) (holds : Holds entities steps terms rows run) where
   pub merges-so-far : length (history-of run) ≡ run .step

@@ -1,8 +1,8 @@
 // The rows of a finished run: label, X, Y, Z of each node, breadth first from the root.
 ghost use mathlib.Core.Path.{_≡_};
 ghost use mathlib.Core.Bool.{cond};
-ghost use mathlib.Core.List.{[], _∷_, _++_};
-ghost use Prim.Native.Nat.{_+_, _*_, _≤_, _<_};
+ghost use mathlib.Core.List.{List, [], _∷_, _++_};
+ghost use Prim.Native.Nat.{ℕ, _+_, _*_, _≤_, _<_};
 ghost use lib.Dec.{ltb};
 ghost use lib.ListN.{length, take};
 ghost use Rattle.lists.specs.Members.{keep};
@@ -15,7 +15,9 @@ ghost use Rattle.merging.specs.Flatpack.{
   «absent-leaf»,
   flatpack,
 };
+ghost use Rattle.merging.specs.State.{«history-of», Holds};
 use crate::entity;
+use crate::run::Run;
 use terms::row;
 use terms::row::Triple;
 
@@ -35,7 +37,14 @@ fn code(modes: usize, end: u16, entity: u16) -> u16
 }
 
 // The codes of a node's three children.
-fn children(modes: usize, end: u16, xs: &[u16], ys: &[u16], zs: &[u16], label: u16) -> Triple
+fn children<'a>(
+    modes: usize,
+    end: u16,
+    xs: &'a [u16],
+    ys: &'a [u16],
+    zs: &'a [u16],
+    label: u16,
+) -> Triple
     requires { ⌜ (modes ≤ 256) × (label < modes) ⌝ }
     requires { ⌜ (modes ≤ length (now xs)) × (modes ≤ length (now ys)) × (modes ≤ length (now zs)) ⌝ }
     requires { ⌜ end ≡ absent-leaf modes (recorded (now xs) (now ys) (now zs) modes) ⌝ }
@@ -84,7 +93,14 @@ fn queue(labels: &mut [u16], tail: usize, modes: usize, codes: Triple) -> usize
 }
 
 // The rows into the front of a lent slice. Each node queues three labels at most, so the root's and those of 256 nodes are 769.
-pub fn write_rows(rows: &mut [u16], modes: usize, end: u16, xs: &[u16], ys: &[u16], zs: &[u16])
+fn write_rows<'a>(
+    rows: &mut [u16],
+    modes: usize,
+    end: u16,
+    xs: &'a [u16],
+    ys: &'a [u16],
+    zs: &'a [u16],
+)
     requires { ⌜ (1 ≤ modes) × (modes ≤ 256) × (4 * modes ≤ length (now rows)) ⌝ }
     requires { ⌜ (modes ≤ length (now xs)) × (modes ≤ length (now ys)) × (modes ≤ length (now zs)) ⌝ }
     requires { ⌜ LawfulHistory modes (recorded (now xs) (now ys) (now zs) modes) ⌝ }
@@ -102,4 +118,14 @@ pub fn write_rows(rows: &mut [u16], modes: usize, end: u16, xs: &[u16], ys: &[u1
         tail = queue(&mut labels, tail, modes, codes);
         head += 1;
     }
+}
+
+// The rows of a finished run into the front of a lent slice.
+pub fn write_flatpack(run: Run, rows: &mut [u16])
+    requires { ⌜ ((terms : List (List ℕ)) × ((own : List ℕ) × Holds 769 256 terms own run)) ⌝ }
+    requires { ⌜ (run .step ≡ run .modes) × (4 * run .modes ≤ length (now rows)) ⌝ }
+    ensures { λ r. ⌜ now (rows .exit) ≡ written-at 0 (flatpack (run .modes) (history-of run)) (now (rows .entry)) ⌝ }
+{
+    let end = run.ends[3 * run.modes];
+    write_rows(rows, run.modes, end, &run.xs, &run.ys, &run.zs);
 }

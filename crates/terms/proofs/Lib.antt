@@ -1,6 +1,7 @@
 -- The laws of rows, their weight and their reduction.
 pub mod RowSteps
 pub mod GoodSteps
+pub mod OwnRows
 pub mod Weighing
 pub mod WeightBound
 pub mod SortedRight

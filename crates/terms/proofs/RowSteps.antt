@@ -4,7 +4,7 @@ use mathlib.Core.List.{List, [], _∷_, _++_}
 use Prim.Native.Nat.{ℕ, zero, suc, _+_, _-_, _*_, _<_, _≤_}
 use native.Mathlib.Omega.{arith}
 use native.Mathlib.Nat.{mul-zero, sub-zero, add-zero}
-use lib.ListN.{length, getD, take, drop, length-take, length-drop}
+use lib.ListN.{length, getD, take, drop, length-take, length-drop, length-map}
 use lib.Seq.{drop-drop, take-take, getD-take, getD-drop}
 use Rattle.lists.proofs.Parts.{drop-take}
 use Rattle.terms.specs.Rows.{rows-of, term, terms-of}
@@ -44,6 +44,10 @@ pub length-rows : (w count : ℕ) (s : List ℕ) → length (rows-of w count s) 
 unfolding rows-of
 length-rows w zero s = refl
 length-rows w (suc count) s = ap suc (length-rows w count (drop w s))
+
+pub length-terms : (w count : ℕ) (s : List ℕ) → length (terms-of w count s) ≡ count
+unfolding terms-of
+length-terms w count s = length-map (rows-of w count s) term ∙ length-rows w count s
 
 pub rows-at : (w count place : ℕ) (s : List ℕ) → place < count → getD (rows-of w count s) place [] ≡ take w (drop (w * place) s)
 unfolding rows-of

@@ -11,6 +11,10 @@ use Rattle.terms.specs.declared.given.Checked.{Checked}
 use Rattle.terms.specs.declared.given.Checked.the-variants.{Good, Refused}
 use Rattle.terms.specs.Rows.{rows-of, term}
 
+-- 1: "n is 0 or above 256"; `most` is the 256.
+unfoldable pub modes-good : ℕ → ℕ → Bool
+modes-good most modes = leb 1 modes && leb modes most
+
 -- "Indices are below 2n and never descend"; `bound` is the 2n.
 unfoldable pub good-indices : ℕ → List ℕ → Bool
 good-indices bound indices = ascends indices && every (λ index. ltb index bound) indices

@@ -1,8 +1,9 @@
 // The check of given terms: refusals 2, 3 and 4 of document 01.
 ghost use mathlib.Core.Path.{_≡_};
 ghost use Prim.Native.Nat.{_*_, _≤_};
-ghost use lib.ListN.{length};
+ghost use lib.ListN.{length, take};
 ghost use Rattle.terms.specs.Good.{«good-indices», «good-row», «good-rows», checked};
+use crate::copying;
 use crate::row;
 use refusal::Refusal;
 
@@ -83,4 +84,14 @@ pub fn check_terms(modes: usize, terms: &[u16]) -> Checked
         return Checked::Refused(Refusal::BadRow(good));
     }
     Checked::Good(count)
+}
+
+// The terms in an array of the caller's own, at its front; 2048 rows of eight fit.
+pub fn own_copy(terms: &[u16]) -> [u16; 16384]
+    requires { ⌜ length (now terms) ≤ 16384 ⌝ }
+    ensures { λ r. ⌜ (length r ≡ 16384) × (take (length (now (terms .entry))) r ≡ now (terms .entry)) ⌝ }
+{
+    let mut own = [0u16; 16384];
+    copying::put_front(terms, &mut own);
+    own
 }

@@ -1,4 +1,5 @@
 // Rows of eight numbers: the check of given rows, their weight by a triple, and their reduction to a parent.
+pub mod copying;
 pub mod given;
 pub mod reduction;
 pub mod row;

@@ -1,12 +1,13 @@
 // Reduction: the triple becomes its parent in every row, rows that are all parent are dropped, equal rows become one.
 ghost use mathlib.Core.Path.{_≡_};
 ghost use Prim.Native.Nat.{_+_, _*_, _≤_, _<_, min, max};
-ghost use lib.ListN.{length, getD, take, drop, replicate};
+ghost use lib.ListN.{length, getD, take, drop};
 ghost use Rattle.lists.specs.Members.{«some-of», alike};
 ghost use Rattle.lists.specs.Written.{«written-at»};
 ghost use Rattle.terms.specs.Rows.{Held, «terms-of»};
 ghost use Rattle.terms.specs.Reduction.{replacement, «put-in», rewriting, stays};
 ghost use Rattle.terms.specs.Promises.{Rewritten, RowReduced, Reduced};
+use crate::copying;
 use crate::row;
 use crate::row::Triple;
 
@@ -67,27 +68,6 @@ fn rewrite(term: &mut [u16], triple: Triple, parent: u16)
     }
 }
 
-fn copy(from: &[u16], to: &mut [u16])
-    requires { ⌜ length (now to) ≡ length (now from) ⌝ }
-    ensures { λ r. ⌜ now (to .exit) ≡ now (from .entry) ⌝ }
-{
-    let mut at = 0;
-    while at < from.len() {
-        to[at] = from[at];
-        at += 1;
-    }
-}
-
-fn clear(numbers: &mut [u16])
-    ensures { λ r. ⌜ now (numbers .exit) ≡ replicate (length (now (numbers .entry))) 0 ⌝ }
-{
-    let mut at = 0;
-    while at < numbers.len() {
-        numbers[at] = 0;
-        at += 1;
-    }
-}
-
 // The row's term rewritten where it stands.
 fn rewrite_row(row: &mut [u16], triple: Triple, parent: u16)
     requires { ⌜ getD (now row) 0 0 < length (now row) ⌝ }
@@ -103,7 +83,7 @@ fn rewritten(row: &[u16], triple: Triple, parent: u16) -> [u16; 8]
     ensures { λ r. ⌜ (length r ≡ 8) × Rewritten triple parent (now (row .entry)) r ⌝ }
 {
     let mut aside = [0u16; 8];
-    copy(row, &mut aside);
+    copying::copy(row, &mut aside);
     rewrite_row(&mut aside, triple, parent);
     aside
 }
@@ -142,7 +122,7 @@ fn put_row(rows: &mut [u16], place: usize, row: &[u16])
 {
     let from = 8 * place;
     let end = from + 8;
-    copy(row, &mut rows[from..end]);
+    copying::copy(row, &mut rows[from..end]);
 }
 
 // One row reduced and, where it stays, put behind the rows kept; how many are kept then.
@@ -174,6 +154,6 @@ pub fn reduce_hamiltonian(rows: &mut [u16], live: usize, parent: u16, selection:
     }
     let from = 8 * kept;
     let end = 8 * live;
-    clear(&mut rows[from..end]);
+    copying::clear(&mut rows[from..end]);
     kept
 }

@@ -10,14 +10,14 @@ use Rattle.lists.specs.Ranges.{listed, ascends, ascends-from}
 use Rattle.lists.specs.Least.{least, lighter}
 use Rattle.lists.specs.Written.{written-at}
 use Rattle.terms.specs.Rows.{rows-of, term, terms-of}
-use Rattle.terms.specs.Good.{good-indices, good-row, good-rows, checked}
+use Rattle.terms.specs.Good.{modes-good, good-indices, good-row, good-rows, checked}
 use Rattle.terms.specs.Weight.{odd-ones, term-weight, weight-of}
 use Rattle.terms.specs.Reduction.{replacement, put-in, sorted, rewriting, dropped, reduction}
 use Rattle.merging.specs.Flatpack.{code}
 use Rattle.tree.specs.Table.{absent, nodes, child, place-of, parent-of, climb}
 use Rattle.tree.specs.OneTree.{root-of, leaves-once, absent-once, nodes-once, all-reached, one-tree}
 use Rattle.tree.specs.Pairs.{chain-end, pair-under, pair-right, pairs-right}
-use Rattle.tree.specs.Check.{modes-good, codes-good, tree-checked}
+use Rattle.tree.specs.Check.{codes-good, tree-checked}
 use Rattle.topphatt.specs.Slots.{pair-of, parity-of, leaf-slot, slot-of, slot, slots, unfixed, leaf-of}
 use Rattle.topphatt.specs.Nodes.{distance, is-fixed, complete, remaining, largest, farthest, narrowed, active}
 use Rattle.topphatt.specs.Choices.{unassigned, without, numbers, with-z, choices, choices-at}

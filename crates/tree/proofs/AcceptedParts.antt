@@ -10,7 +10,8 @@ use lib.ListN.{length}
 use Rattle.tree.specs.declared.TreeChecked.the-variants.{Accepted}
 use Rattle.tree.specs.OneTree.{one-tree}
 use Rattle.tree.specs.Pairs.{pairs-right}
-use Rattle.tree.specs.Check.{modes-good, codes-good, tree-checked}
+use Rattle.terms.specs.Good.{modes-good}
+use Rattle.tree.specs.Check.{codes-good, tree-checked}
 
 pub record AcceptedParts (most modes : ℕ) (table : List ℕ) : Type 0 where
   pub some : 1 ≤ modes

@@ -6,7 +6,7 @@ use Prim.Native.Nat.{ℕ, suc, _+_, _-_, _*_, _%_, _<_, _≤_}
 use native.Mathlib.Omega.{arith}
 use borrow.Author.Tests.{eq-eqb, ne-eqb, eqb-true, eqb-false, ltb-true}
 use lib.Dec.{eqb, ltb}
-use lib.ListN.{length, getD, take, drop, set, length-map, drop-of-length-le, List·getD-map}
+use lib.ListN.{length, getD, take, drop, set, drop-of-length-le, List·getD-map}
 use lib.Seq.{getD-set-same, getD-set-other}
 use Rattle.lists.specs.Counting.{sum, same, occurrences}
 use Rattle.lists.specs.Members.{every}
@@ -15,7 +15,7 @@ use Rattle.lists.proofs.Every.{every-at}
 use Rattle.lists.proofs.Steps.{drop-step}
 use Rattle.terms.specs.Rows.{rows-of, term, terms-of}
 use Rattle.terms.specs.Good.{good-term}
-use Rattle.terms.proofs.RowSteps.{terms-step, terms-end, length-rows, rows-at}
+use Rattle.terms.proofs.RowSteps.{terms-step, terms-end, length-terms, rows-at}
 use Rattle.terms.proofs.StaysGood.{good-term-says}
 use Rattle.tree.specs.Table.{place-of}
 use Rattle.tree.specs.Weight.{edge-under, edges, node-weight, row-weight, tree-weight}
@@ -93,5 +93,5 @@ unfolding terms-of
 indices-below modes count s rows place h =
     let at : getD (terms-of 8 count s) place (term []) ≡ term (take 8 (drop (8 * place) s)) =
     List·getD-map term (rows-of 8 count s) place [] ∙ ap term (rows-at 8 count place s h) in
-    let long : length (terms-of 8 count s) ≡ count = length-map (rows-of 8 count s) term ∙ length-rows 8 count s in
+    let long : length (terms-of 8 count s) ≡ count = length-terms 8 count s in
     good-term-says (2 * modes) _ (rw at at (every-at (good-term (2 * modes)) (terms-of 8 count s) place (term []) (rw long h) (rows .good))) .below

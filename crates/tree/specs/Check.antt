@@ -1,20 +1,17 @@
 -- "The tree check and tree weight start 1, 13, 14, 15, 16".
-use mathlib.Core.Bool.{Bool, cond, _&&_, _||_}
+use mathlib.Core.Bool.{cond, _||_}
 use mathlib.Core.List.{List}
 use Prim.Native.Nat.{ℕ, _*_}
-use lib.Dec.{eqb, ltb, leb}
+use lib.Dec.{eqb, ltb}
 use lib.ListN.{length}
 use Rattle.lists.specs.Members.{leading}
 use Rattle.refusal.specs.declared.Refusal.the-variants.{Modes, TreeLength, ChildCode, NotOneTree, WrongPair}
+use Rattle.terms.specs.Good.{modes-good}
 use Rattle.tree.specs.declared.TreeChecked.{TreeChecked}
 use Rattle.tree.specs.declared.TreeChecked.the-variants.{Accepted, Refused}
 use Rattle.tree.specs.Table.{absent}
 use Rattle.tree.specs.OneTree.{one-tree}
 use Rattle.tree.specs.Pairs.{pairs-right}
-
--- 1: "n is 0 or above 256".
-unfoldable pub modes-good : ℕ → ℕ → Bool
-modes-good most modes = leb 1 modes && leb modes most
 
 -- 14: "first code neither below 3n nor 65535"; how many codes are good before it.
 unfoldable pub codes-good : ℕ → List ℕ → ℕ

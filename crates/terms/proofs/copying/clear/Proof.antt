@@ -5,8 +5,8 @@ use native.Mathlib.Omega.{arith}
 use borrow.Author.Needs.{needs}
 use lib.ListN.{length, take, replicate, length-set}
 use Rattle.lists.proofs.Writes.{filled-next, all-of}
-use Rattle.terms.proofs.reduction.clear.Statement.{statement}
-use Rattle.terms.proofs.reduction.clear.Tie as tie
+use Rattle.terms.proofs.copying.clear.Statement.{statement}
+use Rattle.terms.proofs.copying.clear.Tie as tie
 
 abbrev Inv-loop : tie.InvT-loop
 Inv-loop numbers₀ at₀ numbers at = (at ≤ length numbers₀) × (length numbers ≡ length numbers₀) × (take at numbers ≡ replicate at 0)

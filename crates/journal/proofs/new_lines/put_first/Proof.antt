@@ -1,0 +1,39 @@
+-- Nothing behind kept bytes, and else the header.
+use mathlib.Core.Path.{refl}
+use lib.ListN.{length}
+use Rattle.lists.specs.Written.{written-at}
+use Rattle.journal.proofs.NotedLines.{no-header, header-first}
+use borrow.Author.Needs.{needs}
+use Rattle.journal.proofs.new_lines.put_first.Statement.{statement}
+use Rattle.journal.proofs.new_lines.put_first.Tie as tie
+
+returns : tie.Need-returns
+unfolding written-at
+returns c =
+    let args = c .before .before .args in
+    rw (no-header (args .modes) (args .count) (args .kept) (c .if1 .taken)) (refl, refl)
+
+cast-put-header : tie.Need-cast-put-header
+cast-put-header c = search needs
+
+cast-put-header-2 : tie.Need-cast-put-header-2
+cast-put-header-2 c = search needs
+
+put-header-requires : tie.Need-put-header-requires
+put-header-requires c κs =
+    let start = c .before .before .before in
+    rw (header-first (start .args .modes) (start .args .count) (start .args .kept) (c .before .if1 .left)) at (start .pre .2)
+
+same-length : tie.Need-same-length
+same-length c = search needs
+
+returns-2 : tie.Need-returns-2
+returns-2 c =
+    let start = c .before .before .before .before .before .before in
+    rw (header-first (start .args .modes) (start .args .count) (start .args .kept) (c .before .before .before .before .if1 .left))
+    (c .before .before .put-header .ensures)
+
+pub put-first-spec : {M : Type 1} → statement M
+put-first-spec =
+    tie.close
+    (tie.spec returns cast-put-header cast-put-header-2 put-header-requires same-length returns-2)

@@ -1,0 +1,77 @@
+-- Each return is one arm of the meaning, by the modes and by what the check of the terms answered.
+use mathlib.Core.Path.{_∙_, sym}
+use borrow.Author.Tests.{le-leb, lt-leb}
+use Rattle.terms.specs.Good.{modes-good}
+use Rattle.journal.specs.Resuming.{with-terms, resumed}
+use Rattle.journal.proofs.JournalAnswered.{nothing-altered}
+use borrow.Author.Needs.{needs}
+use Rattle.journal.proofs.resuming.resume.Statement.{statement}
+use Rattle.journal.proofs.resuming.resume.Tie as tie
+
+returns : tie.Need-returns
+unfolding resumed modes-good
+returns c =
+    let start = c .before .before .before .before .before .before in
+    let args = start .args in
+    rw (lt-leb _ _ (c .if1 .taken)) (nothing-altered (args .work .now) (args .rows .now) (args .journal .now) _)
+
+returns-2 : tie.Need-returns-2
+unfolding resumed modes-good
+returns-2 c =
+    let start = c .before .before .before .before .before .before .before in
+    let args = start .args in
+    rw (le-leb _ _ (c .before .if1 .left), lt-leb _ _ (c .if2 .taken)) (nothing-altered (args .work .now) (args .rows .now) (args .journal .now) _)
+
+check-terms-requires : tie.Need-check-terms-requires
+check-terms-requires c κs = search needs
+
+enum-known-refusal : tie.Need-enum-known-refusal
+enum-known-refusal c = search needs
+
+enum-known-count : tie.Need-enum-known-count
+enum-known-count c = search needs
+
+resume-good-requires : tie.Need-resume-good-requires
+resume-good-requires c κs =
+    let tests = c .before .before .before .before .before .before .before in
+    (tests .before .if1 .left, tests .if2 .left, sym (c .before .before .before .before .before .before .check-terms .ensures) ∙ c .before .before .before .before .count .given .1)
+
+returns-3 : tie.Need-returns-3
+unfolding resumed modes-good with-terms
+returns-3 c =
+    let start = c .before .before .before .before .before .before .before .before .before .before .before in
+    let args = start .args in
+    let tests = c .before .before .before .before in
+    rw (le-leb _ _ (tests .before .if1 .left), le-leb _ _ (tests .if2 .left), sym (c .before .before .before .check-terms .ensures) ∙ c .before .refusal .given .1) (nothing-altered (args .work .now) (args .rows .now) (args .journal .now) _)
+
+same-length : tie.Need-same-length
+same-length c = search needs
+
+same-length-2 : tie.Need-same-length-2
+same-length-2 c = search needs
+
+same-length-3 : tie.Need-same-length-3
+same-length-3 c = search needs
+
+returns-4 : tie.Need-returns-4
+unfolding resumed modes-good
+returns-4 c =
+    let tests = c .before .before .before .before .before .before .before .before .before .before .before .before .before .before in
+    rw (le-leb _ _ (tests .before .if1 .left), le-leb _ _ (tests .if2 .left), sym (c .before .before .before .before .before .before .before .before .before .before .before .before .before .check-terms .ensures) ∙ c .before .before .before .before .before .before .before .before .before .before .before .count .given .1)
+    (c .before .before .before .before .before .before .resume-good .ensures)
+
+pub resume-spec : {M : Type 1} → statement M
+resume-spec =
+    tie.close
+    (tie.spec
+    returns
+    returns-2
+    check-terms-requires
+    enum-known-refusal
+    enum-known-count
+    resume-good-requires
+    returns-3
+    same-length
+    same-length-2
+    same-length-3
+    returns-4)

@@ -1,0 +1,37 @@
+-- The front is cleared, and what is behind it stays.
+use mathlib.Core.Path.{sym, ap, _∙_}
+use Prim.Native.Nat.{ℕ}
+use native.Mathlib.Nat.{zero-add}
+use lib.ListN.{length, replicate, length-replicate}
+use lib.Seq.{length-take-le}
+use Rattle.lists.specs.Written.{written-at}
+use borrow.Author.Needs.{needs}
+use Rattle.terms.proofs.copying.clear_front.Statement.{statement}
+use Rattle.terms.proofs.copying.clear_front.Tie as tie
+
+slice-relend-prefix-clear : tie.Need-slice-relend-prefix-clear
+slice-relend-prefix-clear c = search needs
+
+slice-aggregate-clear : tie.Need-slice-aggregate-clear
+slice-aggregate-clear c =
+    let start = c .before .before in
+    sym (length-take-le (start .args .count) (start .args .numbers .now) (start .pre))
+
+clear-requires : tie.Need-clear-requires
+clear-requires c κs = search needs
+
+same-length : tie.Need-same-length
+same-length c = search needs
+
+returns : tie.Need-returns
+unfolding written-at
+returns c =
+    let start = c .before .before .before .before .before in
+    let count = start .args .count in
+    let zeros = c .before .before .clear .ensures ∙ ap (λ n. replicate n 0) (length-take-le count (start .args .numbers .now) (start .pre)) in
+    rw zeros (rw (length-replicate {A = ℕ} count 0, zero-add count))
+
+pub clear-front-spec : {M : Type 1} → statement M
+clear-front-spec =
+    tie.close
+    (tie.spec slice-relend-prefix-clear slice-aggregate-clear clear-requires same-length returns)
