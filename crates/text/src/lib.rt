@@ -1,0 +1,1 @@
+// The program's text: its input read and its answer printed, from bytes to bytes.
