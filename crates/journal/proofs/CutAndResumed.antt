@@ -1,92 +1,88 @@
--- An unbroken run's journal, cut after any byte, is obeyed and resumed to the same end.
+-- Demand 3: an unbroken run's journal, cut after any byte and resumed, ends as the unbroken run.
 use mathlib.Core.Path.{_≡_, refl, ap, _∙_, sym}
+use mathlib.Core.Bool.{true}
 use mathlib.Core.List.{List, [], _++_, flatMap}
-use Prim.Native.Nat.{ℕ, zero, suc, _+_, _-_, _*_, _≤_}
-use native.Mathlib.Nat.{zero-add}
+use Prim.Native.Nat.{ℕ, _-_, _*_, _≤_}
 use native.Mathlib.Omega.{arith}
-use borrow.Author.Tests.{eq-eqb}
+use borrow.Author.Tests.{leb-true}
+use lib.Dec.{leb}
 use lib.ListN.{length, take, length-take}
+use lib.Seq.{take-take}
+use Rattle.lists.proofs.Tests.{both}
+use Rattle.terms.specs.Rows.{terms-of}
+use Rattle.terms.specs.Good.{modes-good}
 use Rattle.terms.specs.declared.row.Triple.{Triple}
-use Rattle.merging.specs.Lawful.{LawfulHistory}
-use Rattle.merging.specs.Run.{greedy, finished, run-weight, trials}
-use Rattle.merging.specs.Flatpack.{flatpack}
+use Rattle.terms.proofs.RowSteps.{length-terms}
+use Rattle.terms.proofs.StaysGood.{accepted}
 use Rattle.merging.specs.Trials.{trial-total}
-use Rattle.merging.proofs.RunLawful.{greedy-lawful, greedy-length}
-use Rattle.merging.proofs.TrialTotals.{trials-total}
-use Rattle.journal.specs.Lines.{lines, kept-of}
-use Rattle.journal.specs.Obeying.{went, obeyed, obeyed-texts, obeyed-header}
+use Rattle.journal.specs.Lines.{lines, lines-after, kept-of}
+use Rattle.journal.specs.Obeying.{went, obeyed, obeyed-texts}
 use Rattle.journal.specs.Writing.{new-text, unbroken}
-use Rattle.journal.specs.CutAndResumed.{Resumes}
-use Rattle.journal.proofs.LinesJoined.{whole-in, lines-cut, kept-cut, whole-within}
-use Rattle.journal.proofs.LineRead.{header-read}
-use Rattle.journal.proofs.ObeyGreedy.{greedy-obeyed}
-use Rattle.journal.proofs.GreedyLines.{greedy-on, unbroken-lines, unbroken-joined, unbroken-are-lines, length-unbroken-lines, kept-and-new}
+use Rattle.journal.specs.Resuming.{Ending, done, ending, resumed, hatt-run}
+use Rattle.journal.specs.CutAndResumed.{ResumesCut}
+use Rattle.journal.proofs.LinesJoined.{kept-front}
+use Rattle.journal.proofs.CutObeyed.{CutObeyed, cut-obeyed}
+use Rattle.journal.proofs.CallDone.{CallDone, call-done, done-again}
 
--- The history that an unbroken run has reached after some steps.
-module _ (modes : ℕ) (terms : List (List ℕ)) (j : ℕ) (h : j ≤ modes) where
-  abbrev reached : List Triple
-  reached = greedy modes terms j []
+same-text : (modes count : ℕ) (terms : List (List ℕ)) (k : ℕ) {text other : List ℕ} → text ≡ other → CutObeyed modes count terms (take k other)
+    → CutObeyed modes count terms (take k text)
+same-text modes count terms k e cut = rw e cut
 
-  length-reached : length reached ≡ j
-  length-reached = greedy-length modes terms j [] ∙ zero-add j
+module _ (most modes : ℕ) (numbers : List ℕ) (work rows journal : ℕ) (whole : Ending) (fits : 3 * most ≤ 65535)
+    (unbroken-run : hatt-run most modes numbers work rows journal ≡ done whole) where
+  known : CallDone most modes numbers [] work rows journal whole
+  unfolding hatt-run
+  known = call-done most modes numbers [] work rows journal whole unbroken-run
 
-  reached-lawful : LawfulHistory modes reached
-  reached-lawful = greedy-lawful modes terms j [] tt (omega arith)
+  abbrev terms : List (List ℕ)
+  terms = terms-of 8 (known .count) numbers
 
-  reached-end : finished modes terms reached ≡ finished modes terms []
-  unfolding finished
-  reached-end =
-      let e : j + (modes - length reached) ≡ modes - 0 = omega (arith, length-reached) in
-      greedy-on modes terms j (modes - length reached) [] ∙ ap (λ n. greedy modes terms n []) e
+  -- The unbroken run begins from no merge, and writes the unbroken journal.
+  from-nothing : whole ≡ ending modes (known .count) terms [] []
+  unfolding obeyed obeyed-texts lines lines-after
+  from-nothing =
+      let begun : [] ≡ known .history = went-same (known .obeys) in
+      known .ends ∙ ap (ending modes (known .count) terms []) (sym begun)
+    where
+      went-same : {h g : List Triple} → went h ≡ went g → h ≡ g
+      went-same e = cc
 
-  reached-trials : trials modes terms (modes - length reached) reached ≡ trial-total (modes - length reached)
-  reached-trials = trials-total modes terms (modes - length reached) reached reached-lawful (omega (arith, length-reached))
+  writes-unbroken : whole .new ≡ unbroken modes (known .count) terms
+  unfolding ending unbroken kept-of lines lines-after flatMap
+  writes-unbroken = ap (λ e. e .new) from-nothing
 
--- Every step and child is below 3n, and a line holds numbers up to 65535.
-module _ (modes count : ℕ) (terms : List (List ℕ)) (few : 3 * modes ≤ 65535) (light : length terms ≤ 65535) (counted : length terms ≡ count) where
-  abbrev texts : List (List ℕ)
-  texts = unbroken-lines modes count terms
-
-  texts-obeyed : (whole : ℕ) → whole - 1 ≤ modes → obeyed-texts modes count terms (take whole texts) ≡ went (greedy modes terms (whole - 1) [])
-  unfolding unbroken-lines obeyed-texts obeyed-header greedy
-  texts-obeyed zero h = refl
-  texts-obeyed (suc j) h =
-      let e : suc j - 1 ≡ j = omega arith in
-      rw (header-read modes count (omega arith) (omega arith), e)
-      (rw (eq-eqb modes modes refl, eq-eqb count count refl)
-      (greedy-obeyed modes terms few light j modes [] tt (omega arith) (omega arith) 1))
-
-  -- Any cut.
   module _ (k : ℕ) where
-    abbrev whole : ℕ
-    whole = whole-in k texts
+    abbrev bytes : List ℕ
+    bytes = take k (whole .new)
 
-    merges-within : whole - 1 ≤ modes
-    merges-within = omega (arith, whole-within texts k, length-unbroken-lines modes count terms)
+    cut : CutObeyed modes (known .count) terms bytes
+    unfolding modes-good
+    cut =
+        let good = accepted modes numbers (known .count) (known .terms-are) in
+        let few = leb-true modes most (both (leb 1 modes) (leb modes most) (known .modes-are) .1) in
+        let counted = length-terms 8 (known .count) numbers in
+        same-text modes (known .count) terms k writes-unbroken
+        (cut-obeyed modes (known .count) (terms-of 8 (known .count) numbers) (omega (arith, few, fits)) (omega (arith, counted, good .at-most)) counted k)
 
-    cut-lines : lines (take k (unbroken modes count terms)) ≡ take whole texts
-    cut-lines = ap (λ l. lines (take k l)) (unbroken-joined modes count terms) ∙ lines-cut texts k (unbroken-are-lines modes count terms)
+    -- What is kept of the cut journal is the front of the whole.
+    kept-there : take (length (kept-of bytes)) (whole .new) ≡ kept-of bytes
+    kept-there =
+        let front = kept-front bytes in
+        let inside : length (kept-of bytes) ≤ k =
+        omega (arith, ap length front, length-take (length (kept-of bytes)) bytes, length-take k (whole .new)) in
+        sym (take-take (length (kept-of bytes)) k (whole .new) inside) ∙ front
 
-    cut-kept : kept-of (take k (unbroken modes count terms)) ≡ flatMap (λ line. line) (take whole texts)
-    cut-kept = ap (λ l. kept-of (take k l)) (unbroken-joined modes count terms) ∙ kept-cut texts k (unbroken-are-lines modes count terms)
-
-    pub resumes : Resumes modes count terms (take k (unbroken modes count terms))
-    unfolding obeyed
-    resumes =
-        let size = length-reached modes terms (whole - 1) merges-within in
-        let end = reached-end modes terms (whole - 1) merges-within in
+    pub cut-and-resumed : ResumesCut most modes numbers work rows journal whole k
+    unfolding ending
+    cut-and-resumed =
         record {
-          history = greedy modes terms (whole - 1) [];
-          obeys = ap (obeyed-texts modes count terms) cut-lines ∙ texts-obeyed whole merges-within;
-          a-line-each = omega (arith, size, ap length cut-lines, length-take whole texts, whole-within texts k);
-          as-unbroken = ap (λ n. greedy modes terms n []) (sym size);
-          lawful = reached-lawful modes terms (whole - 1) merges-within;
-          within = omega (arith, size, merges-within);
-          same-end = end;
-          same-rows = ap (flatpack modes) end;
-          same-weight = ap (run-weight modes terms) end;
+          part = ending modes (known .count) terms bytes (cut .history);
+          resumes = done-again most modes numbers work rows journal [] bytes whole known (cut .history) (cut .obeys);
+          same-rows = cut .same-rows ∙ sym (ap (λ e. e .rows) from-nothing);
+          same-weight = cut .same-weight ∙ sym (ap (λ e. e .weight) from-nothing);
           same-bytes =
-              ap (λ kept. kept ++ new-text modes count terms (length kept) (greedy modes terms (whole - 1) [])) cut-kept
-              ∙ kept-and-new modes count terms whole merges-within;
-          trials-are = reached-trials modes terms (whole - 1) merges-within;
+              ap (λ kept. kept ++ new-text modes (known .count) terms (length (kept-of bytes)) (cut .history)) kept-there
+              ∙ cut .same-bytes
+              ∙ sym writes-unbroken;
+          trials-left = cut .trials-are ∙ ap (λ n. trial-total (modes - n)) (cut .a-line-each);
         }

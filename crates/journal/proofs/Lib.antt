@@ -23,7 +23,11 @@ pub mod NotedLines
 pub mod PuttingLines
 pub mod RunEnds
 pub mod JournalAnswered
+pub mod CutObeyed
+pub mod CallDone
 pub mod CutAndResumed
+pub mod ObeyedThenGreedy
+pub mod OneAnswer
 pub mod Obedience
 pub mod ObeyedText
 pub mod JournalRoom

@@ -1,4 +1,4 @@
--- "From any other accepted journal the lines are obeyed in order."
+-- "From any other accepted journal the lines are obeyed in order and the greedy rule goes on. The trials reported are exactly the lawful pairs of the steps not kept."
 use mathlib.Core.Path.{_≡_}
 use mathlib.Core.List.{List, []}
 use Prim.Native.Nat.{ℕ, suc, _-_, _<_, _≤_}
@@ -7,9 +7,15 @@ use Rattle.terms.specs.declared.row.Triple.{Triple}
 use Rattle.merging.specs.Lawful.{LawfulHistory}
 use Rattle.merging.specs.Choice.{weight-in}
 use Rattle.merging.specs.Flatpack.{merge-of}
+use Rattle.merging.specs.Trials.{trial-total}
+use Rattle.terms.specs.Rows.{terms-of}
+use Rattle.terms.specs.Good.{checked}
+use Rattle.terms.specs.declared.given.Checked.the-variants.{Good}
 use Rattle.journal.specs.declared.header.Header.the-variants.{Is as HeaderIs}
 use Rattle.journal.specs.declared.merge_line.Merge.the-variants.{Is as MergeIs}
+use Rattle.journal.specs.Lines.{lines}
 use Rattle.journal.specs.Fields.{header-of, merge-of-line}
+use Rattle.journal.specs.Resuming.{Ending, ending}
 
 -- The merges before the i-th, counted from the oldest.
 abbrev pub history-before : List Triple → ℕ → List Triple
@@ -29,3 +35,12 @@ pub record Obedient (modes count : ℕ) (terms : List (List ℕ)) (texts : List 
         triple = merge-of history i;
         weight = weight-in modes terms (history-before history i) (merge-of history i);
       })
+
+-- A call that is done obeyed its journal's lines and went on by the greedy rule from the merges that they say.
+pub record ObeyedThenGreedy (modes : ℕ) (numbers bytes : List ℕ) (part : Ending) : Type 0 where
+  pub count : ℕ
+  pub terms-good : checked modes numbers ≡ Good count
+  pub history : List Triple
+  pub obedient : Obedient modes count (terms-of 8 count numbers) (lines bytes) history
+  pub then-greedy : part ≡ ending modes count (terms-of 8 count numbers) bytes history
+  pub trials-left : part .trials ≡ trial-total (modes - length history)
