@@ -1,6 +1,7 @@
-// What the tests call from Rust: a HATT run's greedy weight, what obeying a journal comes to, and what the tree calls answer.
-use journal::obeying;
-use journal::obeying::Verdict;
+// What the tests call from Rust: a HATT run's greedy weight, the call `resume`, and what the tree calls answer.
+use journal::resuming;
+use journal::resuming::Answer;
+use journal::resuming::Numbers;
 use terms::given;
 use terms::given::Checked;
 use tree::TreeChecked;
@@ -22,29 +23,30 @@ pub extern "C" fn bench_hatt(modes: usize, rows: &mut [u16]) -> u64 {
     run.weight as u64
 }
 
-// What a journal comes to: its refusal's number and place, and the greedy weight of the run that goes on from it; nothing where the terms are refused.
+// The call `resume` as it is; its six numbers follow: refusal, place, weight, trials, kept and new bytes.
 #[no_mangle]
-pub extern "C" fn bench_obey(modes: usize, rows: &mut [u16], read: &[u8], answer: &mut [u64]) {
-    if modes < 1 {
-        return;
-    }
-    if 256 < modes {
-        return;
-    }
-    let Checked::Good(live) = given::check_terms(modes, rows) else {
-        return;
-    };
-    let found = obeying::obey(modes, live, rows, read);
-    let verdict = found.verdict;
-    let run = found.run.finished(rows);
-    match verdict {
-        Verdict::Fine => put(answer, 0, 0, run.weight as u64),
-        Verdict::Refused(refusal) => {
-            put(
+pub extern "C" fn bench_resume(
+    modes: usize,
+    terms: &[u16],
+    read: &[u8],
+    work: &mut [u16],
+    rows: &mut [u16],
+    journal: &mut [u8],
+    answer: &mut [u64],
+) {
+    match resuming::resume(modes, terms, read, work, rows, journal) {
+        Answer::Done(numbers) => put_six(answer, 0, 0, numbers),
+        Answer::Refused(refusal) => {
+            put_six(
                 answer,
                 refusal::number(refusal) as u64,
                 refusal::place(refusal) as u64,
-                0,
+                Numbers {
+                    weight: 0,
+                    trials: 0,
+                    kept: 0,
+                    new: 0,
+                },
             )
         }
     }
@@ -90,4 +92,18 @@ fn put(answer: &mut [u64], first: u64, second: u64, third: u64) {
     answer[0] = first;
     answer[1] = second;
     answer[2] = third;
+}
+
+// Six numbers, where there is room for them.
+fn put_six(answer: &mut [u64], refusal: u64, place: u64, numbers: Numbers) {
+    if answer.len() != 6 {
+        return;
+    }
+    put(&mut answer[..3], refusal, place, numbers.weight);
+    put(
+        &mut answer[3..],
+        numbers.trials,
+        numbers.kept as u64,
+        numbers.new as u64,
+    );
 }

@@ -1,4 +1,4 @@
-//! The plain program's calls with marked slices: what a call must leave alone is looked over after every one, and every journal is given to the proved library too.
+//! The plain program's calls with marked slices: what a call must leave alone is looked over after every one, and every call is made of the proved library too, with the same slices.
 
 use crate::proved;
 use crate::tally::equal;
@@ -18,7 +18,7 @@ pub struct Finished {
     pub new: Vec<u8>,
 }
 
-/// Resumes. The outer error says that an element was altered which should not have been, or that the proved library obeys otherwise.
+/// Resumes. The outer error says that an element was altered which should not have been, or that the proved library answers or leaves anything else.
 pub fn resume(
     modes: usize,
     terms: &[u16],
@@ -27,12 +27,9 @@ pub fn resume(
     let mut work = vec![MARK; terms.len() + BEYOND];
     let mut rows = vec![MARK; 4 * modes + BEYOND];
     let mut journal = vec![BYTE_MARK; 16 + 21 * modes + BEYOND];
+    let lent = (work.clone(), rows.clone(), journal.clone());
     let answer = plain::resume(modes, terms, read, &mut work, &mut rows, &mut journal);
-    let numbers = match answer {
-        Ok(done) => [0, 0, done.weight],
-        Err(refusal) => [u64::from(refusal.number), refusal.place as u64, 0],
-    };
-    equal("obeyed alike", proved::obey(modes, terms, read), numbers)?;
+    proved_alike(modes, terms, read, lent, answer, (&work, &rows, &journal))?;
     let (written, new) = match answer {
         Ok(done) => (1, done.new),
         Err(_) => (0, 0),
@@ -54,6 +51,30 @@ pub fn resume(
             .collect(),
         new: new.to_vec(),
     }))
+}
+
+/// The slices that a call is lent.
+type Lent = (Vec<u16>, Vec<u16>, Vec<u8>);
+
+/// The proved call, with slices as they were lent: the same numbers, and every element as the plain program left it.
+fn proved_alike(
+    modes: usize,
+    terms: &[u16],
+    read: &[u8],
+    lent: Lent,
+    answer: Result<Done, Refusal>,
+    left: (&[u16], &[u16], &[u8]),
+) -> Result<(), String> {
+    let (mut work, mut rows, mut journal) = lent;
+    let numbers = match answer {
+        Ok(done) => [0, 0, done.weight, done.trials, done.kept as u64, done.new as u64],
+        Err(refusal) => [u64::from(refusal.number), refusal.place as u64, 0, 0, 0, 0],
+    };
+    let proved = proved::resume(modes, terms, read, &mut work, &mut rows, &mut journal);
+    equal("proved numbers", proved, numbers)?;
+    equal("proved work", &work[..], left.0)?;
+    equal("proved rows", &rows[..], left.1)?;
+    equal("proved journal", &journal[..], left.2)
 }
 
 /// Resumes where 01 leaves no ground for a refusal.

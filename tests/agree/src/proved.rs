@@ -1,30 +1,47 @@
-//! What the proved library makes of a journal.
+//! The proved library's call `resume`.
 
 extern "C" {
-    fn bench_obey(
+    fn bench_resume(
         modes: usize,
-        rows: *mut u16,
+        terms: *const u16,
         numbers: usize,
         read: *const u8,
         bytes: usize,
+        work: *mut u16,
+        work_room: usize,
+        rows: *mut u16,
+        rows_room: usize,
+        journal: *mut u8,
+        journal_room: usize,
         answer: *mut u64,
-        room: usize,
+        answer_room: usize,
     );
 }
 
-/// The refusal and its place, and the greedy weight of the run that goes on from the journal; the terms are good.
-pub fn obey(modes: usize, terms: &[u16], read: &[u8]) -> [u64; 3] {
-    let mut rows = terms.to_vec();
-    // Numbers that no call answers, so that one that was not written shows.
-    let mut answer = [u64::MAX; 3];
-    // The library reads the bytes, reduces the rows and writes the three numbers of the answer.
+/// Resumes in the lent slices and returns six numbers: refusal, place, weight, trials, kept and new bytes.
+pub fn resume(
+    modes: usize,
+    terms: &[u16],
+    read: &[u8],
+    work: &mut [u16],
+    rows: &mut [u16],
+    journal: &mut [u8],
+) -> [u64; 6] {
+    let mut answer = [0; 6];
+    // The library reads terms and journal, and writes the four slices within their lengths.
     unsafe {
-        bench_obey(
+        bench_resume(
             modes,
-            rows.as_mut_ptr(),
-            rows.len(),
+            terms.as_ptr(),
+            terms.len(),
             read.as_ptr(),
             read.len(),
+            work.as_mut_ptr(),
+            work.len(),
+            rows.as_mut_ptr(),
+            rows.len(),
+            journal.as_mut_ptr(),
+            journal.len(),
             answer.as_mut_ptr(),
             answer.len(),
         );
