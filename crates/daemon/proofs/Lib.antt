@@ -1,0 +1,2 @@
+-- The laws of the calls from C.
+pub mod Examples

@@ -1,0 +1,4 @@
+-- What document 01 says of the calls from C: every slice is bytes.
+pub mod Bytes
+pub mod Calls
+pub mod Promises
