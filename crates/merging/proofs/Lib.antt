@@ -1,5 +1,4 @@
 -- The laws of merging.
-pub mod Examples
 pub mod LawfulTest
 pub mod Holders
 pub mod Couples

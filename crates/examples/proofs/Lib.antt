@@ -1,0 +1,2 @@
+-- The P cases hold.
+pub mod CasesHold

@@ -1,0 +1,2 @@
+-- What each P case of document 01 claims.
+pub mod Cases

@@ -1,0 +1,1 @@
+// No code: document 01's P cases, over the definitions of all crates.
