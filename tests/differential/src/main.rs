@@ -1,5 +1,6 @@
 //! Compares the plain program with the oracle on seeded inputs, and its journals with themselves and the proved library; prints counts by kind.
 
+mod bounds;
 mod calls;
 mod cuts;
 mod damage;
@@ -28,6 +29,7 @@ fn main() {
         cuts::cut_everywhere,
         cuts::wander,
         damage::damage_everywhere,
+        bounds::boundaries,
     ];
     // Each part has its own seed, so that a change to one leaves the inputs of the others alone.
     for (number, part) in parts.iter().enumerate() {

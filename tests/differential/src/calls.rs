@@ -18,15 +18,44 @@ pub struct Finished {
     pub new: Vec<u8>,
 }
 
-/// Resumes. The outer error says that an element was altered which should not have been, or that the proved library answers or leaves anything else.
+/// The lengths of work, rows and journal that a call is lent.
+#[derive(Clone, Copy, Debug)]
+pub struct Rooms {
+    pub work: usize,
+    pub rows: usize,
+    pub journal: usize,
+}
+
+impl Rooms {
+    /// A little more than 01 asks for.
+    fn ample(modes: usize, terms: &[u16]) -> Self {
+        Rooms {
+            work: terms.len() + BEYOND,
+            rows: 4 * modes + BEYOND,
+            journal: 16 + 21 * modes + BEYOND,
+        }
+    }
+}
+
+/// Resumes with ample room. The outer error says that an element was altered which should not have been, or that the proved library answers or leaves anything else.
 pub fn resume(
     modes: usize,
     terms: &[u16],
     read: &[u8],
 ) -> Result<Result<Finished, Refusal>, String> {
-    let mut work = vec![MARK; terms.len() + BEYOND];
-    let mut rows = vec![MARK; 4 * modes + BEYOND];
-    let mut journal = vec![BYTE_MARK; 16 + 21 * modes + BEYOND];
+    resume_in(modes, terms, read, Rooms::ample(modes, terms))
+}
+
+/// The same, with these rooms.
+pub fn resume_in(
+    modes: usize,
+    terms: &[u16],
+    read: &[u8],
+    rooms: Rooms,
+) -> Result<Result<Finished, Refusal>, String> {
+    let mut work = vec![MARK; rooms.work];
+    let mut rows = vec![MARK; rooms.rows];
+    let mut journal = vec![BYTE_MARK; rooms.journal];
     let lent = (work.clone(), rows.clone(), journal.clone());
     let answer = plain::resume(modes, terms, read, &mut work, &mut rows, &mut journal);
     proved_alike(modes, terms, read, lent, answer, (&work, &rows, &journal))?;
@@ -67,7 +96,14 @@ fn proved_alike(
 ) -> Result<(), String> {
     let (mut work, mut rows, mut journal) = lent;
     let numbers = match answer {
-        Ok(done) => [0, 0, done.weight, done.trials, done.kept as u64, done.new as u64],
+        Ok(done) => [
+            0,
+            0,
+            done.weight,
+            done.trials,
+            done.kept as u64,
+            done.new as u64,
+        ],
         Err(refusal) => [u64::from(refusal.number), refusal.place as u64, 0, 0, 0, 0],
     };
     let proved = proved::resume(modes, terms, read, &mut work, &mut rows, &mut journal);
