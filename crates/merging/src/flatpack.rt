@@ -22,7 +22,7 @@ use terms::row;
 use terms::row::Triple;
 
 // The child code of an entity; the leaf at the root's z-end is the absent child.
-fn code(modes: usize, end: u16, entity: u16) -> u16
+pub fn code(modes: usize, end: u16, entity: u16) -> u16
     requires { ⌜ modes ≤ 256 ⌝ }
     ensures { λ r. ⌜ r ≡ code-of modes end entity ⌝ }
 {
