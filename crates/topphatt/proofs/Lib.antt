@@ -18,3 +18,12 @@ pub mod OutcomeRight
 pub mod RoundList
 pub mod ChosenLeaves
 pub mod WeightAtMost
+pub mod SlotKinds
+pub mod Gathering
+pub mod DistanceSteps
+pub mod SoughtSteps
+pub mod FixedSteps
+pub mod Bounds
+pub mod ChosenSought
+pub mod RoundSteps
+pub mod Answers

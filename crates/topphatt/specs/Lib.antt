@@ -7,3 +7,4 @@ pub mod Rounds
 pub mod Answer
 pub mod Promises
 pub mod Assignment
+pub mod Seeking

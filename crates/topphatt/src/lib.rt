@@ -1,8 +1,184 @@
 // TOPP-HATT: the leaves of a given tree assigned to modes, round by round, at the least weight.
+ghost use mathlib.Core.Path.{_≡_};
+ghost use Prim.Native.Nat.{_+_, _*_, _≤_, _<_};
+ghost use lib.ListN.{length, replicate};
+ghost use Rattle.lists.specs.Written.{«written-at»};
+ghost use Rattle.terms.specs.Rows.{Held, «terms-of»};
+ghost use Rattle.terms.specs.Good.{checked};
+ghost use Rattle.merging.specs.Flatpack.{code};
+ghost use Rattle.topphatt.specs.Slots.{«slot-of»};
+ghost use Rattle.topphatt.specs.Rounds.{ended};
+ghost use Rattle.topphatt.specs.Answer.{«answer-table», outcome, «with-terms», «with-room»};
+ghost use Rattle.topphatt.specs.Promises.{Assigns};
+ghost use Rattle.topphatt.specs.Seeking.{Distances, Tabled};
+use merging::flatpack;
 use refusal::Refusal;
+use terms::copying;
+use terms::given;
+use terms::given::Checked;
+use terms::row;
+use tree::TreeChecked;
+
+pub mod choice;
+pub mod nodes;
+pub mod rounds;
+pub mod slots;
 
 // What an assignment says: the sum of chosen weights, or why it is refused.
 pub enum Assigned {
     Weight(u64),
     Unassigned(Refusal),
+}
+
+// The code of the slot that stands where the given tree has this code.
+fn answer_code(modes: usize, assigned: &[u16], given: u16) -> u16
+    requires { ⌜ (modes ≤ 256) × (length (now assigned) ≡ modes) ⌝ }
+    ensures { λ r. ⌜ r ≡ code modes (2 * modes) (slot-of modes (now (assigned .entry)) given) ⌝ }
+{
+    let slot = slots::slot_of(modes, assigned, row::wide(given));
+    flatpack::code(modes, (2 * modes) as u16, slot)
+}
+
+// The codes of the slots, where the given tree has its own, into the front of the table.
+fn write_table(modes: usize, tree: &[u16], assigned: &[u16], table: &mut [u16])
+    requires { ⌜ (modes ≤ 256) × (length (now assigned) ≡ modes) × (length (now tree) ≤ length (now table)) ⌝ }
+    ensures { λ r. ⌜ now (table .exit) ≡ written-at 0 (answer-table modes (now (assigned .entry)) (now (tree .entry))) (now (table .entry)) ⌝ }
+{
+    let mut at = 0;
+    while at < tree.len() {
+        table[at] = answer_code(modes, assigned, tree[at]);
+        at += 1;
+    }
+}
+
+// The rounds, and the leaves that they fixed written into the front of the table; the sum of chosen weights.
+fn assign_pairs<'a>(
+    modes: usize,
+    tree: &'a [u16],
+    distances: &'a [usize],
+    heuristic: usize,
+    rows: &mut [u16],
+    live: usize,
+    assigned: &mut [u16],
+    table: &mut [u16],
+) -> usize
+    requires { ⌜ (1 ≤ modes) × (modes ≤ 256) × (live ≤ 2048) × (length (now tree) ≡ 3 * modes) × (now assigned ≡ replicate modes modes) × (3 * modes ≤ length (now table)) ⌝ }
+    requires { ⌜ Distances modes (now tree) (now distances) ⌝ }
+    requires { ⌜ Held 8 live (now rows) ⌝ }
+    ensures { λ r. ⌜ Tabled modes (now (tree .entry)) (ended modes (now (tree .entry)) heuristic (terms-of 8 live (now (rows .entry)))) (now (table .entry)) (now (table .exit)) r ⌝ }
+{
+    let weight = rounds::topphatt(modes, tree, distances, heuristic, rows, live, assigned);
+    write_table(modes, tree, assigned, table);
+    weight
+}
+
+// The same, with no pair having a mode at first and the distances found once.
+fn assign_rows(
+    modes: usize,
+    tree: &[u16],
+    heuristic: usize,
+    rows: &mut [u16],
+    live: usize,
+    table: &mut [u16],
+) -> usize
+    requires { ⌜ (1 ≤ modes) × (modes ≤ 256) × (live ≤ 2048) × (length (now tree) ≡ 3 * modes) × (3 * modes ≤ length (now table)) ⌝ }
+    requires { ⌜ Held 8 live (now rows) ⌝ }
+    ensures { λ r. ⌜ Tabled modes (now (tree .entry)) (ended modes (now (tree .entry)) heuristic (terms-of 8 live (now (rows .entry)))) (now (table .entry)) (now (table .exit)) r ⌝ }
+{
+    let mut distances = [0usize; 256];
+    nodes::fill_distances(modes, tree, &mut distances);
+    let mut assigned = [modes as u16; 256];
+    assign_pairs(
+        modes,
+        tree,
+        &distances,
+        heuristic,
+        rows,
+        live,
+        &mut assigned[..modes],
+        table,
+    )
+}
+
+// The same over a copy of the terms that is the call's own.
+fn assign_terms(
+    modes: usize,
+    tree: &[u16],
+    heuristic: usize,
+    terms: &[u16],
+    live: usize,
+    table: &mut [u16],
+) -> usize
+    requires { ⌜ (1 ≤ modes) × (modes ≤ 256) × (live ≤ 2048) × (length (now tree) ≡ 3 * modes) × (3 * modes ≤ length (now table)) ⌝ }
+    requires { ⌜ (length (now terms) ≡ 8 * live) × Held 8 live (now terms) ⌝ }
+    ensures { λ r. ⌜ Tabled modes (now (tree .entry)) (ended modes (now (tree .entry)) heuristic (terms-of 8 live (now (terms .entry)))) (now (table .entry)) (now (table .exit)) r ⌝ }
+{
+    let mut rows = given::own_copy(terms);
+    assign_rows(modes, tree, heuristic, &mut rows, live, table)
+}
+
+// The answer where all is good: the table written, work cleared.
+fn assign_good(
+    modes: usize,
+    tree: &[u16],
+    heuristic: usize,
+    terms: &[u16],
+    count: usize,
+    work: &mut [u16],
+    table: &mut [u16],
+) -> Assigned
+    requires { ⌜ (1 ≤ modes) × (modes ≤ 256) × (count ≤ 2048) × (length (now tree) ≡ 3 * modes) ⌝ }
+    requires { ⌜ (length (now terms) ≡ 8 * count) × Held 8 count (now terms) ⌝ }
+    ensures { λ r. ⌜ Assigns (with-room modes (now (tree .entry)) heuristic (now (terms .entry)) (length (now (work .entry))) (length (now (table .entry))) count) (now (work .entry)) (now (table .entry)) (now (work .exit)) (now (table .exit)) r ⌝ }
+{
+    let end = 8 * count;
+    if work.len() < end {
+        return Assigned::Unassigned(Refusal::Room);
+    }
+    if table.len() < 3 * modes {
+        return Assigned::Unassigned(Refusal::Room);
+    }
+    let weight = assign_terms(modes, tree, heuristic, terms, count, table);
+    copying::clear_front(work, end);
+    Assigned::Weight(weight as u64)
+}
+
+// The answer where the tree and the heuristic are good.
+fn assign_accepted(
+    modes: usize,
+    tree: &[u16],
+    heuristic: usize,
+    terms: &[u16],
+    work: &mut [u16],
+    table: &mut [u16],
+) -> Assigned
+    requires { ⌜ (1 ≤ modes) × (modes ≤ 256) × (length (now tree) ≡ 3 * modes) ⌝ }
+    ensures { λ r. ⌜ Assigns (with-terms modes (now (tree .entry)) heuristic (now (terms .entry)) (length (now (work .entry))) (length (now (table .entry))) (checked modes (now (terms .entry)))) (now (work .entry)) (now (table .entry)) (now (work .exit)) (now (table .exit)) r ⌝ }
+{
+    match given::check_terms(modes, terms) {
+        Checked::Refused(refusal) => Assigned::Unassigned(refusal),
+        Checked::Good(count) => assign_good(modes, tree, heuristic, terms, count, work, table),
+    }
+}
+
+// The leaves of an accepted tree assigned to modes at the least weight; or why the call is refused.
+pub fn assign(
+    modes: usize,
+    tree: &[u16],
+    heuristic: usize,
+    terms: &[u16],
+    work: &mut [u16],
+    table: &mut [u16],
+) -> Assigned
+    ensures { λ r. ⌜ Assigns (outcome 256 modes (now (tree .entry)) heuristic (now (terms .entry)) (length (now (work .entry))) (length (now (table .entry)))) (now (work .entry)) (now (table .entry)) (now (work .exit)) (now (table .exit)) r ⌝ }
+{
+    match tree::check_tree(modes, tree) {
+        TreeChecked::Refused(refusal) => Assigned::Unassigned(refusal),
+        TreeChecked::Accepted => {
+            if 2 < heuristic {
+                return Assigned::Unassigned(Refusal::Heuristic);
+            }
+            assign_accepted(modes, tree, heuristic, terms, work, table)
+        }
+    }
 }

@@ -1,0 +1,118 @@
+-- Modes and nodes of a round are below the number of modes, and so is the node of its choice.
+use mathlib.Core.Path.{_≡_, refl, ap}
+use mathlib.Core.Bool.{Bool, true, false, cond}
+use mathlib.Core.List.{List, [], _∷_, map, flatMap}
+use Prim.Native.Nat.{ℕ, zero, suc, _-_, _<_, _≤_}
+use native.Mathlib.Omega.{arith}
+use borrow.Author.Tests.{ltb-true, lt-ltb, ne-eqb}
+use lib.Dec.{ltb, eqb}
+use lib.ListN.{length, take, drop}
+use Rattle.lists.specs.Members.{keep, every, firsts}
+use Rattle.lists.specs.Least.{least, lighter}
+use Rattle.lists.specs.Ranges.{listed}
+use Rattle.lists.proofs.Every.{every-kept, every-first, every-cons, every-uncons, every-append}
+use Rattle.lists.proofs.Ranges.{every-from}
+use Rattle.tree.specs.Table.{nodes}
+use Rattle.terms.specs.declared.row.Triple.{Triple}
+use Rattle.topphatt.specs.Nodes.{remaining, farthest, narrowed, active}
+use Rattle.topphatt.specs.Choices.{unassigned, without, choices-at}
+use Rattle.topphatt.specs.Choice.{Choice, candidates, least-of, rank, chosen}
+
+abbrev pub Below : ℕ → List ℕ → Type 0
+Below modes l = every (λ v. ltb v modes) l ≡ true
+
+listed-below : (modes : ℕ) → Below modes (listed (λ v. v) 0 modes)
+listed-below modes = every-from (λ v. ltb v modes) 0 modes (λ v low high. lt-ltb v modes (omega arith))
+
+pub unassigned-below : (modes : ℕ) (assigned : List ℕ) → Below modes (unassigned modes assigned)
+unfolding unassigned
+unassigned-below modes assigned = every-kept (λ v. ltb v modes) _ (listed (λ v. v) 0 modes) (listed-below modes)
+
+pub remaining-below : (modes : ℕ) (table : List ℕ) (round : ℕ) (assigned : List ℕ) → Below modes (remaining modes table round assigned)
+unfolding remaining nodes
+remaining-below modes table round assigned = every-kept (λ v. ltb v modes) _ (listed (λ v. v) 0 modes) (listed-below modes)
+
+pub farthest-below : (modes : ℕ) (table left : List ℕ) → Below modes left → Below modes (farthest modes table left)
+unfolding farthest
+farthest-below modes table left e = every-kept (λ v. ltb v modes) _ left e
+
+front-below : (modes count : ℕ) (l : List ℕ) → Below modes l → Below modes (take count l)
+unfolding every
+front-below modes zero l e = refl
+front-below modes (suc count) [] e = refl
+front-below modes (suc count) (v ∷ l) e =
+    let p = every-uncons (λ u. ltb u modes) v l e in
+    every-cons (λ u. ltb u modes) v (take count l) (p .0) (front-below modes count l (p .1))
+
+back-below : (modes count : ℕ) (l : List ℕ) → Below modes l → Below modes (drop count l)
+unfolding every
+back-below modes zero l e = e
+back-below modes (suc count) [] e = refl
+back-below modes (suc count) (v ∷ l) e = back-below modes count l (every-uncons (λ u. ltb u modes) v l e .1)
+
+narrowed-below : (modes heuristic : ℕ) (like : ℕ → ℕ → Bool) (far : List ℕ) → Below modes far → Below modes (narrowed heuristic like far)
+unfolding narrowed firsts
+narrowed-below modes heuristic like far e = go (eqb heuristic 0) (eqb heuristic 1)
+  where
+    go : (a b : Bool) → Below modes (cond a (firsts like far) (cond b (take 1 far) (drop (length far - 1) far)))
+    go true b = every-first (λ v. ltb v modes) like [] far e
+    go false true = front-below modes 1 far e
+    go false false = back-below modes (length far - 1) far e
+
+pub active-below : (modes : ℕ) (table : List ℕ) (heuristic round : ℕ) (assigned : List ℕ)
+    → Below modes (active modes table heuristic round assigned)
+unfolding active
+active-below modes table heuristic round assigned =
+    narrowed-below modes heuristic _ (farthest modes table (remaining modes table round assigned))
+    (farthest-below modes table (remaining modes table round assigned) (remaining-below modes table round assigned))
+
+-- A mode that none of them is, left out.
+pub without-none : (modes : ℕ) (free : List ℕ) → Below modes free → without modes free ≡ free
+unfolding without keep
+without-none modes [] e = refl
+without-none modes (v ∷ free) e =
+    let p = every-uncons (λ u. ltb u modes) v free e in
+    let low = ltb-true v modes (p .0) in
+    rw (ne-eqb v modes (λ q. omega arith)) (ap (λ l. v ∷ l) (without-none modes free (p .1)))
+
+-- What holds of the nodes holds of their choices.
+candidates-below : (modes : ℕ) (table assigned : List ℕ) (l : List ℕ) → Below modes l
+    → every (λ choice. ltb (choice .node) modes) (flatMap (λ node. map {B = Choice} (λ triple. record { node = node; triple = triple }) (choices-at modes table assigned node)) l)
+    ≡ true
+unfolding every flatMap
+candidates-below modes table assigned [] e = refl
+candidates-below modes table assigned (node ∷ l) e =
+    let p = every-uncons (λ u. ltb u modes) node l e in
+    every-append (λ choice. ltb (choice .node) modes) (map {B = Choice} (λ triple. record { node = node; triple = triple }) (choices-at modes table assigned node)) _
+    (mine (p .0) (choices-at modes table assigned node))
+    (candidates-below modes table assigned l (p .1))
+  where
+    mine : ltb node modes ≡ true → (triples : List Triple) → every (λ choice. ltb (choice .node) modes) (map {B = Choice} (λ triple. record { node = node; triple = triple }) triples) ≡ true
+    mine low [] = refl
+    mine low (triple ∷ rest) = rw low (mine low rest)
+
+-- What holds of all holds of the least.
+least-passes : {A : Type 0} (test : A → Bool) (measure : A → ℕ) (best : A) (l : List A) → test best ≡ true → every test l ≡ true
+    → test (least measure best l) ≡ true
+unfolding least lighter
+least-passes test measure best [] h e = h
+least-passes test measure best (a ∷ l) h e =
+    let p = every-uncons test a l e in
+    least-passes test measure (lighter measure best a) l (either (ltb (measure a) (measure best)) (p .0)) (p .1)
+  where
+    either : (b : Bool) → test a ≡ true → test (cond b a best) ≡ true
+    either true f = f
+    either false f = h
+
+pub chosen-below : (modes : ℕ) (table : List ℕ) (heuristic round : ℕ) (assigned : List ℕ) (rows : List (List ℕ)) → 1 ≤ modes
+    → chosen modes table heuristic round assigned rows .node < modes
+unfolding chosen candidates least-of
+chosen-below modes table heuristic round assigned rows h =
+    of-least (flatMap (λ node. map {B = Choice} (λ triple. record { node = node; triple = triple }) (choices-at modes table assigned node)) (active modes table heuristic round assigned))
+    (candidates-below modes table assigned (active modes table heuristic round assigned) (active-below modes table heuristic round assigned))
+  where
+    of-least : (l : List Choice) → every (λ choice. ltb (choice .node) modes) l ≡ true → least-of (rank rows) l .node < modes
+    of-least [] e = h
+    of-least (first ∷ rest) e =
+        let p = every-uncons (λ choice. ltb (choice .node) modes) first rest e in
+        ltb-true _ modes (least-passes (λ choice. ltb (choice .node) modes) (rank rows) first rest (p .0) (p .1))

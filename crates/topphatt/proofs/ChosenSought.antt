@@ -1,0 +1,51 @@
+-- The best that is sought over a round's nodes is the choice of the round.
+use mathlib.Core.Path.{_≡_, refl, _∙_, ap}
+use mathlib.Core.List.{List, [], _∷_, map, flatMap}
+use Prim.Native.Nat.{ℕ, _≤_}
+use native.Mathlib.Omega.{arith}
+use lib.ListN.{length}
+use Rattle.lists.specs.Least.{least, lighter}
+use Rattle.lists.proofs.Least.{least-map}
+use Rattle.terms.specs.declared.row.Triple.{Triple}
+use Rattle.terms.proofs.WeightBound.{weight-at-most}
+use Rattle.topphatt.specs.declared.choice.Selection.{Selection}
+use Rattle.topphatt.specs.Nodes.{active}
+use Rattle.topphatt.specs.Choices.{choices-at}
+use Rattle.topphatt.specs.Choice.{Choice, candidates, least-of, rank, chosen}
+use Rattle.topphatt.specs.Seeking.{weighed, standing, worst, sought-over, choice-of}
+use Rattle.topphatt.proofs.SoughtSteps.{map-joined, by-weight}
+
+module _ (rows : List (List ℕ)) where
+  of : Choice → Selection
+  of choice = weighed rows (choice .node) (choice .triple)
+
+  at-node : ℕ → List Triple → List Choice
+  at-node node triples = map (λ triple. record { node = node; triple = triple }) triples
+
+  weighed-at : (node : ℕ) (triples : List Triple) → map (weighed rows node) triples ≡ map of (at-node node triples)
+  unfolding of at-node
+  weighed-at node [] = refl
+  weighed-at node (triple ∷ rest) = ap (λ l. weighed rows node triple ∷ l) (weighed-at node rest)
+
+  weighed-all : (f : ℕ → List Triple) (nodes : List ℕ)
+      → flatMap (λ node. map (weighed rows node) (f node)) nodes ≡ map of (flatMap (λ node. at-node node (f node)) nodes)
+  unfolding flatMap
+  weighed-all f [] = refl
+  weighed-all f (node ∷ nodes) =
+      rw (map-joined of (at-node node (f node)) (flatMap (λ n. at-node n (f n)) nodes), weighed-at node (f node), weighed-all f nodes)
+
+  least-sought : (live : ℕ) (l : List Choice) → length rows ≤ live → choice-of (least standing (worst live) (map of l)) ≡ least-of (rank rows) l
+  unfolding least-of least choice-of worst of weighed standing rank
+  least-sought live [] h = refl
+  least-sought live (first ∷ rest) h =
+      let light = weight-at-most (first .triple) rows in
+      let ahead : lighter standing (worst live) (of first) ≡ of first = by-weight (worst live) (of first) (omega arith) in
+      ap (λ best. choice-of (least standing best (map of rest))) ahead ∙ ap choice-of (least-map standing of first rest)
+
+  pub over-chosen : (modes : ℕ) (table : List ℕ) (heuristic round : ℕ) (assigned : List ℕ) (live : ℕ) → length rows ≤ live
+      → choice-of (sought-over modes table assigned rows (worst live) (active modes table heuristic round assigned))
+      ≡ chosen modes table heuristic round assigned rows
+  unfolding sought-over chosen candidates at-node
+  over-chosen modes table heuristic round assigned live h =
+      rw (weighed-all (choices-at modes table assigned) (active modes table heuristic round assigned))
+      (least-sought live (flatMap (λ node. at-node node (choices-at modes table assigned node)) (active modes table heuristic round assigned)) h)

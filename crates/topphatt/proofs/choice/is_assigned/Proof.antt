@@ -1,0 +1,66 @@
+-- Those ahead decide.
+use Rattle.topphatt.proofs.Gathering.{some-passes, some-stops, some-ends}
+use Rattle.lists.specs.Members.{some-of}
+use lib.ListN.{length, drop}
+use lib.Dec.{eqb}
+use borrow.Author.Tests.{eq-eqb, ne-eqb}
+use native.Mathlib.Omega.{arith}
+use Prim.Native.Nat.{_≤_, _-_}
+use mathlib.Core.Path.{_≡_, _∙_, sym}
+use borrow.Author.Needs.{needs}
+use Rattle.topphatt.proofs.choice.is_assigned.Statement.{statement}
+use Rattle.topphatt.proofs.choice.is_assigned.Tie as tie
+
+abbrev Inv-loop : tie.InvT-loop
+Inv-loop assigned mode at₀ at = (at ≤ length assigned) × (some-of (eqb mode) assigned ≡ some-of (eqb mode) (drop at assigned))
+
+abbrev μ-loop : tie.MeasureT-loop
+μ-loop assigned mode at₀ at = length assigned - at
+
+loop-holds : tie.Need-loop-holds Inv-loop μ-loop
+loop-holds c = search needs
+
+mul-if1 : tie.Need-mul-if1 Inv-loop μ-loop
+mul-if1 c = search needs
+
+shared-slice-read-if1 : tie.Need-shared-slice-read-if1 Inv-loop μ-loop
+shared-slice-read-if1 c = search needs
+
+returns : tie.Need-returns Inv-loop μ-loop
+returns c =
+    let here = c .before .before .before in
+    let args = here .before .args in
+    sym (here .loop .inv .1 ∙ some-stops (args .assigned .now) (here .loop .at) (eqb (args .mode)) (omega arith) (eq-eqb _ _ (c .if1 .taken)))
+
+add-at : tie.Need-add-at Inv-loop μ-loop
+add-at c = search needs
+
+loop-less : tie.Need-loop-less Inv-loop μ-loop
+loop-less c = search needs
+
+loop-again : tie.Need-loop-again Inv-loop μ-loop
+loop-again c =
+    let here = c .before .before .before in
+    let args = here .before .args in
+    (omega arith, here .loop .inv .1 ∙ some-passes (args .assigned .now) (here .loop .at) (eqb (args .mode)) (omega arith) (ne-eqb _ _ (c .if1 .left)))
+
+returns-2 : tie.Need-returns-2 Inv-loop μ-loop
+returns-2 c =
+    let here = c .before in
+    let args = here .before .args in
+    sym (here .loop .inv .1 ∙ some-ends (args .assigned .now) (here .loop .at) (eqb (args .mode)) (omega arith))
+
+pub is-assigned-spec : {M : Type 1} → statement M
+is-assigned-spec =
+    tie.close
+    (tie.spec
+    Inv-loop
+    μ-loop
+    loop-holds
+    mul-if1
+    shared-slice-read-if1
+    returns
+    add-at
+    loop-less
+    loop-again
+    returns-2)

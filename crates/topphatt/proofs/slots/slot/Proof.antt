@@ -1,0 +1,18 @@
+-- The slot of the child's code.
+use Rattle.topphatt.specs.Slots.{slot}
+use borrow.Author.Needs.{needs}
+use Rattle.topphatt.proofs.slots.slot.Statement.{statement}
+use Rattle.topphatt.proofs.slots.slot.Tie as tie
+
+child-requires : tie.Need-child-requires
+child-requires c κs = search needs
+
+slot-of-requires : tie.Need-slot-of-requires
+slot-of-requires c κs = search needs
+
+returns : tie.Need-returns
+unfolding slot
+returns c = (rw (← c .before .child .ensures) (c .slot-of .ensures .0), c .slot-of .ensures .1)
+
+pub slot-spec : {M : Type 1} → statement M
+slot-spec = tie.close (tie.spec child-requires slot-of-requires returns)

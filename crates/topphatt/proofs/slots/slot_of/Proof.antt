@@ -1,0 +1,73 @@
+-- A child, empty, or a leaf, by the code.
+use Rattle.topphatt.specs.Slots.{leaf-slot}
+use Prim.Native.Nat.{_-_, _%_}
+use mathlib.Core.Path.{_∙_, ap, sym}
+use Rattle.topphatt.proofs.SlotKinds.{slot-child, slot-empty, slot-leaf}
+use native.Mathlib.Omega.{arith}
+use borrow.Author.Needs.{needs}
+use Rattle.topphatt.proofs.slots.slot_of.Statement.{statement}
+use Rattle.topphatt.proofs.slots.slot_of.Tie as tie
+
+mul-result : tie.Need-mul-result
+mul-result c = search needs
+
+add-result : tie.Need-add-result
+add-result c = search needs
+
+add-result-2 : tie.Need-add-result-2
+add-result-2 c = search needs
+
+cast-result : tie.Need-cast-result
+cast-result c = search needs
+
+returns : tie.Need-returns
+returns c = (sym (slot-child _ _ _ (c .if1 .taken)), omega arith)
+
+mul-if2 : tie.Need-mul-if2
+mul-if2 c = search needs
+
+mul-result-2 : tie.Need-mul-result-2
+mul-result-2 c = search needs
+
+cast-result-2 : tie.Need-cast-result-2
+cast-result-2 c = search needs
+
+returns-2 : tie.Need-returns-2
+returns-2 c = (sym (slot-empty _ _ _ (c .before .if1 .left) (c .if2 .taken)), omega arith)
+
+mul-wide : tie.Need-mul-wide
+mul-wide c = search needs
+
+shared-slice-read-wide : tie.Need-shared-slice-read-wide
+shared-slice-read-wide c = search needs
+
+wide-requires : tie.Need-wide-requires
+wide-requires c κs = search needs
+
+leaf-slot-requires : tie.Need-leaf-slot-requires
+leaf-slot-requires c κs = search needs
+
+returns-3 : tie.Need-returns-3
+returns-3 c =
+    let args = c .before .before .before .before .before .before .args in
+    let read = slot-leaf (args .modes) (args .assigned .now) (args .code) (omega arith) (omega arith) (omega arith) in
+    (c .leaf-slot .ensures .0 ∙ ap (λ v. leaf-slot (args .modes) v ((args .code - args .modes) % 2)) (c .before .wide .ensures .0) ∙ sym read, c .leaf-slot .ensures .1)
+
+pub slot-of-spec : {M : Type 1} → statement M
+slot-of-spec =
+    tie.close
+    (tie.spec
+    mul-result
+    add-result
+    add-result-2
+    cast-result
+    returns
+    mul-if2
+    mul-result-2
+    cast-result-2
+    returns-2
+    mul-wide
+    shared-slice-read-wide
+    wide-requires
+    leaf-slot-requires
+    returns-3)

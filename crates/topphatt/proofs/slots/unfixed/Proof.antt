@@ -1,0 +1,18 @@
+-- The test that the definition names.
+use Rattle.topphatt.specs.Slots.{unfixed}
+use borrow.Author.Needs.{needs}
+use Rattle.topphatt.proofs.slots.unfixed.Statement.{statement}
+use Rattle.topphatt.proofs.slots.unfixed.Tie as tie
+
+mul-result : tie.Need-mul-result
+mul-result c = search needs
+
+wide-requires : tie.Need-wide-requires
+wide-requires c κs = search needs
+
+returns : tie.Need-returns
+unfolding unfixed
+returns c = rw (c .wide .ensures .0)
+
+pub unfixed-spec : {M : Type 1} → statement M
+unfixed-spec = tie.close (tie.spec mul-result wide-requires returns)

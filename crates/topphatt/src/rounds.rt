@@ -1,0 +1,150 @@
+// The rounds: a choice made, its leaves fixed, the rows reduced, until no mode is unassigned.
+ghost use mathlib.Core.Path.{_≡_};
+ghost use Prim.Native.Nat.{_+_, _*_, _≤_, _<_};
+ghost use lib.Dec.{eqb};
+ghost use lib.ListN.{length, replicate};
+ghost use Rattle.terms.specs.Rows.{Held, «terms-of»};
+ghost use Rattle.topphatt.specs.Choices.{unassigned};
+ghost use Rattle.topphatt.specs.Rounds.{fixed, ended};
+ghost use Rattle.topphatt.specs.Seeking.{Distances, Chose, «choice-of», Fixed, Going, Went, Ended};
+use crate::choice;
+use crate::choice::Selection;
+use crate::nodes;
+use crate::slots;
+use merging::entity;
+use terms::reduction;
+use terms::row;
+use terms::weight;
+use tree::table;
+
+// What the rounds have come to, beside the pairs' modes and the rows: how many there were, the live rows, and the sum of chosen weights.
+pub struct Progress {
+    pub round: usize,
+    pub live: usize,
+    pub weight: usize,
+}
+
+// A leaf that isn't fixed yet is fixed as this number: its pair gets the number's mode.
+fn fix(modes: usize, tree: &[u16], node: usize, edge: usize, number: u16, assigned: &mut [u16])
+    requires { ⌜ (modes ≤ 256) × (length (now assigned) ≡ modes) × (3 * node + edge < length (now tree)) ⌝ }
+    ensures { λ r. ⌜ (length (now (assigned .exit)) ≡ modes) × (now (assigned .exit) ≡ fixed modes (now (tree .entry)) node edge number (now (assigned .entry))) ⌝ }
+{
+    let code = table::child(tree, node, edge);
+    if !slots::unfixed(modes, slots::slot_of(modes, assigned, code)) {
+        return;
+    }
+    let pair = (code - modes) / 2;
+    assigned[pair] = number / 2;
+}
+
+// The X, Y and Z leaf of a choice fixed.
+fn fix_all(modes: usize, tree: &[u16], selection: Selection, assigned: &mut [u16])
+    requires { ⌜ (modes ≤ 256) × (length (now assigned) ≡ modes) × (length (now tree) ≡ 3 * modes) × (selection .«min_parent» < modes) ⌝ }
+    ensures { λ r. ⌜ Fixed modes (now (tree .entry)) (choice-of selection) (now (assigned .entry)) (now (assigned .exit)) ⌝ }
+{
+    let node = row::wide(selection.min_parent);
+    fix(modes, tree, node, 0, selection.leaf_indices.x, assigned);
+    fix(modes, tree, node, 1, selection.leaf_indices.y, assigned);
+    fix(modes, tree, node, 2, selection.leaf_indices.z, assigned);
+}
+
+// The choice of a round.
+fn choose<'a>(
+    modes: usize,
+    tree: &'a [u16],
+    distances: &'a [usize],
+    heuristic: usize,
+    rows: &'a [u16],
+    assigned: &'a [u16],
+    progress: Progress,
+) -> Selection
+    requires { ⌜ Going modes (now tree) (now distances) (now rows) (now assigned) progress ⌝ }
+    ensures { λ r. ⌜ Chose modes (now (tree .entry)) heuristic (now (rows .entry)) (now (assigned .entry)) progress r ⌝ }
+{
+    let mut free = [0u16; 256];
+    let unassigned = choice::fill_unassigned(modes, assigned, &mut free);
+    let mut active = [0u16; 256];
+    let count = nodes::fill_active(
+        modes,
+        tree,
+        distances,
+        heuristic,
+        progress.round,
+        assigned,
+        &mut active,
+    );
+    choice::select(
+        rows,
+        progress.live,
+        tree,
+        assigned,
+        &free[..unassigned],
+        &active[..count],
+        modes,
+    )
+}
+
+// One round.
+fn round<'a>(
+    modes: usize,
+    tree: &'a [u16],
+    distances: &'a [usize],
+    heuristic: usize,
+    rows: &mut [u16],
+    assigned: &mut [u16],
+    progress: Progress,
+) -> Progress
+    requires { ⌜ Going modes (now tree) (now distances) (now rows) (now assigned) progress ⌝ }
+    requires { ⌜ progress .round < modes ⌝ }
+    ensures { λ r. ⌜ Went modes (now (tree .entry)) (now (distances .entry)) heuristic (now (rows .entry)) (now (assigned .entry)) progress (now (rows .exit)) (now (assigned .exit)) r ⌝ }
+{
+    let selection = choose(modes, tree, distances, heuristic, rows, assigned, progress);
+    // weighed anew: where there was no choice there is no weight
+    let weight = weight::weight(rows, progress.live, selection.leaf_indices);
+    fix_all(modes, tree, selection, assigned);
+    let parent = entity::next_parent(modes, row::wide(selection.min_parent));
+    let live = reduction::reduce_hamiltonian(rows, progress.live, parent, selection.leaf_indices);
+    Progress {
+        round: progress.round + 1,
+        live: live,
+        weight: progress.weight + weight,
+    }
+}
+
+// No mode is unassigned.
+fn is_finished(modes: usize, assigned: &[u16]) -> bool
+    requires { ⌜ modes ≤ 256 ⌝ }
+    ensures { λ r. ⌜ r ≡ eqb (length (unassigned modes (now (assigned .entry)))) 0 ⌝ }
+{
+    let mut free = [0u16; 256];
+    choice::fill_unassigned(modes, assigned, &mut free) == 0
+}
+
+// All rounds; the sum of chosen weights.
+pub fn topphatt<'a>(
+    modes: usize,
+    tree: &'a [u16],
+    distances: &'a [usize],
+    heuristic: usize,
+    rows: &mut [u16],
+    live: usize,
+    assigned: &mut [u16],
+) -> usize
+    requires { ⌜ (1 ≤ modes) × (modes ≤ 256) × (live ≤ 2048) × (length (now tree) ≡ 3 * modes) × (now assigned ≡ replicate modes modes) ⌝ }
+    requires { ⌜ Distances modes (now tree) (now distances) ⌝ }
+    requires { ⌜ Held 8 live (now rows) ⌝ }
+    ensures { λ r. ⌜ Ended modes (ended modes (now (tree .entry)) heuristic (terms-of 8 live (now (rows .entry)))) (now (assigned .exit)) r ⌝ }
+{
+    let mut progress = Progress {
+        round: 0,
+        live: live,
+        weight: 0,
+    };
+    while progress.round < modes {
+        if is_finished(modes, assigned) {
+            return progress.weight;
+        }
+        progress = round(modes, tree, distances, heuristic, rows, assigned, progress);
+    }
+    progress.weight
+}
