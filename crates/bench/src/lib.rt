@@ -1,9 +1,10 @@
-// What the tests call from Rust: a HATT run's greedy weight, the call `resume`, and what the tree calls answer.
+// What the tests call from Rust: a HATT run's greedy weight, the calls `resume` and `assign`, and what the tree calls answer.
 use journal::resuming;
 use journal::resuming::Answer;
 use journal::resuming::Numbers;
 use terms::given;
 use terms::given::Checked;
+use topphatt::Assigned;
 use tree::TreeChecked;
 use tree::TreeWeighed;
 
@@ -47,6 +48,30 @@ pub extern "C" fn bench_resume(
                     kept: 0,
                     new: 0,
                 },
+            )
+        }
+    }
+}
+
+// The call `assign` as it is; its refusal's number and place follow, and the weight.
+#[no_mangle]
+pub extern "C" fn bench_assign(
+    modes: usize,
+    tree: &[u16],
+    heuristic: usize,
+    terms: &[u16],
+    work: &mut [u16],
+    table: &mut [u16],
+    answer: &mut [u64],
+) {
+    match topphatt::assign(modes, tree, heuristic, terms, work, table) {
+        Assigned::Weight(weight) => put(answer, 0, 0, weight),
+        Assigned::Unassigned(refusal) => {
+            put(
+                answer,
+                refusal::number(refusal) as u64,
+                refusal::place(refusal) as u64,
+                0,
             )
         }
     }

@@ -58,14 +58,11 @@ module _ (modes : ℕ) (assigned : List ℕ) (fair : Fair modes assigned) where
       length-keep (λ v. not (some-of (eqb v) assigned)) (listed (λ v. v) 0 modes) ∙ sum-listed missing modes in
       omega (arith, total-add (λ v. occurrences v assigned) missing modes, fair .whole)
 
-  -- A mode is unassigned exactly where a pair has none; where two pairs have none, two modes are.
+  -- Where a mode is unassigned a pair has none; where two pairs have none, two modes are.
   pub pair-without : 0 < length (unassigned modes assigned) → (k : ℕ) × (k < modes) × (getD assigned k modes ≡ modes)
   pair-without h =
       let some : 1 ≤ occurrences modes assigned = omega (arith, as-many) in
       (place-of assigned modes, omega (arith, place-within modes assigned some, fair .whole), stands-there modes modes assigned some)
-
-  pub mode-left : (k : ℕ) → k < modes → modes ≤ getD assigned k modes → 0 < length (unassigned modes assigned)
-  mode-left k h none = omega (arith, as-many, fair .known k h, occurs-at modes assigned k modes (omega (arith, fair .whole)) (omega (arith, fair .known k h)))
 
   pub two-left : (j k : ℕ) → j < modes → k < modes → (j ≡ k → ⊥) → modes ≤ getD assigned j modes → modes ≤ getD assigned k modes
       → 2 ≤ length (unassigned modes assigned)

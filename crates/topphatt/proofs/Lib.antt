@@ -15,6 +15,7 @@ pub mod AnswerShape
 pub mod AnswerAccepted
 pub mod RoundsWent
 pub mod OutcomeRight
+pub mod OneAnswer
 pub mod RoundList
 pub mod ChosenLeaves
 pub mod WeightAtMost

@@ -118,6 +118,40 @@ pub fn accepted(modes: usize, terms: &[u16], read: &[u8]) -> Result<Finished, St
     resume(modes, terms, read)?.map_err(|refusal| format!("refused: {refusal:?}"))
 }
 
+/// Assigns with these rooms for work and table: the plain program's answer, and both slices after it. The error says that the proved library answers or leaves anything else.
+pub fn assign_in(
+    modes: usize,
+    tree: &[u16],
+    heuristic: usize,
+    terms: &[u16],
+    rooms: (usize, usize),
+) -> Result<(Result<u64, Refusal>, Vec<u16>, Vec<u16>), String> {
+    let mut work = vec![MARK; rooms.0];
+    let mut table = vec![MARK; rooms.1];
+    let (mut proved_work, mut proved_table) = (work.clone(), table.clone());
+    let answer = plain::assign(modes, tree, heuristic, terms, &mut work, &mut table);
+    let numbers = match answer {
+        Ok(weight) => [0, 0, weight],
+        Err(refusal) => [u64::from(refusal.number), refusal.place as u64, 0],
+    };
+    let proved = proved::assign(
+        modes,
+        tree,
+        heuristic,
+        terms,
+        &mut proved_work,
+        &mut proved_table,
+    );
+    equal("proved numbers", proved, numbers)?;
+    equal("proved work", &proved_work, &work)?;
+    equal("proved table", &proved_table, &table)?;
+    if answer.is_err() {
+        equal("work stays", &work, &vec![MARK; rooms.0])?;
+        equal("table stays", &table, &vec![MARK; rooms.1])?;
+    }
+    Ok((answer, work, table))
+}
+
 /// Assigns where 01 leaves no ground for a refusal; returns the table and the weight.
 pub fn assign(
     modes: usize,
@@ -125,10 +159,9 @@ pub fn assign(
     heuristic: usize,
     terms: &[u16],
 ) -> Result<(Vec<u16>, u64), String> {
-    let mut work = vec![MARK; terms.len() + BEYOND];
-    let mut table = vec![MARK; 3 * modes + BEYOND];
-    let weight = plain::assign(modes, tree, heuristic, terms, &mut work, &mut table)
-        .map_err(|refusal| format!("refused: {refusal:?}"))?;
+    let rooms = (terms.len() + BEYOND, 3 * modes + BEYOND);
+    let (answer, mut work, mut table) = assign_in(modes, tree, heuristic, terms, rooms)?;
+    let weight = answer.map_err(|refusal| format!("refused: {refusal:?}"))?;
     let beyond = table.split_off(3 * modes);
     equal("table's rest stays", beyond, vec![MARK; BEYOND])?;
     let beyond = work.split_off(terms.len());

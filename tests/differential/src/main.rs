@@ -7,6 +7,7 @@ mod damage;
 mod invariants;
 mod judge;
 mod proved;
+mod refused;
 mod rust;
 mod tally;
 
@@ -30,6 +31,7 @@ fn main() {
         cuts::wander,
         damage::damage_everywhere,
         bounds::boundaries,
+        refused::assign_refused,
     ];
     // Each part has its own seed, so that a change to one leaves the inputs of the others alone.
     for (number, part) in parts.iter().enumerate() {

@@ -1,4 +1,4 @@
-//! The proved library's call `resume`.
+//! The proved library's calls `resume` and `assign`.
 
 extern "C" {
     fn bench_resume(
@@ -13,6 +13,20 @@ extern "C" {
         rows_room: usize,
         journal: *mut u8,
         journal_room: usize,
+        answer: *mut u64,
+        answer_room: usize,
+    );
+    fn bench_assign(
+        modes: usize,
+        tree: *const u16,
+        codes: usize,
+        heuristic: usize,
+        terms: *const u16,
+        numbers: usize,
+        work: *mut u16,
+        work_room: usize,
+        table: *mut u16,
+        table_room: usize,
         answer: *mut u64,
         answer_room: usize,
     );
@@ -42,6 +56,36 @@ pub fn resume(
             rows.len(),
             journal.as_mut_ptr(),
             journal.len(),
+            answer.as_mut_ptr(),
+            answer.len(),
+        );
+    }
+    answer
+}
+
+/// Assigns in the lent slices and returns three numbers: refusal, place, weight.
+pub fn assign(
+    modes: usize,
+    tree: &[u16],
+    heuristic: usize,
+    terms: &[u16],
+    work: &mut [u16],
+    table: &mut [u16],
+) -> [u64; 3] {
+    let mut answer = [0; 3];
+    // The library reads tree and terms, and writes the three slices within their lengths.
+    unsafe {
+        bench_assign(
+            modes,
+            tree.as_ptr(),
+            tree.len(),
+            heuristic,
+            terms.as_ptr(),
+            terms.len(),
+            work.as_mut_ptr(),
+            work.len(),
+            table.as_mut_ptr(),
+            table.len(),
             answer.as_mut_ptr(),
             answer.len(),
         );
