@@ -67,9 +67,9 @@ state-of rows assigned progress = record {
 }
 
 -- What holds before and after each round.
-pub record Going (modes : ℕ) (table distances rows assigned : List ℕ) (progress : Progress) : Type 0 where
+pub record Going (most modes : ℕ) (table distances rows assigned : List ℕ) (progress : Progress) : Type 0 where
   pub some : 1 ≤ modes
-  pub few : modes ≤ 256
+  pub few : modes ≤ most
   pub whole : length table ≡ 3 * modes
   pub far : Distances modes table distances
   pub pairs : length assigned ≡ modes
@@ -88,10 +88,10 @@ pub record Fixed (modes : ℕ) (table : List ℕ) (choice : Choice) (assigned af
   pub right : after ≡ fixed-by modes table choice assigned
 
 -- A round was made.
-pub record Went (modes : ℕ) (table distances : List ℕ) (heuristic : ℕ) (rows assigned : List ℕ) (progress : Progress) (now-rows now-assigned : List ℕ) (r : Progress) : Type 0 where
+pub record RoundMade (most modes : ℕ) (table distances : List ℕ) (heuristic : ℕ) (rows assigned : List ℕ) (progress : Progress) (now-rows now-assigned : List ℕ) (r : Progress) : Type 0 where
   pub on : r .round ≡ suc (progress .round)
   pub right : state-of now-rows now-assigned r ≡ next modes table heuristic (state-of rows assigned progress)
-  pub going : Going modes table distances now-rows now-assigned r
+  pub going : Going most modes table distances now-rows now-assigned r
 
 -- All rounds were made.
 pub record Ended (modes : ℕ) (end : Rounds) (assigned : List ℕ) (r : ℕ) : Type 0 where

@@ -6,7 +6,7 @@ ghost use lib.ListN.{length, replicate};
 ghost use Rattle.terms.specs.Rows.{Held, «terms-of»};
 ghost use Rattle.topphatt.specs.Choices.{unassigned};
 ghost use Rattle.topphatt.specs.Rounds.{fixed, ended};
-ghost use Rattle.topphatt.specs.Seeking.{Distances, Chose, «choice-of», Fixed, Going, Went, Ended};
+ghost use Rattle.topphatt.specs.Seeking.{Distances, Chose, «choice-of», Fixed, Going, RoundMade, Ended};
 use crate::choice;
 use crate::choice::Selection;
 use crate::nodes;
@@ -58,7 +58,7 @@ fn choose<'a>(
     assigned: &'a [u16],
     progress: Progress,
 ) -> Selection
-    requires { ⌜ Going modes (now tree) (now distances) (now rows) (now assigned) progress ⌝ }
+    requires { ⌜ Going 256 modes (now tree) (now distances) (now rows) (now assigned) progress ⌝ }
     ensures { λ r. ⌜ Chose modes (now (tree .entry)) heuristic (now (rows .entry)) (now (assigned .entry)) progress r ⌝ }
 {
     let mut free = [0u16; 256];
@@ -94,9 +94,9 @@ fn round<'a>(
     assigned: &mut [u16],
     progress: Progress,
 ) -> Progress
-    requires { ⌜ Going modes (now tree) (now distances) (now rows) (now assigned) progress ⌝ }
+    requires { ⌜ Going 256 modes (now tree) (now distances) (now rows) (now assigned) progress ⌝ }
     requires { ⌜ progress .round < modes ⌝ }
-    ensures { λ r. ⌜ Went modes (now (tree .entry)) (now (distances .entry)) heuristic (now (rows .entry)) (now (assigned .entry)) progress (now (rows .exit)) (now (assigned .exit)) r ⌝ }
+    ensures { λ r. ⌜ RoundMade 256 modes (now (tree .entry)) (now (distances .entry)) heuristic (now (rows .entry)) (now (assigned .entry)) progress (now (rows .exit)) (now (assigned .exit)) r ⌝ }
 {
     let selection = choose(modes, tree, distances, heuristic, rows, assigned, progress);
     // weighed anew: where there was no choice there is no weight

@@ -12,7 +12,7 @@ use Rattle.topphatt.proofs.rounds.topphatt.Statement.{statement}
 use Rattle.topphatt.proofs.rounds.topphatt.Tie as tie
 
 abbrev Inv-loop : tie.InvT-loop
-Inv-loop modes tree distances heuristic rows₀ live assigned₀ progress₀ rows assigned progress = Going modes tree distances rows assigned progress
+Inv-loop modes tree distances heuristic rows₀ live assigned₀ progress₀ rows assigned progress = Going 256 modes tree distances rows assigned progress
     × (progress .round ≤ modes)
     × (length rows ≡ length rows₀)
     × (length assigned ≡ length assigned₀)
