@@ -1,28 +1,10 @@
-// What the tests call from Rust: a HATT run's greedy weight, the calls `resume` and `assign`, and what the tree calls answer.
+// What the tests call from Rust: the calls `resume` and `assign`, and what the tree calls answer.
 use journal::resuming;
 use journal::resuming::Answer;
 use journal::resuming::Numbers;
-use terms::given;
-use terms::given::Checked;
 use topphatt::Assigned;
 use tree::TreeChecked;
 use tree::TreeWeighed;
-
-// The greedy weight of the terms, reduced where they stand; u64's largest where they are refused.
-#[no_mangle]
-pub extern "C" fn bench_hatt(modes: usize, rows: &mut [u16]) -> u64 {
-    if modes < 1 {
-        return 18446744073709551615;
-    }
-    if 256 < modes {
-        return 18446744073709551615;
-    }
-    let Checked::Good(live) = given::check_terms(modes, rows) else {
-        return 18446744073709551615;
-    };
-    let run = merging::run::fresh(modes, live).finished(rows);
-    run.weight as u64
-}
 
 // The call `resume` as it is; its six numbers follow: refusal, place, weight, trials, kept and new bytes.
 #[no_mangle]

@@ -1,6 +1,6 @@
-//! Times HATT on the same terms by the proved library, ferrmion's Rust and the plain program; prints medians of five and ratios.
+//! Times HATT and assign on the same input by the proved library, ferrmion's Rust and the plain program; prints medians of five and ratios.
 
-use cases::{flat, terms, Random, Shape};
+use cases::{any_tree, flat, terms, Random, Shape};
 use std::hint::black_box;
 
 /// Runs of each; the median of them counts.
@@ -8,25 +8,6 @@ const RUNS: usize = 5;
 
 extern "C" {
     fn clock() -> i64;
-    fn bench_hatt(modes: usize, rows: *mut u16, numbers: usize) -> u64;
-}
-
-/// The greedy weight by the proved library, which reduces the rows that it is lent.
-fn ours(modes: usize, numbers: &[u16]) -> u64 {
-    let mut rows = numbers.to_vec();
-    // The library reads and writes the lent numbers and nothing else.
-    unsafe { bench_hatt(modes, rows.as_mut_ptr(), rows.len()) }
-}
-
-fn theirs(modes: usize, terms: &[Vec<u16>]) -> u64 {
-    oracle::hatt(modes, terms).1 as u64
-}
-
-fn plainly(modes: usize, numbers: &[u16]) -> u64 {
-    let (mut work, mut rows) = (vec![0; numbers.len()], vec![0; 4 * modes]);
-    let mut journal = vec![0; 16 + 21 * modes];
-    let done = plain::hatt(modes, numbers, &mut work, &mut rows, &mut journal);
-    done.expect("the terms are good").weight
 }
 
 /// Processor time in milliseconds, which other work on the machine leaves alone.
@@ -47,30 +28,80 @@ fn median(mut times: Vec<f64>) -> f64 {
 }
 
 /// The three take turns, so that a slow moment of the machine falls on all of them.
-fn compare(name: &str, modes: usize, count: usize, shape: Shape) {
-    let terms = terms(&mut Random::new(1), modes, count, shape);
-    let numbers = flat(&terms);
+fn compare(
+    name: &str,
+    ours: impl Fn() -> u64,
+    theirs: impl Fn() -> u64,
+    plainly: impl Fn() -> u64,
+) {
     let (mut our_times, mut their_times, mut plain_times) = (vec![], vec![], vec![]);
     for _ in 0..RUNS {
-        let (ours, our_time) = timed(|| ours(modes, &numbers));
-        let (theirs, their_time) = timed(|| theirs(modes, &terms));
-        let (plainly, plain_time) = timed(|| plainly(modes, &numbers));
-        assert_eq!((ours, ours), (theirs, plainly), "the greedy weights differ");
+        let (our_weight, our_time) = timed(&ours);
+        let (their_weight, their_time) = timed(&theirs);
+        let (plain_weight, plain_time) = timed(&plainly);
+        let others = (their_weight, plain_weight);
+        assert_eq!((our_weight, our_weight), others, "the weights differ");
         our_times.push(our_time);
         their_times.push(their_time);
         plain_times.push(plain_time);
     }
     let (ours, theirs, plainly) = (median(our_times), median(their_times), median(plain_times));
     println!(
-        "HATT, {modes} modes, {count} terms, {name}: ours {ours:.0} ms, Rust {theirs:.0} ms, plain {plainly:.0} ms; ours / Rust {:.2}, ours / plain {:.2}",
+        "{name}: ours {ours:.0} ms, Rust {theirs:.0} ms, plain {plainly:.0} ms; ours / Rust {:.2}, ours / plain {:.2}",
         ours / theirs,
         ours / plainly
     );
 }
 
+fn hatt(kind: &str, modes: usize, count: usize, shape: Shape) {
+    let terms = terms(&mut Random::new(1), modes, count, shape);
+    let numbers = flat(&terms);
+    let lent = || {
+        let (work, rows) = (vec![0; numbers.len()], vec![0; 4 * modes]);
+        (work, rows, vec![0; 16 + 21 * modes])
+    };
+    compare(
+        &format!("HATT, {modes} modes, {count} terms, {kind}"),
+        || {
+            let (mut work, mut rows, mut journal) = lent();
+            proved::resume(modes, &numbers, &[], &mut work, &mut rows, &mut journal)[2]
+        },
+        || oracle::hatt(modes, &terms).1 as u64,
+        || {
+            let (mut work, mut rows, mut journal) = lent();
+            let done = plain::hatt(modes, &numbers, &mut work, &mut rows, &mut journal);
+            done.expect("the terms are good").weight
+        },
+    );
+}
+
+/// Under `min_weight`.
+fn assign(kind: &str, modes: usize, count: usize, shape: Shape) {
+    let mut random = Random::new(1);
+    let terms = terms(&mut random, modes, count, shape);
+    let tree = any_tree(&mut random, modes);
+    let numbers = flat(&terms);
+    let lent = || (vec![0; numbers.len()], vec![0; 3 * modes]);
+    compare(
+        &format!("assign, {modes} modes, {count} terms, {kind}"),
+        || {
+            let (mut work, mut table) = lent();
+            proved::assign(modes, &tree, 0, &numbers, &mut work, &mut table)[2]
+        },
+        || oracle::assign(modes, &tree, 0, &terms).1 as u64,
+        || {
+            let (mut work, mut table) = lent();
+            let weight = plain::assign(modes, &tree, 0, &numbers, &mut work, &mut table);
+            weight.expect("tree and terms are good")
+        },
+    );
+}
+
 fn main() {
-    for (modes, count) in [(16, 512), (64, 2048)] {
-        compare("chemistry", modes, count, Shape::Chemistry);
-        compare("mixed", modes, count, Shape::Mixed);
+    for (kind, shape) in [("chemistry", Shape::Chemistry), ("mixed", Shape::Mixed)] {
+        hatt(kind, 16, 512, shape);
+        hatt(kind, 64, 2048, shape);
+        assign(kind, 32, 512, shape);
+        assign(kind, 64, 2048, shape);
     }
 }

@@ -1,6 +1,5 @@
 //! The plain program's calls with marked slices: what a call must leave alone is looked over after every one, and every call is made of the proved library too, with the same slices.
 
-use crate::proved;
 use crate::tally::equal;
 use plain::{Done, Refusal};
 

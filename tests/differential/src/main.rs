@@ -6,7 +6,6 @@ mod cuts;
 mod damage;
 mod invariants;
 mod judge;
-mod proved;
 mod refused;
 mod rust;
 mod tally;

@@ -1,43 +1,10 @@
 //! The two judges' answers as six numbers: refusal, place and zero of the check; refusal, place and weight of the tree weight.
 
-extern "C" {
-    fn bench_check_tree(
-        modes: usize,
-        tree: *const u16,
-        codes: usize,
-        answer: *mut u64,
-        room: usize,
-    );
-    fn bench_tree_weight(
-        modes: usize,
-        tree: *const u16,
-        codes: usize,
-        terms: *const u16,
-        numbers: usize,
-        answer: *mut u64,
-        room: usize,
-    );
-}
-
 /// The proved library's.
 pub fn ours(modes: usize, tree: &[u16], terms: &[u16]) -> [u64; 6] {
-    // Numbers that no call answers, so that one that was not written shows.
-    let mut answer = [u64::MAX; 6];
-    let (check, weight) = answer.split_at_mut(3);
-    // The library reads what it is lent and writes the three numbers of the answer.
-    unsafe {
-        bench_check_tree(modes, tree.as_ptr(), tree.len(), check.as_mut_ptr(), 3);
-        bench_tree_weight(
-            modes,
-            tree.as_ptr(),
-            tree.len(),
-            terms.as_ptr(),
-            terms.len(),
-            weight.as_mut_ptr(),
-            3,
-        );
-    }
-    answer
+    let [number, place, zero] = proved::check_tree(modes, tree);
+    let [weight_number, weight_place, weight] = proved::tree_weight(modes, tree, terms);
+    [number, place, zero, weight_number, weight_place, weight]
 }
 
 /// The plain program's.

@@ -1,4 +1,4 @@
-//! The proved library's calls `resume` and `assign`.
+//! The proved library's calls, as crate `bench` exports them.
 
 extern "C" {
     fn bench_resume(
@@ -30,6 +30,22 @@ extern "C" {
         answer: *mut u64,
         answer_room: usize,
     );
+    fn bench_check_tree(
+        modes: usize,
+        tree: *const u16,
+        codes: usize,
+        answer: *mut u64,
+        answer_room: usize,
+    );
+    fn bench_tree_weight(
+        modes: usize,
+        tree: *const u16,
+        codes: usize,
+        terms: *const u16,
+        numbers: usize,
+        answer: *mut u64,
+        answer_room: usize,
+    );
 }
 
 /// Resumes in the lent slices and returns six numbers: refusal, place, weight, trials, kept and new bytes.
@@ -41,7 +57,7 @@ pub fn resume(
     rows: &mut [u16],
     journal: &mut [u8],
 ) -> [u64; 6] {
-    let mut answer = [0; 6];
+    let mut answer = [u64::MAX; 6];
     // The library reads terms and journal, and writes the four slices within their lengths.
     unsafe {
         bench_resume(
@@ -72,7 +88,7 @@ pub fn assign(
     work: &mut [u16],
     table: &mut [u16],
 ) -> [u64; 3] {
-    let mut answer = [0; 3];
+    let mut answer = [u64::MAX; 3];
     // The library reads tree and terms, and writes the three slices within their lengths.
     unsafe {
         bench_assign(
@@ -86,6 +102,41 @@ pub fn assign(
             work.len(),
             table.as_mut_ptr(),
             table.len(),
+            answer.as_mut_ptr(),
+            answer.len(),
+        );
+    }
+    answer
+}
+
+/// Checks the tree and returns three numbers: refusal, place, zero.
+pub fn check_tree(modes: usize, tree: &[u16]) -> [u64; 3] {
+    // Numbers that no call answers, so that one that was not written shows.
+    let mut answer = [u64::MAX; 3];
+    // The library reads the tree and writes the three numbers.
+    unsafe {
+        bench_check_tree(
+            modes,
+            tree.as_ptr(),
+            tree.len(),
+            answer.as_mut_ptr(),
+            answer.len(),
+        );
+    }
+    answer
+}
+
+/// Weighs the terms in the tree and returns three numbers: refusal, place, weight.
+pub fn tree_weight(modes: usize, tree: &[u16], terms: &[u16]) -> [u64; 3] {
+    let mut answer = [u64::MAX; 3];
+    // The library reads tree and terms and writes the three numbers.
+    unsafe {
+        bench_tree_weight(
+            modes,
+            tree.as_ptr(),
+            tree.len(),
+            terms.as_ptr(),
+            terms.len(),
             answer.as_mut_ptr(),
             answer.len(),
         );
