@@ -1,3 +1,4 @@
 -- What document 01 says of the program's text: what it reads, and what it prints.
 pub mod Input
 pub mod Output
+pub mod Printing

@@ -1,1 +1,2 @@
 // The program's text: its input read and its answer printed, from bytes to bytes.
+pub mod output;

@@ -1,0 +1,162 @@
+-- Parts written one behind the other as the lines that are printed.
+use mathlib.Core.Path.{_≡_, refl, ap, _∙_, sym}
+use mathlib.Core.List.{List, [], _∷_, _++_, map, flatMap, append-assoc, append-nil}
+use Prim.Native.Nat.{ℕ, zero, suc, _+_, _-_, _*_, _/_, _<_, _≤_}
+use native.Mathlib.Omega.{arith}
+use borrow.Author.Tests.{eq-eqb, ne-eqb}
+use lib.ListN.{length, getD, take, drop, length-append}
+use Rattle.lists.specs.Written.{written-at}
+use Rattle.lists.proofs.Written.{length-written, part-written}
+use Rattle.lists.proofs.Behind.{written-behind, nothing-written}
+use Rattle.refusal.specs.declared.Refusal.{Refusal}
+use Rattle.refusal.specs.Numbers.{numberOf, placeOf}
+use Rattle.terms.specs.Rows.{rows-of}
+use Rattle.terms.proofs.RowSteps.{rows-more}
+use Rattle.journal.specs.Fields.{tabbed}
+use Rattle.text.specs.Output.{numeral, line-of, weight-word, trials-word, node-word, refused-word, code-text, node-line, node-lines, refusal-text}
+use Rattle.text.specs.Printing.{done-text}
+
+-- A part was written at a place, and this is the place after it.
+pub record Wrote (at : ℕ) (part before after : List ℕ) (end : ℕ) : Type 0 where
+  pub behind : end ≡ at + length part
+  pub written : after ≡ written-at at part before
+
+pub wrote-none : (at : ℕ) (before : List ℕ) → Wrote at [] before before at
+wrote-none at before = record { behind = omega arith; written = sym (nothing-written at before) }
+
+module _ {at middle end : ℕ} {p q before between after : List ℕ} where
+  -- One part behind the other.
+  pub then-wrote : Wrote at p before between middle → Wrote middle q between after end → middle ≤ length before → Wrote at (p ++ q) before after end
+  then-wrote a b room =
+      record {
+        behind = omega (arith, a .behind, b .behind, length-append p q);
+        written =
+            b .written
+            ∙ ap (written-at middle q) (a .written)
+            ∙ ap (λ n. written-at n q (written-at at p before)) (a .behind)
+            ∙ written-behind at p q before (omega (arith, a .behind));
+      }
+
+-- A field and the byte behind it.
+pub field-wrote : (field : List ℕ) (mark : ℕ) {at end : ℕ} {before after : List ℕ} → end ≡ at + (length field + 1)
+    → after ≡ written-at at (field ++ (mark ∷ [])) before → Wrote at (field ++ (mark ∷ [])) before after end
+field-wrote field mark e w = record { behind = omega (arith, e, length-append field (mark ∷ [])); written = w }
+
+-- What was written over the front stands there.
+pub wrote-front : (part before after : List ℕ) (end : ℕ) → Wrote 0 part before after end → end ≤ length before → take end after ≡ part
+wrote-front part before after end w room =
+    let e : end ≡ length part = omega (arith, w .behind) in
+    rw (w .written, e) (part-written 0 part before (omega arith))
+
+-- A code is `-` or its number.
+pub code-absent : (code : ℕ) → code ≡ 65535 → code-text code ≡ 45 ∷ []
+unfolding code-text
+code-absent code e = rw (eq-eqb code 65535 e)
+
+pub code-number : (code : ℕ) → (code ≡ 65535 → ⊥) → code-text code ≡ numeral code
+unfolding code-text
+code-number code e = rw (ne-eqb code 65535 e)
+
+four : (row : List ℕ) → length row ≡ 4 → row ≡ getD row 0 0 ∷ (getD row 1 0 ∷ (getD row 2 0 ∷ (getD row 3 0 ∷ [])))
+four [] e = absurd (omega arith)
+four (a ∷ []) e = absurd (omega arith)
+four (a ∷ (b ∷ [])) e = absurd (omega arith)
+four (a ∷ (b ∷ (c ∷ []))) e = absurd (omega arith)
+four (a ∷ (b ∷ (c ∷ (d ∷ [])))) e = refl
+four (a ∷ (b ∷ (c ∷ (d ∷ (f ∷ rest))))) e = absurd (omega arith)
+
+-- A row's line is its word and four codes, each with the byte behind it.
+parts-joined : (word a b c d : List ℕ)
+    → (((((word ++ (9 ∷ [])) ++ (a ++ (9 ∷ []))) ++ (b ++ (9 ∷ []))) ++ (c ++ (9 ∷ []))) ++ (d ++ (10 ∷ [])))
+    ≡ line-of (word ∷ (a ∷ (b ∷ (c ∷ (d ∷ [])))))
+unfolding line-of tabbed
+parts-joined word a b c d = simp append-assoc
+
+pub node-parts : (row : List ℕ) → length row ≡ 4
+    → (((((node-word ++ (9 ∷ [])) ++ (code-text (getD row 0 0) ++ (9 ∷ []))) ++ (code-text (getD row 1 0) ++ (9 ∷ [])))
+    ++ (code-text (getD row 2 0) ++ (9 ∷ [])))
+    ++ (code-text (getD row 3 0) ++ (10 ∷ [])))
+    ≡ node-line row
+unfolding node-line
+node-parts row e =
+    parts-joined node-word (code-text (getD row 0 0)) (code-text (getD row 1 0)) (code-text (getD row 2 0)) (code-text (getD row 3 0))
+    ∙ ap (λ l. line-of (node-word ∷ map code-text l)) (sym (four row e))
+
+-- A refusal's line: its word, number and place.
+pub refusal-parts : (refusal : Refusal)
+    → (((refused-word ++ (9 ∷ [])) ++ (numeral (numberOf refusal) ++ (9 ∷ []))) ++ (numeral (placeOf refusal) ++ (10 ∷ []))) ≡ refusal-text refusal
+unfolding refusal-text line-of tabbed
+refusal-parts refusal = simp append-assoc
+
+-- What a run prints: two lines of one number each, and the lines of its rows.
+pub done-parts : (weight trials : ℕ) (rows : List ℕ)
+    → ((((weight-word ++ (9 ∷ [])) ++ (numeral weight ++ (10 ∷ []))) ++ ((trials-word ++ (9 ∷ [])) ++ (numeral trials ++ (10 ∷ [])))) ++ node-lines rows)
+    ≡ done-text weight trials rows
+unfolding done-text line-of tabbed
+done-parts weight trials rows = simp append-assoc
+
+flat-more : (l : List (List ℕ)) (row : List ℕ) → flatMap node-line (l ++ (row ∷ [])) ≡ flatMap node-line l ++ node-line row
+unfolding flatMap
+flat-more [] row = append-nil (node-line row)
+flat-more (a ∷ l) row = ap (λ rest. node-line a ++ rest) (flat-more l row) ∙ sym (append-assoc (node-line a) (flatMap node-line l) (node-line row))
+
+-- The lines of so many rows are written.
+pub record PuttingRows (start count : ℕ) (rows before after : List ℕ) (at done : ℕ) : Type 0 where
+  pub some : done ≤ count
+  pub near : at ≤ start + 29 * done
+  pub size : length after ≡ length before
+  pub wrote : Wrote start (flatMap node-line (rows-of 4 done rows)) before after at
+
+module _ (start : ℕ) (rows before : List ℕ) (room : start + 29 * (length rows / 4) ≤ length before) where
+  pub rows-start : PuttingRows start (length rows / 4) rows before before start 0
+  unfolding rows-of flatMap
+  rows-start = record { some = omega arith; near = omega arith; size = refl; wrote = wrote-none start before }
+
+  module _ (after : List ℕ) (at done : ℕ) (p : PuttingRows start (length rows / 4) rows before after at done) where
+    pub rows-go : (next : List ℕ) (end : ℕ) → done < length rows / 4
+        → Wrote at (node-line (take (4 * done + 4 - 4 * done) (drop (4 * done) rows))) after next end → end ≤ at + 29 → length next ≡ length after
+        → PuttingRows start (length rows / 4) rows before next end (done + 1)
+    rows-go next end h w near same =
+        let all : flatMap node-line (rows-of 4 (done + 1) rows) ≡ flatMap node-line (rows-of 4 done rows) ++ node-line (take 4 (drop (4 * done) rows)) =
+        ap (flatMap node-line) (rows-more 4 done rows) ∙ flat-more (rows-of 4 done rows) (take 4 (drop (4 * done) rows)) in
+        let width : 4 * done + 4 - 4 * done ≡ 4 = omega arith in
+        record {
+          some = omega arith;
+          near = omega (arith, p .near);
+          size = same ∙ p .size;
+          wrote = rw all (then-wrote (p .wrote) (rw width at w) (omega (arith, p .near)));
+        }
+
+    pub rows-end : length rows / 4 ≤ done → Wrote start (node-lines rows) before after at
+    unfolding node-lines
+    rows-end h =
+        let e : length rows / 4 ≡ done = omega (arith, p .some) in
+        rw e (p .wrote)
+
+-- A row's line, part by part.
+module _ (row before : List ℕ) (at : ℕ) (size : length row ≡ 4) (room : at + 29 ≤ length before) where
+  pub node-wrote : {s1 s2 s3 s4 s5 : List ℕ} {e1 e2 e3 e4 e5 : ℕ} → Wrote at (node-word ++ (9 ∷ [])) before s1 e1
+      → Wrote e1 (code-text (getD row 0 0) ++ (9 ∷ [])) s1 s2 e2 → Wrote e2 (code-text (getD row 1 0) ++ (9 ∷ [])) s2 s3 e3
+      → Wrote e3 (code-text (getD row 2 0) ++ (9 ∷ [])) s3 s4 e4 → Wrote e4 (code-text (getD row 3 0) ++ (10 ∷ [])) s4 s5 e5
+      → e5 ≤ at + 29 → Wrote at (node-line row) before s5 e5
+  node-wrote a b c d e h =
+      rw (← node-parts row size)
+      (then-wrote (then-wrote (then-wrote (then-wrote a b (omega (arith, b .behind, c .behind, d .behind, e .behind))) c (omega (arith, c .behind, d .behind, e .behind))) d (omega (arith, d .behind, e .behind))) e (omega (arith, e .behind)))
+
+-- A refusal's line, part by part.
+pub refusal-wrote : (refusal : Refusal) (number place : ℕ) → number ≡ numberOf refusal → place ≡ placeOf refusal
+    → (before : List ℕ) → 50 ≤ length before → {s1 s2 s3 : List ℕ} {e1 e2 e3 : ℕ}
+    → Wrote 0 (refused-word ++ (9 ∷ [])) before s1 e1 → Wrote e1 (numeral number ++ (9 ∷ [])) s1 s2 e2
+    → Wrote e2 (numeral place ++ (10 ∷ [])) s2 s3 e3 → e3 ≤ 50 → Wrote 0 (refusal-text refusal) before s3 e3
+refusal-wrote refusal number place n p before room a b c h =
+    let parts : (((refused-word ++ (9 ∷ [])) ++ (numeral number ++ (9 ∷ []))) ++ (numeral place ++ (10 ∷ []))) ≡ refusal-text refusal =
+    rw (n, p) (refusal-parts refusal) in
+    rw (← parts) (then-wrote (then-wrote a b (omega (arith, b .behind, c .behind))) c (omega (arith, c .behind)))
+
+-- What a run prints, part by part.
+pub done-wrote : (weight trials : ℕ) (rows before : List ℕ) → {s1 s2 s3 : List ℕ} {e1 e2 e3 : ℕ}
+    → Wrote 0 ((weight-word ++ (9 ∷ [])) ++ (numeral weight ++ (10 ∷ []))) before s1 e1
+    → Wrote e1 ((trials-word ++ (9 ∷ [])) ++ (numeral trials ++ (10 ∷ []))) s1 s2 e2
+    → Wrote e2 (node-lines rows) s2 s3 e3 → e2 ≤ length before → Wrote 0 (done-text weight trials rows) before s3 e3
+done-wrote weight trials rows before a b c h =
+    rw (← done-parts weight trials rows) (then-wrote (then-wrote a b (omega (arith, b .behind))) c h)
