@@ -11,7 +11,7 @@ pub enum Header {
 }
 
 // The two parts are the same.
-fn same_bytes(a: &[u8], b: &[u8]) -> bool
+pub fn same_bytes(a: &[u8], b: &[u8]) -> bool
     ensures { λ r. ⌜ r ≡ alike (now (a .entry)) (now (b .entry)) ⌝ }
 {
     if a.len() != b.len() {

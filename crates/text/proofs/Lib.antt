@@ -3,3 +3,7 @@ pub mod Examples
 pub mod Numerals
 pub mod Written
 pub mod PrintedLines
+pub mod FieldsCounted
+pub mod LineWords
+pub mod TermsAhead
+pub mod InputSaid

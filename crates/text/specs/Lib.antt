@@ -2,3 +2,4 @@
 pub mod Input
 pub mod Output
 pub mod Printing
+pub mod Reading

@@ -1,0 +1,67 @@
+-- What the code that reads a text tells of it, part by part.
+use mathlib.Core.Path.{_≡_}
+use mathlib.Core.Bool.{Bool, true, cond, _&&_}
+use mathlib.Core.List.{List, [], _∷_, _++_, map, flatMap}
+use Prim.Native.Nat.{ℕ, _-_, _*_, _≤_}
+use lib.Dec.{eqb}
+use lib.ListN.{length, getD, take, replicate}
+use Rattle.lists.specs.Written.{written-at}
+use Rattle.journal.specs.Decimal.{value}
+use Rattle.journal.specs.Lines.{lines, kept-of}
+use Rattle.journal.specs.Fields.{fields}
+use Rattle.journal.specs.Reading.{numbers-good}
+use Rattle.text.specs.declared.input.Modes.{Modes}
+use Rattle.text.specs.declared.input.Modes.the-variants.{Are, Broken}
+use Rattle.text.specs.declared.input.Said.{Said}
+use Rattle.text.specs.declared.input.Said.the-variants.{Given, Malformed}
+use Rattle.text.specs.declared.input.Terms.{Terms}
+use Rattle.text.specs.Input.{modes-line, term-line, formed-from, term-row, given, malformed, Said as Meant}
+
+-- 1 for a tab, 0 for any other byte.
+unfoldable pub tab-in : ℕ → ℕ
+tab-in byte = cond (eqb byte 9) 1 0
+
+-- The first line's number, where it says one.
+unfoldable pub modes-said : List ℕ → Modes
+modes-said line = cond (modes-line (fields line)) (Are (value (getD (fields line) 1 []))) Broken
+
+-- Fields read as so many indices: whether they are that, and if so that the row says them.
+pub record IndicesRead (parts : List (List ℕ)) (count : ℕ) (after : List ℕ) (r : Bool) : Type 0 where
+  pub good : r ≡ numbers-good count parts
+  pub row : r ≡ true → after ≡ count ∷ (map value parts ++ replicate (7 - count) 0)
+
+-- A line read as a term, into a row.
+pub record TermRead (line after : List ℕ) (r : Bool) : Type 0 where
+  pub good : r ≡ term-line (fields line)
+  pub row : r ≡ true → after ≡ term-row line
+
+-- The same, into a place among many rows.
+pub record TermPut (line : List ℕ) (place : ℕ) (before after : List ℕ) (r : Bool) : Type 0 where
+  pub good : r ≡ term-line (fields line)
+  pub row : r ≡ true → after ≡ written-at place (term-row line) before
+
+-- The lines behind the first are all terms, at most so many, and nothing stands behind them.
+unfoldable pub all-terms : ℕ → List ℕ → Bool
+all-terms most text = eqb (formed-from most 1 (lines text)) (length (lines text)) && eqb (length (kept-of text)) (length text)
+
+-- The lines behind the first read as terms: how many are before the first that isn't, whether they are all, and if so their rows.
+pub record TermsRead (most : ℕ) (text numbers : List ℕ) (r : Terms) : Type 0 where
+  pub formed : r .count ≡ formed-from most 1 (lines text)
+  pub few : r .count ≤ most
+  pub whole : r .all ≡ all-terms most text
+  pub rows : r .all ≡ true → take (8 * r .count) numbers ≡ flatMap term-row (lines text)
+
+-- What the answer and the numbers' front say.
+unfoldable pub meant-by : Said → List ℕ → Meant
+meant-by (Given modes count) numbers = given modes (take (8 * count) numbers)
+meant-by (Malformed line) numbers = malformed line
+
+-- How many terms an answer gives.
+unfoldable pub terms-given : Said → ℕ
+terms-given (Given modes count) = count
+terms-given (Malformed line) = 0
+
+-- A text read: the answer says what the text says, of so many terms at most.
+pub record Reads (most : ℕ) (meant : Meant) (numbers : List ℕ) (r : Said) : Type 0 where
+  pub says : meant-by r numbers ≡ meant
+  pub few : terms-given r ≤ most
