@@ -18,6 +18,9 @@ use Rattle.text.specs.declared.input.Said.{Said}
 use Rattle.text.specs.declared.input.Said.the-variants.{Given, Malformed}
 use Rattle.text.specs.declared.input.Terms.{Terms}
 use Rattle.text.specs.Input.{modes-line, well-formed, formed-from, formed, term-row, whole, said, given, malformed}
+use Rattle.refusal.specs.declared.Refusal.the-variants.{Malformed as Badly}
+use Rattle.journal.specs.Resuming.{hatt-run}
+use Rattle.text.specs.Output.{refusal-text, printed, answered, answer-text}
 use Rattle.text.specs.Reading.{modes-said, all-terms, TermsRead, meant-by, terms-given, Reads}
 
 eqb-behind : (n a b : ℕ) → eqb (n + a) (n + b) ≡ eqb a b
@@ -136,3 +139,24 @@ module _ (most : ℕ) (text : List ℕ) (start : ℕ) (is-start : start ≡ leng
             says = rw (all-whole, f, behind, modes-read (first-line text) n (rw first-part at e) .1, t .rows f);
             few = t .few;
           }
+
+-- What is known of an answer that was read, case by case.
+module _ (most : ℕ) (text numbers : List ℕ) (r : Said) (reads : Reads most (said most text) numbers r) where
+  module _ (n count : ℕ) (e : r ≡ Given n count) where
+    pub given-few : count ≤ most
+    unfolding terms-given
+    given-few = rw e at (reads .few)
+
+    pub given-answer : (modes-most work rows journal : ℕ)
+        → printed (hatt-run modes-most n (take (8 * count) numbers) work rows journal) ≡ answer-text modes-most most work rows journal text
+    unfolding answer-text answered meant-by
+    given-answer modes-most work rows journal =
+        let says : given n (take (8 * count) numbers) ≡ said most text = rw e at (reads .says) in
+        rw (← says)
+
+  pub malformed-answer : (line : ℕ) → r ≡ Malformed line → (modes-most work rows journal : ℕ)
+      → refusal-text (Badly line) ≡ answer-text modes-most most work rows journal text
+  unfolding answer-text answered meant-by
+  malformed-answer line e modes-most work rows journal =
+      let says : malformed line ≡ said most text = rw e at (reads .says) in
+      rw (← says)

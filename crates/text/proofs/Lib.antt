@@ -7,3 +7,4 @@ pub mod FieldsCounted
 pub mod LineWords
 pub mod TermsAhead
 pub mod InputSaid
+pub mod Answered

@@ -43,10 +43,8 @@ pub field-wrote : (field : List ℕ) (mark : ℕ) {at end : ℕ} {before after :
 field-wrote field mark e w = record { behind = omega (arith, e, length-append field (mark ∷ [])); written = w }
 
 -- What was written over the front stands there.
-pub wrote-front : (part before after : List ℕ) (end : ℕ) → Wrote 0 part before after end → end ≤ length before → take end after ≡ part
-wrote-front part before after end w room =
-    let e : end ≡ length part = omega (arith, w .behind) in
-    rw (w .written, e) (part-written 0 part before (omega arith))
+pub front-is : (part before after : List ℕ) (end : ℕ) → end ≡ length part → after ≡ written-at 0 part before → end ≤ length before → take end after ≡ part
+front-is part before after end e w room = rw (w, e) (part-written 0 part before (omega arith))
 
 -- A code is `-` or its number.
 pub code-absent : (code : ℕ) → code ≡ 65535 → code-text code ≡ 45 ∷ []

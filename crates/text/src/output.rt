@@ -101,7 +101,7 @@ fn put_node(out: &mut [u8], at: usize, row: &[u16]) -> usize
 // The lines of rows of four written at this place; the place after them.
 fn put_nodes(out: &mut [u8], start: usize, rows: &[u16]) -> usize
     requires { ⌜ start + 29 * (length (now rows) / 4) ≤ length (now out) ⌝ }
-    ensures { λ r. ⌜ r ≡ start + length (node-lines (now (rows .entry))) ⌝ }
+    ensures { λ r. ⌜ (r ≡ start + length (node-lines (now (rows .entry)))) × (r ≤ start + 29 * (length (now (rows .entry)) / 4)) ⌝ }
     ensures { λ r. ⌜ now (out .exit) ≡ written-at start (node-lines (now (rows .entry))) (now (out .entry)) ⌝ }
 {
     let count = rows.len() / 4;
@@ -142,7 +142,7 @@ pub fn put_refusal(out: &mut [u8], refusal: Refusal) -> usize
 // What a run came to written over the front; how many bytes that is.
 pub fn put_done(out: &mut [u8], weight: u64, trials: u64, rows: &[u16]) -> usize
     requires { ⌜ 56 + 29 * (length (now rows) / 4) ≤ length (now out) ⌝ }
-    ensures { λ r. ⌜ r ≡ length (done-text weight trials (now (rows .entry))) ⌝ }
+    ensures { λ r. ⌜ (r ≡ length (done-text weight trials (now (rows .entry)))) × (r ≤ 56 + 29 * (length (now (rows .entry)) / 4)) ⌝ }
     ensures { λ r. ⌜ now (out .exit) ≡ written-at 0 (done-text weight trials (now (rows .entry))) (now (out .entry)) ⌝ }
 {
     let first = put_value(out, 0, b"weight\t", weight);

@@ -33,8 +33,8 @@ returns c =
     let third = c .before .before .put-nodes .ensures in
     let all = done-wrote (start .args .weight) (start .args .trials) (start .args .rows .now) (start .args .out .now)
     (record { behind = first .0 .0; written = first .1 }) (record { behind = second .0 .0; written = second .1 })
-    (record { behind = third .0; written = third .1 }) (omega arith) in
-    (omega (arith, all .behind), all .written)
+    (record { behind = third .0 .0; written = third .1 }) (omega arith) in
+    ((omega (arith, all .behind), omega arith), all .written)
 
 pub put-done-spec : {M : Type 1} → statement M
 put-done-spec =

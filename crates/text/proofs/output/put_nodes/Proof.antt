@@ -61,7 +61,7 @@ returns c =
     let start = c .before .before .before .before in
     let here = c .before in
     let all = rows-end (start .args .start) (start .args .rows .now) (start .args .out .now) (start .pre) _ _ _ (here .loop .inv) (omega arith) in
-    (all .behind, all .written)
+    ((all .behind, omega (arith, here .loop .inv .near, here .loop .inv .some)), all .written)
 
 pub put-nodes-spec : {M : Type 1} → statement M
 put-nodes-spec =
