@@ -76,7 +76,8 @@ fn put_answer(input: &[u8], out: &mut [u8]) -> usize
 
 // The program's answer to a text.
 pub fn answer(input: &[u8]) -> Printed
-    ensures { λ r. ⌜ (take (r .count) (r .bytes) ≡ answer-text 256 2048 16384 1024 5392 (now (input .entry))) × (r .count ≤ 8192) ⌝ }
+    ensures { λ r. ⌜ take (r .count) (r .bytes) ≡ answer-text 256 2048 16384 1024 5392 (now (input .entry)) ⌝ }
+    ensures { λ r. ⌜ (r .count ≤ 8192) × (length (r .bytes) ≡ 8192) ⌝ }
 {
     let mut bytes = [0u8; 8192];
     let count = put_answer(input, &mut bytes);
