@@ -8,3 +8,4 @@ pub mod LineWords
 pub mod TermsAhead
 pub mod InputSaid
 pub mod Answered
+pub mod LongInput
