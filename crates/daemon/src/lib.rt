@@ -1,1 +1,38 @@
 // The calls of the queue daemon, which is C: numbers and slices of bytes.
+ghost use lib.ListN.{length};
+ghost use Rattle.daemon.specs.Calls.{«resume-called», «hatt-called»};
+ghost use Rattle.daemon.specs.Promises.{Called};
+
+mod answering;
+mod calling;
+mod term_bytes;
+mod words;
+
+// An unbroken run: resuming from an empty journal.
+#[no_mangle]
+pub extern "C" fn dewgoblin_hatt(
+    modes: u64,
+    terms: &[u8],
+    rows: &mut [u8],
+    journal: &mut [u8],
+    answer: &mut [u8],
+) -> u64
+    ensures { λ r. ⌜ Called (hatt-called 256 16384 1024 modes (now (terms .entry)) (length (now (rows .entry))) (length (now (journal .entry))) (length (now (answer .entry)))) (now (rows .entry)) (now (journal .entry)) (now (answer .entry)) (now (rows .exit)) (now (journal .exit)) (now (answer .exit)) r ⌝ }
+{
+    calling::resume_bytes(modes, terms, b"", rows, journal, answer)
+}
+
+// The run that a journal leads to, from its last complete line to the end.
+#[no_mangle]
+pub extern "C" fn dewgoblin_resume(
+    modes: u64,
+    terms: &[u8],
+    read: &[u8],
+    rows: &mut [u8],
+    journal: &mut [u8],
+    answer: &mut [u8],
+) -> u64
+    ensures { λ r. ⌜ Called (resume-called 256 16384 1024 modes (now (terms .entry)) (now (read .entry)) (length (now (rows .entry))) (length (now (journal .entry))) (length (now (answer .entry)))) (now (rows .entry)) (now (journal .entry)) (now (answer .entry)) (now (rows .exit)) (now (journal .exit)) (now (answer .exit)) r ⌝ }
+{
+    calling::resume_bytes(modes, terms, read, rows, journal, answer)
+}

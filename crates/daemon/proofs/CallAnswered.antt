@@ -1,0 +1,138 @@
+-- A call from C answers what resuming comes to: nothing is written where it refuses, and all that is known where it is done.
+use mathlib.Core.Path.{_≡_, refl, ap, _∙_, sym}
+use mathlib.Core.Bool.{Bool, true, false, cond, _&&_}
+use mathlib.Core.List.{List, [], _∷_, _++_}
+use Prim.Native.Nat.{ℕ, _+_, _*_, _/_, _<_, _≤_, min}
+use native.Mathlib.Omega.{arith}
+use borrow.Author.Tests.{leb-true}
+use lib.Dec.{leb}
+use lib.ListN.{length, take}
+use lib.Seq.{length-take-le}
+use Rattle.lists.specs.Written.{written-at}
+use Rattle.lists.proofs.Tests.{both}
+use Rattle.lists.proofs.Written.{part-written}
+use Rattle.refusal.specs.declared.Refusal.{Refusal}
+use Rattle.refusal.specs.Numbers.{numberOf, placeOf}
+use Rattle.terms.specs.Rows.{terms-of}
+use Rattle.terms.specs.Good.{modes-good}
+use Rattle.merging.specs.Run.{finished}
+use Rattle.merging.specs.Flatpack.{flatpack}
+use Rattle.merging.proofs.RunLawful.{finished-lawful, finished-length}
+use Rattle.merging.proofs.FlatpackRows.{length-flatpack}
+use Rattle.journal.specs.declared.resuming.Numbers.{Numbers}
+use Rattle.journal.specs.declared.resuming.Answer.{Answer}
+use Rattle.journal.specs.declared.resuming.Answer.the-variants.{Done, Refused}
+use Rattle.journal.specs.Resuming.{Ending, Outcome, done, refuses, ending, roomy, resumed}
+use Rattle.journal.specs.Promises.{Answers, returned, rows-then, journal-then}
+use Rattle.journal.proofs.Obedience.{obedient}
+use Rattle.journal.proofs.CallDone.{CallDone, call-done}
+use Rattle.daemon.specs.Bytes.{two-bytes, eight-bytes}
+use Rattle.daemon.specs.Calls.{room-of, resume-called}
+use Rattle.daemon.specs.Reading.{TermsRead}
+use Rattle.daemon.specs.Promises.{Called, result-of, answer-bytes, rows-bytes-then, answer-then}
+
+-- What the answer says of the meaning.
+pub refused-meant : (meant : Outcome) (why : Refusal) (r : Answer) → r ≡ returned meant → r ≡ Refused why → meant ≡ refuses why
+unfolding returned
+refused-meant (done part) why r e f = let z : _≡_ {A = ℕ} 0 1 = cc in absurd (omega arith)
+refused-meant (refuses refusal) why r e f = cc
+
+-- A call that was done, and its four numbers.
+pub record Finished (meant : Outcome) (numbers : Numbers) : Type 0 where
+  pub part : Ending
+  pub is : meant ≡ done part
+  pub weight : numbers .weight ≡ part .weight
+  pub trials : numbers .trials ≡ part .trials
+  pub kept : numbers .kept ≡ part .kept
+  pub new : numbers .new ≡ length (part .new)
+
+pub done-meant : (meant : Outcome) (numbers : Numbers) (r : Answer) → r ≡ returned meant → r ≡ Done numbers → Finished meant numbers
+unfolding returned
+done-meant (done part) numbers r e f = record { part = part; is = refl; weight = cc; trials = cc; kept = cc; new = cc }
+done-meant (refuses refusal) numbers r e f = let z : _≡_ {A = ℕ} 0 1 = cc in absurd (omega arith)
+
+-- What is known of the rows of a run that is done: four numbers a mode, and there was room for them.
+pub record RowsFit (modes rows : ℕ) (part : Ending) : Type 0 where
+  pub some-modes : 1 ≤ modes
+  pub room : 4 * modes ≤ rows
+  pub exact : length (part .rows) ≡ 4 * modes
+
+module _ (modes : ℕ) (numbers bytes : List ℕ) (work rows journal : ℕ) where
+  pub rows-fit : (part : Ending) → resumed 256 modes numbers bytes work rows journal ≡ done part → RowsFit modes rows part
+  unfolding modes-good roomy ending
+  rows-fit part says =
+      let known = call-done 256 modes numbers bytes work rows journal part says in
+      let count = known .count in
+      let terms = terms-of 8 count numbers in
+      let history = known .history in
+      let m = both (leb 1 modes) (leb modes 256) (known .modes-are) in
+      let few = leb-true modes 256 (m .1) in
+      let some = leb-true 1 modes (m .0) in
+      let r = both (leb (8 * count) work) (leb (4 * modes) rows && leb (16 + 21 * modes) journal) (known .rooms-are) in
+      let obeys = obedient modes count terms bytes history (known .obeys) in
+      let lawful = finished-lawful modes terms history (obeys .lawful) (obeys .within) in
+      let all = finished-length modes terms history (obeys .lawful) (obeys .within) in
+      record {
+        some-modes = some;
+        room = leb-true (4 * modes) rows (both (leb (4 * modes) rows) (leb (16 + 21 * modes) journal) (r .1) .0);
+        exact =
+            ap (λ e. length (e .rows)) (known .ends)
+            ∙ length-flatpack modes (finished modes terms history) lawful all some (omega (arith, few));
+      }
+
+module _ (meant : Outcome) (rows journal answer now-journal : List ℕ) (journal-is : now-journal ≡ journal-then meant journal) where
+  pub called-refused : (why : Refusal) (r : ℕ) → meant ≡ refuses why → r ≡ numberOf why * 65536 + placeOf why
+      → Called meant rows journal answer rows now-journal answer r
+  unfolding result-of rows-bytes-then answer-then
+  called-refused why r e f = record { result = rw e f; rows-are = rw e; journal-is = journal-is; answer-is = rw e }
+
+  pub called-done : (numbers : Numbers) (modes : ℕ) (own now-own now-rows now-answer : List ℕ) (finish : Finished meant numbers)
+      → RowsFit modes (length own) (finish .part) → now-own ≡ rows-then meant own
+      → now-rows ≡ written-at 0 (two-bytes (take (4 * modes) now-own)) rows
+      → now-answer ≡ written-at 0 (eight-bytes (numbers .weight) ++ (eight-bytes (numbers .trials) ++ (eight-bytes (numbers .kept) ++ eight-bytes (numbers .new)))) answer
+      → Called meant rows journal answer now-rows now-journal now-answer 0
+  unfolding result-of rows-bytes-then answer-then answer-bytes rows-then
+  called-done numbers modes own now-own now-rows now-answer finish fit own-is rows-is answer-is =
+      let part = finish .part in
+      let e = finish .is in
+      let exact = fit .exact in
+      let written : now-own ≡ written-at 0 (part .rows) own = rw e at own-is in
+      let front : take (4 * modes) now-own ≡ part .rows =
+      ap (λ l. take (4 * modes) l) written ∙ ap (λ n. take n (written-at 0 (part .rows) own)) (sym exact)
+      ∙ part-written 0 (part .rows) own (omega (arith, exact, fit .room)) in
+      record {
+        result = rw e;
+        rows-are = rw e (rows-is ∙ ap (λ l. written-at 0 (two-bytes l) rows) front);
+        journal-is = journal-is;
+        answer-is = rw e (rw (← finish .weight, ← finish .trials, ← finish .kept, ← finish .new) answer-is);
+      }
+
+pub called-so : (meant same : Outcome) (rows journal answer now-rows now-journal now-answer : List ℕ) (r : ℕ) → meant ≡ same
+    → Called same rows journal answer now-rows now-journal now-answer r → Called meant rows journal answer now-rows now-journal now-answer r
+called-so meant same rows journal answer now-rows now-journal now-answer r e called = rw e called
+
+-- The room for rows fits into the call's own and into the lent ones, and where there is any the answer's numbers fit.
+pub record RoomFits (own rows answer room : ℕ) : Type 0 where
+  pub in-own : room ≤ own
+  pub in-rows : 2 * room ≤ rows
+  pub answered : 1 ≤ room → 32 ≤ answer
+
+pub room-fits : (own rows answer : ℕ) → RoomFits own rows answer (room-of 4 own rows answer)
+unfolding room-of
+room-fits own rows answer = go (leb 32 answer) refl
+  where
+    go : (b : Bool) → leb 32 answer ≡ b → RoomFits own rows answer (cond b (min own (rows / 2)) 0)
+    go true e = record { in-own = omega arith; in-rows = omega arith; answered = λ some. leb-true 32 answer e }
+    go false e = record { in-own = omega arith; in-rows = omega arith; answered = λ some. absurd (omega arith) }
+
+-- The parts that the call lends to resuming mean what it was given.
+pub lent-means : (modes : ℕ) (terms read numbers own : List ℕ) (count room work rows journal answer : ℕ) → TermsRead terms numbers count
+    → room ≡ room-of 4 (length own) rows answer
+    → resume-called 256 work (length own) modes terms read rows journal answer
+    ≡ resumed 256 modes (take count numbers) read work (length (take room own)) journal
+unfolding resume-called
+lent-means modes terms read numbers own count room work rows journal answer reads e =
+    let fits = room-fits (length own) rows answer in
+    let l : length (take room own) ≡ room-of 4 (length own) rows answer = length-take-le room own (omega (arith, e, fits .in-own)) ∙ e in
+    sym (reads .same 256 modes read work (room-of 4 (length own) rows answer) journal)
+    ∙ ap (λ n. resumed 256 modes (take count numbers) read work n journal) (sym l)

@@ -1,0 +1,103 @@
+// A call from C on arrays of its own: resuming between the bytes that were lent.
+ghost use mathlib.Core.Path.{_≡_};
+ghost use Prim.Native.Nat.{_*_, _≤_};
+ghost use lib.ListN.{length};
+ghost use Rattle.journal.specs.Resuming.{resumed};
+ghost use Rattle.daemon.specs.Calls.{«room-of», «resume-called»};
+ghost use Rattle.daemon.specs.Promises.{Called};
+use crate::answering;
+use crate::term_bytes;
+use journal::resuming;
+use journal::resuming::Answer;
+
+// Resuming with rows of the call's own, which fit into the lent ones; where there are any, the answer's numbers fit too.
+fn resume_numbers(
+    modes: usize,
+    terms: &[u16],
+    read: &[u8],
+    work: &mut [u16],
+    own: &mut [u16],
+    rows: &mut [u8],
+    journal: &mut [u8],
+    answer: &mut [u8],
+) -> u64
+    requires { ⌜ (2 * length (now own) ≤ length (now rows)) × (1 ≤ length (now own) → 32 ≤ length (now answer)) ⌝ }
+    ensures { λ r. ⌜ Called (resumed 256 modes (now (terms .entry)) (now (read .entry)) (length (now (work .entry))) (length (now (own .entry))) (length (now (journal .entry)))) (now (rows .entry)) (now (journal .entry)) (now (answer .entry)) (now (rows .exit)) (now (journal .exit)) (now (answer .exit)) r ⌝ }
+{
+    match resuming::resume(modes, terms, read, work, own, journal) {
+        Answer::Refused(why) => answering::refusal_result(why),
+        Answer::Done(numbers) => {
+            answering::put_done(modes, own, numbers, rows, answer);
+            0
+        }
+    }
+}
+
+// The room for rows, in numbers; none where the answer's four numbers don't fit.
+fn rows_room(own: usize, rows: usize, answer: usize) -> usize
+    ensures { λ r. ⌜ r ≡ room-of 4 own rows answer ⌝ }
+{
+    if answer < 32 {
+        return 0;
+    }
+    if rows / 2 < own {
+        return rows / 2;
+    }
+    own
+}
+
+// The terms read, and as much of the call's own rows lent as the caller's have room for, so that 5 is given in its turn.
+fn resume_lent(
+    modes: usize,
+    terms: &[u8],
+    read: &[u8],
+    numbers: &mut [u16],
+    work: &mut [u16],
+    own: &mut [u16],
+    rows: &mut [u8],
+    journal: &mut [u8],
+    answer: &mut [u8],
+) -> u64
+    requires { ⌜ length (now numbers) ≡ 16392 ⌝ }
+    ensures { λ r. ⌜ Called (resume-called 256 (length (now (work .entry))) (length (now (own .entry))) modes (now (terms .entry)) (now (read .entry)) (length (now (rows .entry))) (length (now (journal .entry))) (length (now (answer .entry)))) (now (rows .entry)) (now (journal .entry)) (now (answer .entry)) (now (rows .exit)) (now (journal .exit)) (now (answer .exit)) r ⌝ }
+{
+    let count = term_bytes::read_terms(terms, numbers);
+    let room = rows_room(own.len(), rows.len(), answer.len());
+    resume_numbers(
+        modes,
+        &numbers[..count],
+        read,
+        work,
+        &mut own[..room],
+        rows,
+        journal,
+        answer,
+    )
+}
+
+// The call's own arrays: the terms' numbers, the work and the rows.
+pub fn resume_bytes(
+    modes: u64,
+    terms: &[u8],
+    read: &[u8],
+    rows: &mut [u8],
+    journal: &mut [u8],
+    answer: &mut [u8],
+) -> u64
+    ensures { λ r. ⌜ Called (resume-called 256 16384 1024 modes (now (terms .entry)) (now (read .entry)) (length (now (rows .entry))) (length (now (journal .entry))) (length (now (answer .entry)))) (now (rows .entry)) (now (journal .entry)) (now (answer .entry)) (now (rows .exit)) (now (journal .exit)) (now (answer .exit)) r ⌝ }
+{
+    let mut numbers = [0u16; 16392];
+    let mut work = [0u16; 16384];
+    let mut own = [0u16; 1024];
+    resume_lent(
+        modes as usize,
+        terms,
+        read,
+        &mut numbers,
+        &mut work,
+        &mut own,
+        rows,
+        journal,
+        answer,
+    )
+}
