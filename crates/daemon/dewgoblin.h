@@ -1,0 +1,120 @@
+/* The calls of Dewgoblin for C: a Hamiltonian's Majorana terms to a ternary tree, with a journal that a restart reads back.
+ *
+ * Every slice is a pointer to bytes and their count. A 16-bit number is two bytes, the low byte first, on every machine;
+ * the numbers of an answer are eight bytes each, the low byte first.
+ *
+ * What the caller must keep to, for it is all that the calls cannot check:
+ *   - no pointer is NULL, not even one whose count is 0, and as many bytes as the count says may be read (or written);
+ *   - a slice that is written overlaps no other slice of the same call;
+ *   - 192 KiB of stack are free.
+ * Any other input is either taken or refused by a number. No call keeps anything from one call to the next, allocates,
+ * or reads a file, so calls may run at the same time in several threads on slices of their own.
+ *
+ * THE RESULT of each call is 0 on success. Any other result is a refusal: its number is DEWGOBLIN_NUMBER(result), and
+ * DEWGOBLIN_PLACE(result) says where. A refused call has written nothing at all. A call that succeeds writes the front of
+ * each slice that it writes, as told below; the bytes behind that front stay as they were.
+ *
+ * MODES are 1 to 256; n below.
+ *
+ * TERMS are rows of 16 bytes, at most 2048, and may be none. A row is eight numbers: how many indices (1 to 7), the indices,
+ * each below 2n and none below the one before it, then zeros.
+ *
+ * CODES. A child of a node is a number: 0 to n-1 is a node, n to 3n-1 is the leaf of that number less n, and 65535 is the
+ * one child that is absent.
+ */
+#ifndef DEWGOBLIN_H
+#define DEWGOBLIN_H
+
+#include <stddef.h>
+#include <stdint.h>
+
+#ifdef __cplusplus
+extern "C" {
+#endif
+
+/* Rooms in bytes, for n modes. */
+#define DEWGOBLIN_ROWS(n) (8 * (size_t)(n))
+#define DEWGOBLIN_JOURNAL(n) (16 + 21 * (size_t)(n))
+#define DEWGOBLIN_ANSWER 32
+#define DEWGOBLIN_TREE(n) (6 * (size_t)(n))
+#define DEWGOBLIN_TABLE(n) (6 * (size_t)(n))
+#define DEWGOBLIN_ASSIGN_ANSWER 8
+
+/* A refusal's number, and its place, which is always below 65536. */
+#define DEWGOBLIN_NUMBER(result) ((result) >> 16)
+#define DEWGOBLIN_PLACE(result) ((result) & 65535)
+
+/* The refusals; the place is 0 where none is told. */
+enum {
+    DEWGOBLIN_MODES = 1,           /* modes are 0 or above 256 */
+    DEWGOBLIN_TERM_NUMBERS = 2,    /* the terms' bytes don't come in 16s */
+    DEWGOBLIN_TOO_MANY_TERMS = 3,  /* more than 2048 rows */
+    DEWGOBLIN_BAD_ROW = 4,         /* the first bad row; its place is that row, counted from 0 */
+    DEWGOBLIN_ROOM = 5,            /* a slice that is written is below its room */
+    DEWGOBLIN_LINE_FORM = 6,       /* a journal line breaks the form; for 6 to 12 the place is the line, counted from 0 */
+    DEWGOBLIN_HEADER = 7,          /* the journal's header says other modes or another count of terms; place 0 */
+    DEWGOBLIN_STEP_NOT_NEXT = 8,   /* the line's step isn't the next one */
+    DEWGOBLIN_CHILD_NOT_OPEN = 9,  /* a child of the line isn't open */
+    DEWGOBLIN_NOT_LAWFUL = 10,     /* the line's triple isn't lawful */
+    DEWGOBLIN_WEIGHT_UNTRUE = 11,  /* the line's weight is untrue */
+    DEWGOBLIN_LINE_AFTER_LAST = 12,/* a complete line after the last merge */
+    DEWGOBLIN_TREE_LENGTH = 13,    /* the tree's bytes aren't 6n */
+    DEWGOBLIN_CHILD_CODE = 14,     /* a code neither below 3n nor 65535; the place is its index in the tree's numbers */
+    DEWGOBLIN_NOT_ONE_TREE = 15,   /* not one tree with each part once */
+    DEWGOBLIN_WRONG_PAIR = 16,     /* the least k whose leaves 2k and 2k+1 stand wrong; the place is k */
+    DEWGOBLIN_HEURISTIC = 17       /* the heuristic isn't 0, 1 or 2 */
+};
+
+/* HATT, an unbroken run.
+ *
+ * Rooms: rows DEWGOBLIN_ROWS(n), journal DEWGOBLIN_JOURNAL(n), answer DEWGOBLIN_ANSWER; more is allowed.
+ * Refuses 1 to 5, the lowest number that applies.
+ * Leaves, on success:
+ *   rows     n rows of four numbers: a node's label (the step that made it) and the codes of its X, Y and Z children;
+ *            breadth first from the root;
+ *   journal  the lines of the run, the header first: text of tabs, digits and line feeds;
+ *   answer   four numbers of eight bytes: the greedy weight, the trials made, 0 (bytes kept of a journal), and how many
+ *            bytes of the journal were written.
+ */
+uint64_t dewgoblin_hatt(uint64_t modes,
+                        const uint8_t *terms, size_t terms_bytes,
+                        uint8_t *rows, size_t rows_bytes,
+                        uint8_t *journal, size_t journal_bytes,
+                        uint8_t *answer, size_t answer_bytes);
+
+/* Resuming: the lines of a journal are obeyed in their order and the run goes on from there. From no bytes it is HATT.
+ *
+ * `read` is the journal as it was found, cut anywhere: what stands behind its last line feed is dropped. Rooms as for
+ * dewgoblin_hatt; `journal` is lent apart from `read` and takes the new lines only.
+ * Refuses 1 to 5 as dewgoblin_hatt, and then the first bad line of the journal by 6 to 12.
+ * Leaves what dewgoblin_hatt leaves, but: the answer's third number is how many bytes of `read` are kept (through its last
+ * line feed), the fourth how many new bytes stand at the front of `journal`, and the trials are those of the new steps.
+ * A caller who keeps the journal in a file cuts the file to the kept bytes and appends the new ones, in pieces of any
+ * size: killed at any moment, the file resumes to the rows, the weight and the whole journal of the unbroken run.
+ */
+uint64_t dewgoblin_resume(uint64_t modes,
+                          const uint8_t *terms, size_t terms_bytes,
+                          const uint8_t *read, size_t read_bytes,
+                          uint8_t *rows, size_t rows_bytes,
+                          uint8_t *journal, size_t journal_bytes,
+                          uint8_t *answer, size_t answer_bytes);
+
+/* TOPP-HATT: the leaves of a given tree assigned anew. Declared here for its callers; the library gets it after the two above.
+ *
+ * `tree` has the codes of the X, Y and Z children of node 0 to n-1. The heuristic is 0 (min_weight), 1 (x_first) or 2 (z_first).
+ * Rooms: table DEWGOBLIN_TABLE(n), answer DEWGOBLIN_ASSIGN_ANSWER.
+ * Refuses 1, 13, 14, 15, 16, 17, 2, 3, 4, 5, the first of these that applies.
+ * Leaves, on success: in table the codes of each node's children, as `tree` has them; in answer the weight, eight bytes.
+ */
+uint64_t dewgoblin_assign(uint64_t modes,
+                          const uint8_t *tree, size_t tree_bytes,
+                          uint64_t heuristic,
+                          const uint8_t *terms, size_t terms_bytes,
+                          uint8_t *table, size_t table_bytes,
+                          uint8_t *answer, size_t answer_bytes);
+
+#ifdef __cplusplus
+}
+#endif
+
+#endif
