@@ -1,8 +1,8 @@
 -- A call from C answers what resuming comes to: nothing is written where it refuses, and all that is known where it is done.
 use mathlib.Core.Path.{_≡_, refl, ap, _∙_, sym}
 use mathlib.Core.Bool.{Bool, true, false, cond, _&&_}
-use mathlib.Core.List.{List, [], _∷_, _++_}
-use Prim.Native.Nat.{ℕ, _+_, _*_, _/_, _<_, _≤_, min}
+use mathlib.Core.List.{List, _++_}
+use Prim.Native.Nat.{ℕ, _+_, _*_, _/_, _≤_, min}
 use native.Mathlib.Omega.{arith}
 use borrow.Author.Tests.{leb-true}
 use lib.Dec.{leb}
@@ -16,16 +16,15 @@ use Rattle.refusal.specs.Numbers.{numberOf, placeOf}
 use Rattle.terms.specs.Rows.{terms-of}
 use Rattle.terms.specs.Good.{modes-good}
 use Rattle.merging.specs.Run.{finished}
-use Rattle.merging.specs.Flatpack.{flatpack}
 use Rattle.merging.proofs.RunLawful.{finished-lawful, finished-length}
 use Rattle.merging.proofs.FlatpackRows.{length-flatpack}
 use Rattle.journal.specs.declared.resuming.Numbers.{Numbers}
 use Rattle.journal.specs.declared.resuming.Answer.{Answer}
 use Rattle.journal.specs.declared.resuming.Answer.the-variants.{Done, Refused}
 use Rattle.journal.specs.Resuming.{Ending, Outcome, done, refuses, ending, roomy, resumed}
-use Rattle.journal.specs.Promises.{Answers, returned, rows-then, journal-then}
+use Rattle.journal.specs.Promises.{returned, rows-then, journal-then}
 use Rattle.journal.proofs.Obedience.{obedient}
-use Rattle.journal.proofs.CallDone.{CallDone, call-done}
+use Rattle.journal.proofs.CallDone.{call-done}
 use Rattle.daemon.specs.Bytes.{two-bytes, eight-bytes}
 use Rattle.daemon.specs.Calls.{room-of, resume-called}
 use Rattle.daemon.specs.Reading.{TermsRead}

@@ -3,5 +3,6 @@ pub mod CallAnswered
 pub mod Examples
 pub mod OneResult
 pub mod RefusalPlaces
+pub mod ResultSays
 pub mod TermsSame
 pub mod WordSteps

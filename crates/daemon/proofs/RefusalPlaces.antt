@@ -1,4 +1,4 @@
--- A refusal's number is at most 18, and the place of a refused call is below 65536: the one number that the call returns says both.
+-- A refusal's number is 1 to 18, and the place of a refused call is below 65536: the one number that the call returns says both.
 use mathlib.Core.Path.{_≡_, refl}
 use mathlib.Core.Bool.{Bool, true, false, cond, _&&_}
 use mathlib.Core.List.{List, [], _∷_}
@@ -58,7 +58,7 @@ use Rattle.journal.specs.Obeying.{
 }
 use Rattle.journal.specs.Resuming.{Outcome, done, refuses, with-journal, roomy, with-terms, resumed}
 
-pub number-small : (refusal : Refusal) → numberOf refusal ≤ 18
+pub number-small : (refusal : Refusal) → (1 ≤ numberOf refusal) × (numberOf refusal ≤ 18)
 number-small Modes = omega arith
 number-small TermNumbers = omega arith
 number-small TooManyTerms = omega arith

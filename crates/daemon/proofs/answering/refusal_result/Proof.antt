@@ -11,13 +11,13 @@ number-requires : tie.Need-number-requires
 number-requires c κs = search needs
 
 mul-result : tie.Need-mul-result
-mul-result c = omega (arith, number-small (c .before .args .why), c .number .ensures)
+mul-result c = omega (arith, number-small (c .before .args .why) .1, c .number .ensures)
 
 place-requires : tie.Need-place-requires
 place-requires c κs = search needs
 
 add-result : tie.Need-add-result
-add-result c = omega (arith, number-small (c .before .before .args .why), c .before .number .ensures, c .place .ensures, c .before .before .pre)
+add-result c = omega (arith, number-small (c .before .before .args .why) .1, c .before .number .ensures, c .place .ensures, c .before .before .pre)
 
 returns : tie.Need-returns
 returns c = search needs

@@ -2,7 +2,6 @@
 use native.Mathlib.Omega.{arith}
 use borrow.Author.Tests.{le-leb, lt-leb}
 use Rattle.daemon.specs.Calls.{room-of}
-use borrow.Author.Needs.{needs}
 use Rattle.daemon.proofs.calling.rows_room.Statement.{statement}
 use Rattle.daemon.proofs.calling.rows_room.Tie as tie
 

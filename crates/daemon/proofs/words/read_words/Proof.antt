@@ -1,8 +1,8 @@
 -- The numbers passed are what the bytes say.
-use mathlib.Core.Path.{_≡_, ap, _∙_, sym}
-use Prim.Native.Nat.{_+_, _*_, _≤_, _-_}
+use mathlib.Core.Path.{_≡_, ap, _∙_}
+use Prim.Native.Nat.{_+_, _≤_, _-_}
 use native.Mathlib.Omega.{arith}
-use lib.ListN.{length, getD, take, set, length-set}
+use lib.ListN.{length, take, set, length-set}
 use Rattle.lists.specs.Ranges.{listed}
 use Rattle.lists.proofs.Writes.{all-of}
 use Rattle.daemon.specs.Bytes.{word-at}
