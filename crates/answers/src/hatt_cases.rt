@@ -1,0 +1,82 @@
+// A recorded HATT case asked anew: the weight and the rows must be those that ferrmion's Rust gave.
+use crate::fronts;
+use crate::lines;
+use crate::recorded;
+use crate::recorded::Recorded;
+use journal::numbers::Field;
+use journal::resuming;
+use journal::resuming::Answer;
+use terms::row;
+
+// The case is read whole and the library answers the same.
+pub fn agrees(case: &[u8]) -> bool {
+    let mut terms = [0u16; 16384];
+    let mut rows = [0u16; 1028];
+    agrees_in(case, &mut terms, &mut rows)
+}
+
+// The same, with room for the case's terms and rows lent.
+fn agrees_in(case: &[u8], terms: &mut [u16], rows: &mut [u16]) -> bool {
+    let Field::Number(modes, at) = lines::read_one(case, 0, b"modes\t") else {
+        return false;
+    };
+    let read = lines::read_terms(case, at, terms);
+    let Recorded::Answer(weight, count) = recorded::read_answer(case, read.end, rows) else {
+        return false;
+    };
+    let numbers = read.count;
+    if terms.len() < numbers {
+        return false;
+    }
+    if rows.len() < count {
+        return false;
+    }
+    same_answer(
+        row::wide(modes),
+        &terms[0..numbers],
+        weight,
+        &rows[0..count],
+    )
+}
+
+// The library's answer to these terms is this weight and these rows.
+fn same_answer(modes: usize, terms: &[u16], weight: u64, rows: &[u16]) -> bool {
+    let mut work = [fronts::UNTOUCHED; 16392];
+    let mut written = [fronts::UNTOUCHED; 1028];
+    let mut journal = [fronts::UNTOUCHED_BYTE; 5400];
+    same_written(
+        modes,
+        terms,
+        weight,
+        rows,
+        &mut work,
+        &mut written,
+        &mut journal,
+    )
+}
+
+// The same, with the slices that the call writes lent.
+fn same_written(
+    modes: usize,
+    terms: &[u16],
+    weight: u64,
+    rows: &[u16],
+    work: &mut [u16],
+    written: &mut [u16],
+    journal: &mut [u8],
+) -> bool {
+    let answer = resuming::hatt(modes, terms, work, written, journal);
+    let Answer::Done(numbers) = answer else {
+        return false;
+    };
+    if numbers.weight != weight {
+        return false;
+    }
+    if !fronts::holds(written, rows) {
+        return false;
+    }
+    if !fronts::cleared(work, terms.len()) {
+        return false;
+    }
+    fronts::bytes_untouched(journal, numbers.new)
+}

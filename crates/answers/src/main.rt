@@ -1,0 +1,65 @@
+// Asks the library every recorded case anew and prints, for each kind, how many cases there are and how many differ.
+use libc::STDOUT_FILENO;
+use replay::Kind;
+use replay::Tally;
+
+mod assign_cases;
+mod fronts;
+mod hatt_cases;
+mod lines;
+mod recorded;
+mod replay;
+mod tree_cases;
+
+// A tab and a number.
+fn print_count(count: usize) {
+    io::write_all(STDOUT_FILENO, b"\t");
+    io::print_decimal(STDOUT_FILENO, count as u64);
+}
+
+// The counts, and the number of the first case that differs where one does.
+fn print_tally(tally: Tally) {
+    print_count(tally.cases);
+    print_count(tally.different);
+    if 0 < tally.different {
+        print_count(tally.first);
+    }
+    io::write_all(STDOUT_FILENO, b"\n");
+}
+
+// A file that isn't read whole gives no counts, so that it can't pass for one that agrees.
+fn print_unread(name: &[u8]) {
+    os::fail(name);
+    io::write_all(STDOUT_FILENO, b"\tunread\n");
+}
+
+// The file's cases asked anew and counted; the buffer has room for it all and a byte more.
+fn replay_file(kind: Kind, name: &[u8], buffer: &mut [u8]) {
+    let file = os::open_read(name);
+    if file < 0 {
+        print_unread(name);
+        return;
+    }
+    let length = io::read_full(file, buffer);
+    libc::close(file);
+    if length == buffer.len() {
+        print_unread(name);
+        return;
+    }
+    print_tally(replay::replay(kind, &buffer[..length]));
+}
+
+// One line a kind, from one buffer.
+fn replay_files(buffer: &mut [u8]) {
+    io::write_all(STDOUT_FILENO, b"hatt");
+    replay_file(Kind::Hatt, b"hatt.txt", buffer);
+    io::write_all(STDOUT_FILENO, b"assign");
+    replay_file(Kind::Assign, b"assign.txt", buffer);
+    io::write_all(STDOUT_FILENO, b"tree");
+    replay_file(Kind::Tree, b"tree.txt", buffer);
+}
+
+fn main() {
+    let mut buffer = [0u8; 262144];
+    replay_files(&mut buffer);
+}
