@@ -164,6 +164,7 @@ fn read_term(text: &[u8], from: usize, row: &mut [u16]) -> Read {
     }
     let line = read_line(text, from, b"term\t", &mut row[1..]);
     let length = line.count;
+    // no more than the room behind the length, so that the cast loses nothing
     if length <= 7 {
         row[0] = length as u16;
     }

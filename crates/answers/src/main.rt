@@ -27,23 +27,19 @@ fn print_tally(tally: Tally) {
     io::write_all(STDOUT_FILENO, b"\n");
 }
 
-// A file that isn't read whole gives no counts, so that it can't pass for one that agrees.
-fn print_unread(name: &[u8]) {
-    os::fail(name);
-    io::write_all(STDOUT_FILENO, b"\tunread\n");
-}
-
-// The file's cases asked anew and counted; the buffer has room for it all and a byte more.
+// The file's cases asked anew and counted; a file that isn't read whole gives no counts, so that it can't pass.
 fn replay_file(kind: Kind, name: &[u8], buffer: &mut [u8]) {
     let file = os::open_read(name);
     if file < 0 {
-        print_unread(name);
+        os::fail(name);
+        io::write_all(STDOUT_FILENO, b"\tnot opened\n");
         return;
     }
     let length = io::read_full(file, buffer);
     libc::close(file);
+    // a full buffer may hold only the front of the file
     if length == buffer.len() {
-        print_unread(name);
+        io::write_all(STDOUT_FILENO, b"\ttoo long\n");
         return;
     }
     print_tally(replay::replay(kind, &buffer[..length]));

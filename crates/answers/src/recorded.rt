@@ -2,7 +2,7 @@
 use crate::lines;
 use journal::numbers::Field;
 
-// The weight and how many numbers the node lines have, or another text.
+// The weight and how many numbers the node lines have, or another text; no recorded weight is above 65535.
 pub enum Recorded {
     Answer(u64, usize),
     Broken,

@@ -21,7 +21,7 @@ pub struct Tally {
     pub first: usize,
 }
 
-// The case begins here.
+// A case begins here.
 fn begins(text: &[u8], at: usize) -> bool {
     if text.len() < at {
         return false;

@@ -106,6 +106,7 @@ fn weighed(modes: usize, tree: &[u16], terms: &[u16]) -> Said {
     }
 }
 
+// An answer without a refusal.
 fn weight_said(weight: u64) -> Said {
     Said {
         number: 0,
@@ -114,6 +115,7 @@ fn weight_said(weight: u64) -> Said {
     }
 }
 
+// An answer that is a refusal.
 fn refusal_said(refusal: Refusal) -> Said {
     Said {
         number: refusal::number(refusal),
