@@ -99,7 +99,7 @@ uint64_t dewgoblin_resume(uint64_t modes,
                           uint8_t *journal, size_t journal_bytes,
                           uint8_t *answer, size_t answer_bytes);
 
-/* TOPP-HATT: the leaves of a given tree assigned anew. Declared here for its callers; the library gets it after the two above.
+/* TOPP-HATT: the leaves of a given tree assigned anew.
  *
  * `tree` has the codes of the X, Y and Z children of node 0 to n-1. The heuristic is 0 (min_weight), 1 (x_first) or 2 (z_first).
  * Rooms: table DEWGOBLIN_TABLE(n), answer DEWGOBLIN_ASSIGN_ANSWER.

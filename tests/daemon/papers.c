@@ -40,8 +40,37 @@ static void refused(const char *what, const struct job *job, const char *read, u
     if (DEWGOBLIN_NUMBER(left.result) != code || DEWGOBLIN_PLACE(left.result) != place || !same) wrong(what);
 }
 
+/* P3's tree assigned with these terms: the weight and the table, or the refusal with every byte left. */
+static void assigned(const char *what, const uint8_t *terms, size_t terms_bytes, uint64_t heuristic, uint64_t result, uint8_t weight, const uint8_t *codes)
+{
+    static const uint8_t tree[] = {2, 0, 3, 0, 4, 0, 0, 0, 5, 0, 255, 255};
+    uint8_t table[DEWGOBLIN_TABLE(2)], answer[DEWGOBLIN_ASSIGN_ANSWER];
+    memset(table, 0xA5, sizeof table);
+    memset(answer, 0xA5, sizeof answer);
+    uint8_t left_table[sizeof table], left_answer[sizeof answer] = {weight};
+    if (result == 0) {
+        memcpy(left_table, codes, sizeof table);
+    } else {
+        memcpy(left_table, table, sizeof table);
+        memcpy(left_answer, answer, sizeof answer);
+    }
+    uint64_t said = dewgoblin_assign(2, tree, sizeof tree, heuristic, terms, terms_bytes, table, sizeof table, answer, sizeof answer);
+    if (said != result || memcmp(table, left_table, sizeof table) != 0 || memcmp(answer, left_answer, sizeof answer) != 0) wrong(what);
+}
+
+static void check_assigned(void)
+{
+    static const uint8_t row[16] = {1, 0, 1, 0};
+    struct job two = two_modes();
+    assigned("P8", row, sizeof row, 0, 0, 0, (const uint8_t[]){4, 0, 5, 0, 2, 0, 0, 0, 3, 0, 255, 255});
+    assigned("P9", two.bytes, 16 * two.terms, 0, 0, 2, (const uint8_t[]){2, 0, 3, 0, 4, 0, 0, 0, 5, 0, 255, 255});
+    assigned("no heuristic", row, 15, 3, (uint64_t)DEWGOBLIN_HEURISTIC << 16, 0, none);
+    assigned("not in 16s", row, 15, 2, (uint64_t)DEWGOBLIN_TERM_NUMBERS << 16, 0, none);
+}
+
 void check_papers(void)
 {
+    check_assigned();
     struct job one = {.modes = 1};
     put_row(&one, (const uint8_t[]){0, 1}, 2);
     expect("P1", &one, "", (const uint64_t[]){1, 2, 0, 21}, (const uint8_t[]){0, 0, 1, 0, 2, 0, 255, 255}, "hatt\t1\t1\t1\n0\t0\t1\t2\t1\n");

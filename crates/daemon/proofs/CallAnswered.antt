@@ -110,19 +110,19 @@ pub called-so : (meant same : Outcome) (rows journal answer now-rows now-journal
     → Called same rows journal answer now-rows now-journal now-answer r → Called meant rows journal answer now-rows now-journal now-answer r
 called-so meant same rows journal answer now-rows now-journal now-answer r e called = rw e called
 
--- The room for rows fits into the call's own and into the lent ones, and where there is any the answer's numbers fit.
-pub record RoomFits (own rows answer room : ℕ) : Type 0 where
+-- The room fits into the call's own and into the lent bytes, and where there is any the answer's numbers fit.
+pub record RoomFits (numbers own bytes answer room : ℕ) : Type 0 where
   pub in-own : room ≤ own
-  pub in-rows : 2 * room ≤ rows
-  pub answered : 1 ≤ room → 32 ≤ answer
+  pub in-bytes : 2 * room ≤ bytes
+  pub answered : 1 ≤ room → 8 * numbers ≤ answer
 
-pub room-fits : (own rows answer : ℕ) → RoomFits own rows answer (room-of 4 own rows answer)
+pub room-fits : (numbers own bytes answer : ℕ) → RoomFits numbers own bytes answer (room-of numbers own bytes answer)
 unfolding room-of
-room-fits own rows answer = go (leb 32 answer) refl
+room-fits numbers own bytes answer = go (leb (8 * numbers) answer) refl
   where
-    go : (b : Bool) → leb 32 answer ≡ b → RoomFits own rows answer (cond b (min own (rows / 2)) 0)
-    go true e = record { in-own = omega arith; in-rows = omega arith; answered = λ some. leb-true 32 answer e }
-    go false e = record { in-own = omega arith; in-rows = omega arith; answered = λ some. absurd (omega arith) }
+    go : (b : Bool) → leb (8 * numbers) answer ≡ b → RoomFits numbers own bytes answer (cond b (min own (bytes / 2)) 0)
+    go true e = record { in-own = omega arith; in-bytes = omega arith; answered = λ some. leb-true (8 * numbers) answer e }
+    go false e = record { in-own = omega arith; in-bytes = omega arith; answered = λ some. absurd (omega arith) }
 
 -- The parts that the call lends to resuming mean what it was given.
 pub lent-means : (modes : ℕ) (terms read numbers own : List ℕ) (count room work rows journal answer : ℕ) → TermsRead terms numbers count
@@ -131,7 +131,7 @@ pub lent-means : (modes : ℕ) (terms read numbers own : List ℕ) (count room w
     ≡ resumed 256 modes (take count numbers) read work (length (take room own)) journal
 unfolding resume-called
 lent-means modes terms read numbers own count room work rows journal answer reads e =
-    let fits = room-fits (length own) rows answer in
+    let fits = room-fits 4 (length own) rows answer in
     let l : length (take room own) ≡ room-of 4 (length own) rows answer = length-take-le room own (omega (arith, e, fits .in-own)) ∙ e in
     sym (reads .same 256 modes read work (room-of 4 (length own) rows answer) journal)
     ∙ ap (λ n. resumed 256 modes (take count numbers) read work n journal) (sym l)

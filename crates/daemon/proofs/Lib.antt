@@ -6,3 +6,6 @@ pub mod RefusalPlaces
 pub mod ResultSays
 pub mod TermsSame
 pub mod WordSteps
+pub mod TreeSame
+pub mod AssignPlaces
+pub mod AssignAnswered

@@ -145,7 +145,7 @@ place-of (done part) = 0
 place-of (refuses refusal) = placeOf refusal
 
 -- The first bad row, 0 where there is none.
-unfoldable bad-place : Checked → ℕ
+unfoldable pub bad-place : Checked → ℕ
 bad-place (Good count) = 0
 bad-place (BadTerms refusal) = placeOf refusal
 
@@ -158,7 +158,7 @@ either-bad most true on off f g = f refl
 either-bad most false on off f g = g
 
 module _ (modes : ℕ) (numbers : List ℕ) where
-  bad-row-place : bad-place (checked modes numbers) ≤ 2048
+  pub bad-row-place : bad-place (checked modes numbers) ≤ 2048
   unfolding checked bad-place
   bad-row-place =
       let count = length numbers / 8 in

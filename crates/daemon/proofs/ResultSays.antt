@@ -6,9 +6,11 @@ use native.Mathlib.Omega.{arith}
 use Rattle.refusal.specs.declared.Refusal.{Refusal}
 use Rattle.refusal.specs.Numbers.{numberOf, placeOf}
 use Rattle.journal.specs.Resuming.{Ending, done, refuses}
-use Rattle.daemon.specs.Calls.{term-numbers, room-of, resume-called}
-use Rattle.daemon.specs.Promises.{result-of}
+use Rattle.topphatt.specs.Answer.{refused}
+use Rattle.daemon.specs.Calls.{term-numbers, tree-numbers, room-of, resume-called, assign-called}
+use Rattle.daemon.specs.Promises.{result-of, assign-result-of}
 use Rattle.daemon.proofs.RefusalPlaces.{number-small, refused-place}
+use Rattle.daemon.proofs.AssignPlaces.{assign-refused-place}
 
 module _ (own-work own-rows modes : ℕ) (terms read : List ℕ) (rows journal answer : ℕ) where
   pub done-says : (part : Ending) → resume-called 256 own-work own-rows modes terms read rows journal answer ≡ done part
@@ -23,5 +25,17 @@ module _ (own-work own-rows modes : ℕ) (terms read : List ℕ) (rows journal a
   unfolding result-of resume-called
   refusal-says refusal e =
       let place = refused-place modes (term-numbers terms) read own-work (room-of 4 own-rows rows answer) journal refusal e in
+      let number = number-small refusal in
+      rw e (omega (arith, place, number .0), omega (arith, place), omega (arith, place))
+
+module _ (own-work own-table modes : ℕ) (tree : List ℕ) (heuristic : ℕ) (terms : List ℕ) (table answer : ℕ) where
+  pub assign-refusal-says : (refusal : Refusal) → assign-called 256 own-work own-table modes tree heuristic terms table answer ≡ refused refusal
+      → (1 ≤ assign-result-of (assign-called 256 own-work own-table modes tree heuristic terms table answer))
+      × (assign-result-of (assign-called 256 own-work own-table modes tree heuristic terms table answer) / 65536 ≡ numberOf refusal)
+      × (assign-result-of (assign-called 256 own-work own-table modes tree heuristic terms table answer) % 65536 ≡ placeOf refusal)
+  unfolding assign-result-of assign-called
+  assign-refusal-says refusal e =
+      let place =
+      assign-refused-place modes (tree-numbers modes tree) heuristic (term-numbers terms) own-work (room-of 1 own-table table answer) refusal e in
       let number = number-small refusal in
       rw e (omega (arith, place, number .0), omega (arith, place), omega (arith, place))

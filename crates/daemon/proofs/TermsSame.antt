@@ -1,5 +1,5 @@
 -- The numbers read from the bytes of terms mean what the bytes mean: all of them, or a number of rows that is refused alike.
-use mathlib.Core.Path.{_≡_, ap, _∙_, sym}
+use mathlib.Core.Path.{_≡_, refl, ap, _∙_, sym}
 use mathlib.Core.List.{List, [], _∷_, _++_}
 use Prim.Native.Nat.{ℕ, _/_, _%_, _<_, _≤_}
 use native.Mathlib.Omega.{arith}
@@ -13,6 +13,10 @@ use Rattle.refusal.specs.declared.Refusal.the-variants.{TermNumbers, TooManyTer
 use Rattle.terms.specs.Good.{checked}
 use Rattle.terms.specs.declared.given.Checked.the-variants.{Refused}
 use Rattle.journal.specs.Resuming.{with-terms, resumed}
+use Rattle.tree.specs.Check.{tree-checked}
+use Rattle.tree.specs.declared.TreeChecked.{TreeChecked}
+use Rattle.tree.specs.declared.TreeChecked.the-variants.{Accepted, Refused as BadTree}
+use Rattle.topphatt.specs.Answer.{with-tree, with-terms as assign-terms, outcome}
 use Rattle.daemon.specs.Bytes.{word-at, words}
 use Rattle.daemon.specs.Calls.{term-numbers}
 use Rattle.daemon.specs.Reading.{TermsRead}
@@ -31,6 +35,15 @@ refused-alike : (refusal : Refusal) (a b : List ℕ) → ((modes : ℕ) → chec
 unfolding resumed with-terms
 refused-alike refusal a b e f most modes read work rows journal = rw (e modes, f modes)
 
+assigned-alike : (refusal : Refusal) (a b : List ℕ) → ((modes : ℕ) → checked modes a ≡ Refused refusal) → ((modes : ℕ) → checked modes b ≡ Refused refusal)
+    → (most modes : ℕ) (table : List ℕ) (heuristic work room : ℕ) → outcome most modes table heuristic a work room ≡ outcome most modes table heuristic b work room
+unfolding outcome with-tree assign-terms
+assigned-alike refusal a b e f most modes table heuristic work room = go (tree-checked most modes table)
+  where
+    go : (t : TreeChecked) → with-tree modes table heuristic a work room t ≡ with-tree modes table heuristic b work room t
+    go Accepted = rw (e modes, f modes)
+    go (BadTree other) = refl
+
 module _ (bytes numbers : List ℕ) where
   pub read-odd : (length bytes % 16 ≡ 0 → ⊥) → 1 ≤ length numbers → TermsRead bytes numbers 1
   unfolding term-numbers
@@ -39,6 +52,9 @@ module _ (bytes numbers : List ℕ) where
       record {
         fits = room;
         same = refused-alike TermNumbers (take 1 numbers) (term-numbers bytes)
+            (λ modes. not-eights modes (take 1 numbers) (length-take-le 1 numbers room))
+            (λ modes. not-eights modes (term-numbers bytes) (ap length one));
+        assigned-same = assigned-alike TermNumbers (take 1 numbers) (term-numbers bytes)
             (λ modes. not-eights modes (take 1 numbers) (length-take-le 1 numbers room))
             (λ modes. not-eights modes (term-numbers bytes) (ap length one));
       }
@@ -61,6 +77,9 @@ module _ (bytes numbers : List ℕ) where
           same = refused-alike TooManyTerms (take (length numbers) numbers) (term-numbers bytes)
               (λ modes. too-many modes (take (length numbers) numbers) (omega (arith, l)) (omega (arith, l)))
               (λ modes. too-many modes (term-numbers bytes) (omega (arith, k)) (omega (arith, k)));
+          assigned-same = assigned-alike TooManyTerms (take (length numbers) numbers) (term-numbers bytes)
+              (λ modes. too-many modes (take (length numbers) numbers) (omega (arith, l)) (omega (arith, l)))
+              (λ modes. too-many modes (term-numbers bytes) (omega (arith, k)) (omega (arith, k)));
         }
 
     pub read-all : (part rest : List ℕ) → part ≡ listed (word-at bytes) 0 (length (take (length bytes / 2) numbers)) → length bytes / 2 ≤ length numbers
@@ -75,4 +94,5 @@ module _ (bytes numbers : List ℕ) where
         record {
           fits = omega (arith, l, length-append part rest);
           same = λ most modes journal-read work rows journal. ap (λ n. resumed most modes n journal-read work rows journal) read;
+          assigned-same = λ most modes table heuristic work room. ap (λ n. outcome most modes table heuristic n work room) read;
         }

@@ -5,6 +5,7 @@ use Prim.Native.Nat.{ℕ, _*_, _/_, _%_, min}
 use lib.Dec.{eqb, leb}
 use lib.ListN.{length}
 use Rattle.journal.specs.Resuming.{Outcome, resumed}
+use Rattle.topphatt.specs.Answer.{outcome, Outcome as Assignment}
 use Rattle.daemon.specs.Bytes.{words}
 
 -- The numbers of the terms; bytes that don't come in 16s are no rows of eight: one number stands for them, which is refused by 2.
@@ -23,3 +24,12 @@ resume-called most own-work own-rows modes terms read rows journal answer =
 -- The meaning of `dewgoblin_hatt`.
 unfoldable pub hatt-called : ℕ → ℕ → ℕ → ℕ → List ℕ → ℕ → ℕ → ℕ → Outcome
 hatt-called most own-work own-rows modes terms rows journal answer = resume-called most own-work own-rows modes terms [] rows journal answer
+
+-- The numbers of a tree; bytes that aren't 6n are no table, which is refused by 13.
+unfoldable pub tree-numbers : ℕ → List ℕ → List ℕ
+tree-numbers modes bytes = cond (eqb (length bytes) (6 * modes)) (words bytes) []
+
+-- The meaning of `dewgoblin_assign`: the most modes, the room of the call's own work and table; the modes, the tree's bytes, the heuristic, the terms' bytes, and the lengths of table and answer.
+unfoldable pub assign-called : ℕ → ℕ → ℕ → ℕ → List ℕ → ℕ → List ℕ → ℕ → ℕ → Assignment
+assign-called most own-work own-table modes tree heuristic terms table answer =
+    outcome most modes (tree-numbers modes tree) heuristic (term-numbers terms) own-work (room-of 1 own-table table answer)

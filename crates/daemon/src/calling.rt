@@ -33,15 +33,16 @@ fn resume_numbers(
     }
 }
 
-// The room for rows, in numbers; none where the answer's four numbers don't fit.
-fn rows_room(own: usize, rows: usize, answer: usize) -> usize
-    ensures { λ r. ⌜ r ≡ room-of 4 own rows answer ⌝ }
+// The room in numbers, of the call's own and of the lent bytes; none where so many numbers of the answer don't fit.
+pub fn room_for(numbers: usize, own: usize, bytes: usize, answer: usize) -> usize
+    requires { ⌜ numbers ≤ 4 ⌝ }
+    ensures { λ r. ⌜ r ≡ room-of numbers own bytes answer ⌝ }
 {
-    if answer < 32 {
+    if answer < 8 * numbers {
         return 0;
     }
-    if rows / 2 < own {
-        return rows / 2;
+    if bytes / 2 < own {
+        return bytes / 2;
     }
     own
 }
@@ -62,7 +63,7 @@ fn resume_lent(
     ensures { λ r. ⌜ Called (resume-called 256 (length (now (work .entry))) (length (now (own .entry))) modes (now (terms .entry)) (now (read .entry)) (length (now (rows .entry))) (length (now (journal .entry))) (length (now (answer .entry)))) (now (rows .entry)) (now (journal .entry)) (now (answer .entry)) (now (rows .exit)) (now (journal .exit)) (now (answer .exit)) r ⌝ }
 {
     let count = term_bytes::read_terms(terms, numbers);
-    let room = rows_room(own.len(), rows.len(), answer.len());
+    let room = room_for(4, own.len(), rows.len(), answer.len());
     resume_numbers(
         modes,
         &numbers[..count],

@@ -1,9 +1,10 @@
 // The calls of the queue daemon, which is C: numbers and slices of bytes.
 ghost use lib.ListN.{length};
-ghost use Rattle.daemon.specs.Calls.{«resume-called», «hatt-called»};
-ghost use Rattle.daemon.specs.Promises.{Called};
+ghost use Rattle.daemon.specs.Calls.{«resume-called», «hatt-called», «assign-called»};
+ghost use Rattle.daemon.specs.Promises.{Called, AssignCalled};
 
 mod answering;
+mod assigning;
 mod calling;
 mod term_bytes;
 mod words;
@@ -35,4 +36,19 @@ pub extern "C" fn dewgoblin_resume(
     ensures { λ r. ⌜ Called (resume-called 256 16384 1024 modes (now (terms .entry)) (now (read .entry)) (length (now (rows .entry))) (length (now (journal .entry))) (length (now (answer .entry)))) (now (rows .entry)) (now (journal .entry)) (now (answer .entry)) (now (rows .exit)) (now (journal .exit)) (now (answer .exit)) r ⌝ }
 {
     calling::resume_bytes(modes, terms, read, rows, journal, answer)
+}
+
+// The leaves of a given tree assigned anew.
+#[no_mangle]
+pub extern "C" fn dewgoblin_assign(
+    modes: u64,
+    tree: &[u8],
+    heuristic: u64,
+    terms: &[u8],
+    table: &mut [u8],
+    answer: &mut [u8],
+) -> u64
+    ensures { λ r. ⌜ AssignCalled (assign-called 256 16384 768 modes (now (tree .entry)) heuristic (now (terms .entry)) (length (now (table .entry))) (length (now (answer .entry)))) (now (table .entry)) (now (answer .entry)) (now (table .exit)) (now (answer .exit)) r ⌝ }
+{
+    assigning::assign_bytes(modes, tree, heuristic, terms, table, answer)
 }

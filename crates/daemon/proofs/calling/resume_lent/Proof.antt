@@ -12,8 +12,8 @@ use Rattle.daemon.proofs.calling.resume_lent.Tie as tie
 read-terms-requires : tie.Need-read-terms-requires
 read-terms-requires c κs = search needs
 
-rows-room-requires : tie.Need-rows-room-requires
-rows-room-requires c κs = search needs
+room-for-requires : tie.Need-room-for-requires
+room-for-requires c κs = search needs
 
 slice-reshare-prefix-resume-numbers : tie.Need-slice-reshare-prefix-resume-numbers
 slice-reshare-prefix-resume-numbers c = search needs
@@ -27,8 +27,8 @@ slice-relend-prefix-resume-numbers : tie.Need-slice-relend-prefix-resume-numbers
 slice-relend-prefix-resume-numbers c =
     let args = c .before .before .before .before .before .before .before .before .before .before .before .before .before .before .before .args in
     let own = args .own .now in
-    let room = c .before .before .rows-room in
-    let fits = room-fits (length own) (length (args .rows .now)) (length (args .answer .now)) in
+    let room = c .before .before .room-for in
+    let fits = room-fits 4 (length own) (length (args .rows .now)) (length (args .answer .now)) in
     let within : room .result ≤ length own = omega (arith, room .ensures, fits .in-own) in
     within
 
@@ -36,18 +36,18 @@ slice-aggregate-resume-numbers-2 : tie.Need-slice-aggregate-resume-numbers-2
 slice-aggregate-resume-numbers-2 c =
     let args = c .before .before .before .before .before .before .before .before .before .before .before .before .before .before .before .before .args in
     let own = args .own .now in
-    let room = c .before .before .before .rows-room in
-    let fits = room-fits (length own) (length (args .rows .now)) (length (args .answer .now)) in
+    let room = c .before .before .before .room-for in
+    let fits = room-fits 4 (length own) (length (args .rows .now)) (length (args .answer .now)) in
     sym (length-take-le (room .result) own (omega (arith, room .ensures, fits .in-own)))
 
 resume-numbers-requires : tie.Need-resume-numbers-requires
 resume-numbers-requires c κs =
     let args = c .before .before .before .before .before .before .before .before .before .before .before .before .before .before .before .before .before .before .before .args in
     let own = args .own .now in
-    let room = c .before .before .before .before .before .before .rows-room in
-    let fits = room-fits (length own) (length (args .rows .now)) (length (args .answer .now)) in
+    let room = c .before .before .before .before .before .before .room-for in
+    let fits = room-fits 4 (length own) (length (args .rows .now)) (length (args .answer .now)) in
     let l = length-take-le (room .result) own (omega (arith, room .ensures, fits .in-own)) in
-    (omega (arith, l, room .ensures, fits .in-rows), λ some. fits .answered (omega (arith, l, room .ensures, some)))
+    (omega (arith, l, room .ensures, fits .in-bytes), λ some. fits .answered (omega (arith, l, room .ensures, some)))
 
 same-length : tie.Need-same-length
 same-length c = search needs
@@ -71,7 +71,7 @@ returns : tie.Need-returns
 returns c =
     let args = c .before .before .before .before .before .before .before .before .before .before .before .before .before .before .before .before .before .before .before .before .before .before .before .before .before .before .before .before .before .before .args in
     let own = args .own .now in
-    let room = c .before .before .before .before .before .before .before .before .before .before .before .before .before .before .before .before .before .rows-room in
+    let room = c .before .before .before .before .before .before .before .before .before .before .before .before .before .before .before .before .before .room-for in
     let read-terms = c .before .before .before .before .before .before .before .before .before .before .before .before .before .before .before .before .before .before .before .before .read-terms in
     called-so _ _ (args .rows .now) (args .journal .now) (args .answer .now) _ _ _ _
     (lent-means (args .modes) (args .terms .now) (args .read .now) _ own (read-terms .result) (room .result) (length (args .work .now)) (length (args .rows .now)) (length (args .journal .now)) (length (args .answer .now)) (read-terms .ensures) (room .ensures))
@@ -82,7 +82,7 @@ resume-lent-spec =
     tie.close
     (tie.spec
     read-terms-requires
-    rows-room-requires
+    room-for-requires
     slice-reshare-prefix-resume-numbers
     slice-aggregate-resume-numbers
     slice-relend-prefix-resume-numbers

@@ -1,0 +1,102 @@
+-- A refusal leaves the lent bytes as they are; an assignment that is done puts its codes and its weight.
+use Prim.Native.Nat.{_*_, _≤_}
+use native.Mathlib.Omega.{arith}
+use lib.ListN.{length}
+use Rattle.topphatt.specs.Answer.{outcome}
+use Rattle.daemon.proofs.AssignPlaces.{assign-refused-place}
+use Rattle.daemon.proofs.AssignAnswered.{unassigned-meant, assigned-meant, table-fits, assign-refused, assign-done}
+use borrow.Author.Needs.{needs}
+use Rattle.daemon.proofs.assigning.assign_numbers.Statement.{statement}
+use Rattle.daemon.proofs.assigning.assign_numbers.Tie as tie
+
+assign-requires : tie.Need-assign-requires
+assign-requires c κs = search needs
+
+enum-known-why : tie.Need-enum-known-why
+enum-known-why c = search needs
+
+refusal-result-requires : tie.Need-refusal-result-requires
+refusal-result-requires c κs =
+    let start = c .before .before .before .before .before .before .before .before .before .before .before .before .before .before .before .before in
+    let args = start .args in
+    let work = length (args .work .now) in
+    let own = length (args .own .now) in
+    let meant = outcome 256 (args .modes) (args .tree .now) (args .heuristic) (args .terms .now) work own in
+    let answers = c .before .before .before .before .before .before .before .assign .ensures in
+    assign-refused-place (args .modes) (args .tree .now) (args .heuristic) (args .terms .now) work own _ (unassigned-meant meant _ _ (answers .answer) (c .before .why .given .1))
+
+enum-known-weight : tie.Need-enum-known-weight
+enum-known-weight c = search needs
+
+put-assigned-requires : tie.Need-put-assigned-requires
+put-assigned-requires c κs =
+    let start = c .before .before .before .before .before .before .before .before .before .before .before .before .before .before .before .before .before .before .before in
+    let args = start .args in
+    let work = length (args .work .now) in
+    let own = length (args .own .now) in
+    let meant = outcome 256 (args .modes) (args .tree .now) (args .heuristic) (args .terms .now) work own in
+    let answers = c .before .before .before .before .before .before .before .before .before .before .assign .ensures in
+    let finish = assigned-meant meant _ _ (answers .answer) (c .before .before .before .before .weight .given .1) in
+    let fit = table-fits (args .modes) (args .tree .now) (args .heuristic) (args .terms .now) work own (finish .count) _ (finish .codes) (finish .is) in
+    let some : 1 ≤ own = omega (arith, fit .has-room, fit .some-modes) in
+    let room : 6 * args .modes ≤ length (args .table .now) = omega (arith, fit .has-room, start .pre .0) in
+    (omega (arith, fit .has-room), room, start .pre .1 some)
+
+same-length : tie.Need-same-length
+same-length c = search needs
+
+same-length-2 : tie.Need-same-length-2
+same-length-2 c = search needs
+
+returns : tie.Need-returns
+returns c =
+    let start = c .before .before .before .before .before .before .before .before .before .before .before .before .before .before .before .before .before in
+    let args = start .args in
+    let work = length (args .work .now) in
+    let own = length (args .own .now) in
+    let meant = outcome 256 (args .modes) (args .tree .now) (args .heuristic) (args .terms .now) work own in
+    let answers = c .before .before .before .before .before .before .before .before .assign .ensures in
+    assign-refused meant (args .table .now) (args .answer .now) _ _ (unassigned-meant meant _ _ (answers .answer) (c .before .before .why .given .1)) (c .refusal-result .ensures)
+
+same-length-3 : tie.Need-same-length-3
+same-length-3 c = search needs
+
+same-length-4 : tie.Need-same-length-4
+same-length-4 c = search needs
+
+same-length-5 : tie.Need-same-length-5
+same-length-5 c = search needs
+
+same-length-6 : tie.Need-same-length-6
+same-length-6 c = search needs
+
+returns-2 : tie.Need-returns-2
+returns-2 c =
+    let start = c .before .before .before .before .before .before .before .before .before .before .before .before .before .before .before .before .before .before .before .before .before .before .before .before in
+    let args = start .args in
+    let work = length (args .work .now) in
+    let own = length (args .own .now) in
+    let meant = outcome 256 (args .modes) (args .tree .now) (args .heuristic) (args .terms .now) work own in
+    let answers = c .before .before .before .before .before .before .before .before .before .before .before .before .before .before .before .assign .ensures in
+    let finish = assigned-meant meant _ _ (answers .answer) (c .before .before .before .before .before .before .before .before .before .weight .given .1) in
+    let fit = table-fits (args .modes) (args .tree .now) (args .heuristic) (args .terms .now) work own (finish .count) _ (finish .codes) (finish .is) in
+    let put = c .before .before .before .before .put-assigned .ensures in
+    assign-done meant (args .table .now) (args .answer .now) (args .modes) _ (args .own .now) _ _ _ finish fit (answers .table-is) (put .0) (put .1)
+
+pub assign-numbers-spec : {M : Type 1} → statement M
+assign-numbers-spec =
+    tie.close
+    (tie.spec
+    assign-requires
+    enum-known-why
+    refusal-result-requires
+    enum-known-weight
+    put-assigned-requires
+    same-length
+    same-length-2
+    returns
+    same-length-3
+    same-length-4
+    same-length-5
+    same-length-6
+    returns-2)
