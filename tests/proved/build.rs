@@ -1,8 +1,10 @@
-//! Links the proved library that `tests/library/build bench` wrote.
+//! Links the proved libraries that `tests/library/build` wrote.
 
 fn main() {
     let archives = format!("{}/../../target/native", env!("CARGO_MANIFEST_DIR"));
     println!("cargo:rustc-link-search=native={archives}");
-    println!("cargo:rustc-link-lib=static=bench");
-    println!("cargo:rerun-if-changed={archives}/libbench.a");
+    for name in ["bench", "daemon"] {
+        println!("cargo:rustc-link-lib=static={name}");
+        println!("cargo:rerun-if-changed={archives}/lib{name}.a");
+    }
 }

@@ -1,7 +1,8 @@
-//! The plain program's calls with marked slices: what a call must leave alone is looked over after every one, and every call is made of the proved library too, with the same slices.
+//! The plain program's calls with marked slices: what a call must leave alone is looked over after every one, and every call is made of the proved library too, with the same slices, and of its calls for C, with their bytes.
 
 use crate::tally::equal;
 use plain::{Done, Refusal};
+use proved::c;
 
 const MARK: u16 = 43690;
 const BYTE_MARK: u8 = 170;
@@ -109,7 +110,41 @@ fn proved_alike(
     equal("proved numbers", proved, numbers)?;
     equal("proved work", &work[..], left.0)?;
     equal("proved rows", &rows[..], left.1)?;
-    equal("proved journal", &journal[..], left.2)
+    equal("proved journal", &journal[..], left.2)?;
+    // Work is the C call's own, so that too little of it can't be lent.
+    if work.len() < terms.len() {
+        return Ok(());
+    }
+    let mut rows = vec![BYTE_MARK; 2 * rows.len()];
+    let mut journal = vec![BYTE_MARK; journal.len()];
+    let mut answer = [BYTE_MARK; 32 + BEYOND];
+    let result = c::resume(modes, terms, read, &mut rows, &mut journal, &mut answer);
+    equal("C result", result, c_result(numbers[0], numbers[1]))?;
+    equal("C rows", &rows[..], &c::two_bytes(left.1)[..])?;
+    equal("C journal", &journal[..], left.2)?;
+    equal(
+        "C answer",
+        &answer[..],
+        &c_answer(numbers[0], &numbers[2..])[..],
+    )
+}
+
+/// What a C call returns.
+fn c_result(number: u64, place: u64) -> u64 {
+    number * 65536 + place
+}
+
+/// What a C call leaves in the answer and a little beyond it: its numbers, or the marks where it is refused.
+fn c_answer(number: u64, numbers: &[u64]) -> Vec<u8> {
+    let mut answer: Vec<u8> = numbers
+        .iter()
+        .flat_map(|number| number.to_le_bytes())
+        .collect();
+    if number != 0 {
+        answer.fill(BYTE_MARK);
+    }
+    answer.resize(answer.len() + BEYOND, BYTE_MARK);
+    answer
 }
 
 /// Resumes where 01 leaves no ground for a refusal.
@@ -144,6 +179,18 @@ pub fn assign_in(
     equal("proved numbers", proved, numbers)?;
     equal("proved work", &proved_work, &work)?;
     equal("proved table", &proved_table, &table)?;
+    if terms.len() <= rooms.0 {
+        let mut bytes = vec![BYTE_MARK; 2 * rooms.1];
+        let mut weight = [BYTE_MARK; 8 + BEYOND];
+        let result = c::assign(modes, tree, heuristic, terms, &mut bytes, &mut weight);
+        equal("C result", result, c_result(numbers[0], numbers[1]))?;
+        equal("C table", &bytes[..], &c::two_bytes(&table)[..])?;
+        equal(
+            "C answer",
+            &weight[..],
+            &c_answer(numbers[0], &numbers[2..])[..],
+        )?;
+    }
     if answer.is_err() {
         equal("work stays", &work, &vec![MARK; rooms.0])?;
         equal("table stays", &table, &vec![MARK; rooms.1])?;

@@ -1,4 +1,6 @@
-//! The proved library's calls, as crate `bench` exports them.
+//! The proved library's calls, as crate `bench` exports them, and those for C.
+
+pub mod c;
 
 extern "C" {
     fn bench_resume(
