@@ -31,6 +31,9 @@ fn main() {
         damage::damage_everywhere,
         bounds::boundaries,
         refused::assign_refused,
+        rust::hatt_on_every,
+        rust::hatt_on_counts,
+        rust::hatt_on_all_short,
     ];
     // Each part has its own seed, so that a change to one leaves the inputs of the others alone.
     for (number, part) in parts.iter().enumerate() {

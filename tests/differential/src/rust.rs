@@ -37,6 +37,75 @@ pub fn hatt_on_large(random: &mut Random, tally: &mut Tally) {
     }
 }
 
+/// Every number of modes once, with one or two terms: the most modes take seconds with more.
+pub fn hatt_on_every(random: &mut Random, tally: &mut Tally) {
+    for modes in 1..=256 {
+        let terms = terms(random, modes, 1 + modes % 2, cases::Shape::Mixed);
+        compare_hatt(
+            tally,
+            "HATT on every number of modes, 1 to 256",
+            modes,
+            &terms,
+        );
+    }
+}
+
+/// Every number of terms from 0 to 64, for 1 to 8 modes; and the most terms for the most modes that they are meant for.
+pub fn hatt_on_counts(random: &mut Random, tally: &mut Tally) {
+    for count in 0..=64 {
+        for modes in 1..=8 {
+            let terms = terms(random, modes, count, cases::Shape::Mixed);
+            compare_hatt(tally, "HATT on 0 to 64 terms", modes, &terms);
+        }
+    }
+    let terms = terms(random, 64, 2048, cases::Shape::Chemistry);
+    compare_hatt(tally, "HATT on 64 modes and 2048 terms", 64, &terms);
+}
+
+/// All rows of up to so many indices below 2n, none descending.
+fn all_rows(modes: usize, most: usize) -> Terms {
+    let mut rows: Terms = Vec::new();
+    let mut longest: Terms = vec![vec![]];
+    for _ in 0..most {
+        let mut longer = Vec::new();
+        for row in &longest {
+            for index in row.last().copied().unwrap_or(0)..2 * modes as u16 {
+                longer.push([row.as_slice(), &[index]].concat());
+            }
+        }
+        rows.extend(longer.iter().cloned());
+        longest = longer;
+    }
+    rows
+}
+
+/// Every list of up to two rows, of up to seven indices for 1 mode and of up to three for 2 modes.
+pub fn hatt_on_all_short(_: &mut Random, tally: &mut Tally) {
+    for (modes, most_indices, most_rows) in [(1, 7, 2), (2, 3, 2)] {
+        let rows = all_rows(modes, most_indices);
+        let mut lists: Vec<Terms> = vec![vec![]];
+        let mut longest = lists.clone();
+        for _ in 0..most_rows {
+            longest = longest
+                .iter()
+                .flat_map(|list| {
+                    rows.iter()
+                        .map(|row| [list.as_slice(), &[row.clone()]].concat())
+                })
+                .collect();
+            lists.extend(longest.iter().cloned());
+        }
+        for list in &lists {
+            compare_hatt(
+                tally,
+                "HATT on all short inputs of 1 and 2 modes",
+                modes,
+                list,
+            );
+        }
+    }
+}
+
 /// Every number of modes from 1 to 12, every growth and shape, under each heuristic.
 pub fn assign_on_small(random: &mut Random, tally: &mut Tally) {
     for modes in 1..=12 {
