@@ -34,6 +34,7 @@ fn main() {
         rust::hatt_on_every,
         rust::hatt_on_counts,
         rust::hatt_on_all_short,
+        rust::assign_on_every,
     ];
     // Each part has its own seed, so that a change to one leaves the inputs of the others alone.
     for (number, part) in parts.iter().enumerate() {

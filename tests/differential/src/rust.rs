@@ -50,6 +50,15 @@ pub fn hatt_on_every(random: &mut Random, tally: &mut Tally) {
     }
 }
 
+/// Every number of modes once, on a tree of any growth, under each heuristic.
+pub fn assign_on_every(random: &mut Random, tally: &mut Tally) {
+    for modes in 1..=256 {
+        let tree = cases::any_tree(random, modes);
+        let terms = terms(random, modes, 1 + modes % 2, cases::Shape::Mixed);
+        compare_assign(tally, "on every number of modes, 1 to 256", modes, &tree, &terms);
+    }
+}
+
 /// Every number of terms from 0 to 64, for 1 to 8 modes; and the most terms for the most modes that they are meant for.
 pub fn hatt_on_counts(random: &mut Random, tally: &mut Tally) {
     for count in 0..=64 {
