@@ -55,7 +55,13 @@ pub fn assign_on_every(random: &mut Random, tally: &mut Tally) {
     for modes in 1..=256 {
         let tree = cases::any_tree(random, modes);
         let terms = terms(random, modes, 1 + modes % 2, cases::Shape::Mixed);
-        compare_assign(tally, "on every number of modes, 1 to 256", modes, &tree, &terms);
+        compare_assign(
+            tally,
+            "on every number of modes, 1 to 256",
+            modes,
+            &tree,
+            &terms,
+        );
     }
 }
 
