@@ -74,6 +74,8 @@ impl fmt::Display for Tally {
             let (made, kind, disagreed) = (count.made, &count.kind, count.disagreed);
             writeln!(formatter, "{made:>8} {kind}: {disagreed} disagreed")?;
         }
+        let all: u64 = self.counts.iter().map(|count| count.made).sum();
+        writeln!(formatter, "{all:>8} in all")?;
         match &self.smallest {
             Some((_, description)) => writeln!(formatter, "smallest disagreement: {description}"),
             None => writeln!(formatter, "no disagreement"),
