@@ -43,7 +43,7 @@ module _ (P : ℕ → Type 0) (number : ℕ) where
       go true e = small (ltb-true number 10 e)
       go false e = large (ltb-false number 10 e)
 
-length-digits : (more number : ℕ) → length (digits more number) ≤ more
+pub length-digits : (more number : ℕ) → length (digits more number) ≤ more
 unfolding digits
 length-digits zero number = omega arith
 length-digits (suc more) number =

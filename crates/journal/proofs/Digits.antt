@@ -67,7 +67,7 @@ digits-last more number e = go (ltb number 10) refl more e
         let h = ltb-false number 10 f in
         (omega (arith, length-digits-more n number h), digits-more n number h)
 
-one-asked : (number : ℕ) → length (digits 1 number) ≡ 1
+pub one-asked : (number : ℕ) → length (digits 1 number) ≡ 1
 unfolding digits
 one-asked number = go (ltb number 10) refl
   where

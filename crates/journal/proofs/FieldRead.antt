@@ -18,7 +18,8 @@ use Rattle.journal.specs.declared.numbers.Field.{Field}
 use Rattle.journal.specs.declared.numbers.Field.the-variants.{Broken}
 use Rattle.journal.specs.Decimal.{is-digit, value-after, value, leads-well, is-number}
 use Rattle.journal.specs.Reading.{first-field, field-read, number-at, goes-on, ended-at}
-use Rattle.journal.proofs.Numerals.{numeral, not-so, digit-bounds, value-more, value-beyond, leads-first}
+use Rattle.lists.proofs.Tests.{not-so}
+use Rattle.journal.proofs.Numerals.{numeral, digit-bounds, value-more, value-beyond, leads-first}
 
 -- What comes of reading on, with so many digits of this value read.
 unfoldable pub read-after : ℕ → ℕ → ℕ → List ℕ → Field

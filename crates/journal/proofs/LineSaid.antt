@@ -15,10 +15,10 @@ use Rattle.journal.specs.declared.merge_line.Merge.the-variants.{Is as M
 use Rattle.journal.specs.Decimal.{value-after, value}
 use Rattle.journal.specs.Fields.{fields-after, fields, word, version, header-good, header-of, merge-good, merge-of-line, tabbed}
 use Rattle.journal.specs.Reading.{numbers-good}
-use Rattle.journal.proofs.Numerals.{not-so}
+use Rattle.lists.proofs.Tests.{not-so}
 use Rattle.journal.proofs.Tabbed.{tabbed-fields}
 
-value-at : (parts : List (List ℕ)) (i : ℕ) → getD (map value parts) i 0 ≡ value (getD parts i [])
+pub value-at : (parts : List (List ℕ)) (i : ℕ) → getD (map value parts) i 0 ≡ value (getD parts i [])
 unfolding value value-after
 value-at parts i = List·getD-map value parts i []
 

@@ -10,6 +10,7 @@ use lib.ListN.{length, take, length-append}
 use lib.Seq.{take-nil, take-append-seam, take-append-le, take-append-add}
 use Rattle.lists.specs.Members.{every}
 use Rattle.lists.proofs.Every.{every-cons, every-uncons, every-append}
+use Rattle.lists.proofs.Parts.{nothing-in}
 use Rattle.journal.specs.Lines.{lines, lines-after, kept-of, is-line}
 
 -- What is begun behind the last LF, with what was begun before the text.
@@ -45,10 +46,6 @@ nothing-lost begun (byte ∷ p) = go (eqb byte 10) refl (nothing-lost [] p) (not
         ∙ append-assoc begun (byte ∷ []) p)
     go false e ended ahead = rw e (ahead ∙ append-assoc begun (byte ∷ []) p)
 
-empty : (l : List ℕ) → length l ≡ 0 → l ≡ []
-empty [] e = refl
-empty (a ∷ l) e = absurd (omega arith)
-
 module _ (bytes : List ℕ) where
   kept-and-left : kept-of bytes ++ left-after [] bytes ≡ bytes
   unfolding kept-of lines
@@ -60,7 +57,7 @@ module _ (bytes : List ℕ) where
 
   nothing-left : kept-of bytes ≡ bytes → left-after [] bytes ≡ []
   nothing-left e =
-      empty (left-after [] bytes)
+      nothing-in (left-after [] bytes)
       (omega (arith, ap length kept-and-left, ap length e, length-append (kept-of bytes) (left-after [] bytes)))
 
 -- Behind a text that is kept whole another one's lines begin anew.
@@ -78,7 +75,7 @@ line-after begun (byte ∷ rest) e = go (eqb byte 10) refl (line-after (begun ++
         → (is-line rest ≡ true → lines-after (begun ++ (byte ∷ [])) rest ≡ ((begun ++ (byte ∷ [])) ++ rest) ∷ [])
         → lines-after begun (byte ∷ rest) ≡ (begun ++ (byte ∷ rest)) ∷ []
     go true f ahead =
-        let last : rest ≡ [] = empty rest (eqb-true (length rest) 0 (rw f at e)) in
+        let last : rest ≡ [] = nothing-in rest (eqb-true (length rest) 0 (rw f at e)) in
         rw (f, last)
     go false f ahead = rw f (ahead (rw f at e) ∙ ap (λ l. l ∷ []) (append-assoc begun (byte ∷ []) rest))
 

@@ -39,10 +39,6 @@ unfolding is-number
 is-numeral bytes n =
     rw (n .digits, le-leb 1 (length bytes) (n .some), le-leb (length bytes) 5 (n .short), n .leads, le-leb (value bytes) 65535 (n .fits))
 
-pub not-so : (b : Bool) → (b ≡ true → ⊥) → b ≡ false
-not-so true h = absurd (h refl)
-not-so false h = refl
-
 pub digit-bounds : (byte : ℕ) → is-digit byte ≡ true → (48 ≤ byte) × (byte ≤ 57)
 unfolding is-digit
 digit-bounds byte e =

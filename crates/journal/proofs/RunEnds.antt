@@ -11,6 +11,7 @@ use Rattle.merging.specs.Flatpack.{flatpack}
 use Rattle.merging.specs.State.{history-of, Holds, Went}
 use Rattle.merging.specs.Trials.{trial-total}
 use Rattle.merging.proofs.Recording.{length-recorded}
+use Rattle.merging.proofs.StateStepped.{merges-so-far}
 use Rattle.merging.proofs.RunLawful.{finished-length}
 use Rattle.merging.proofs.TrialTotals.{trials-total}
 use Rattle.journal.specs.declared.resuming.Answer.the-variants.{Done}
@@ -25,7 +26,7 @@ use Rattle.journal.proofs.NotedLines.{noted-all}
 module _ (entities steps : ℕ) (terms : List (List ℕ)) (own now-own : List ℕ) (run after : Run) (holds : Holds entities steps terms own run)
     (went : Went entities steps terms (finished (run .modes) terms (history-of run)) run own after now-own) where
   steps-before : length (history-of run) ≡ run .step
-  steps-before = length-recorded (run .xs) (run .ys) (run .zs) (run .step)
+  steps-before = merges-so-far entities steps terms own run holds
 
   within : length (history-of run) ≤ run .modes
   within = omega (arith, steps-before, holds .inside)

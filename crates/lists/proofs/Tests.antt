@@ -18,6 +18,10 @@ pub neither : (p q : Bool) → (p || q) ≡ false → (p ≡ false) × (q ≡ fa
 neither true q e = let z : _≡_ {A = ℕ} 0 1 = cc in absurd (omega arith)
 neither false q e = (refl, e)
 
+pub not-so : (b : Bool) → (b ≡ true → ⊥) → b ≡ false
+not-so true never = absurd (never refl)
+not-so false never = refl
+
 pub same-or-not : (m n : ℕ) → (m ≡ n) ⊎ (m ≡ n → ⊥)
 same-or-not m n = go (eqb m n) refl
   where

@@ -40,17 +40,18 @@ next-run run triple weight kept =
       weights = set (run .weights) (run .step) (weight % 65536);
     }
 
+-- The parent of the next merge, as the state has it.
+pub parent-is : (run : Run) → 2 * run .modes + 1 + run .step ≡ next-parent (run .modes) (history-of run)
+unfolding next-parent
+parent-is run = ap (λ n. 2 * run .modes + 1 + n) (sym (length-recorded (run .xs) (run .ys) (run .zs) (run .step)))
+
 module _ (entities steps : ℕ) (terms : List (List ℕ)) (rows : List ℕ) (run : Run) (triple : Triple) (weight : ℕ)
     (room : 3 * steps + 1 ≤ entities) (ready : Ready entities steps terms rows run triple weight) where
   holds : Holds entities steps terms rows run
   holds = ready .holds
 
-  parent-is : 2 * run .modes + 1 + run .step ≡ next-parent (run .modes) (history-of run)
-  unfolding next-parent
-  parent-is = ap (λ n. 2 * run .modes + 1 + n) (sym (length-recorded (run .xs) (run .ys) (run .zs) (run .step)))
-
   parent-in : next-parent (run .modes) (history-of run) + 1 ≤ entities
-  parent-in = rw (← parent-is) (omega (arith, ready .left, holds .few, room))
+  parent-in = rw (← parent-is run) (omega (arith, ready .left, holds .few, room))
 
   pub weight-bound : weight ≤ run .live
   unfolding weight-in
@@ -106,14 +107,14 @@ module _ (entities steps : ℕ) (terms : List (List ℕ)) (rows : List ℕ) (run
     unfolding next next-run
     next-tied =
         let w = holds .whole in
-        rw parent-is
+        rw (parent-is run)
         (tied-merged entities (run .modes) (history-of run) (run .opens) (run .ends) (run .holders) triple (holds .tied)
         (w .opens) (w .ends) (w .holders) (in-room (triple .x) x-below) (in-room (triple .y) y-below) (in-room (triple .z) z-below)
         (omega (arith, end-low (triple .z) z-below, holds .few, room)) (omega (arith, parent-in)) parent-in)
 
     next-rows : terms-of 8 kept now-rows ≡ rows-after (run .modes) terms (triple ∷ history-of run)
     unfolding rows-after
-    next-rows = reduced .terms ∙ rw (parent-is, holds .rows-are)
+    next-rows = reduced .terms ∙ rw (parent-is run, holds .rows-are)
 
     next-weight : run .weight + weight ≡ run-weight (run .modes) terms (triple ∷ history-of run)
     unfolding run-weight

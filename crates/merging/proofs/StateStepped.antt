@@ -18,6 +18,7 @@ use Rattle.merging.specs.Choice.{weight-in, candidates, least-of, chosen
 use Rattle.merging.specs.Couples.{weight-here, nothing, seek}
 use Rattle.merging.specs.Run.{greedy, finished}
 use Rattle.merging.specs.State.{history-of, Holds, Ready, Went}
+use Rattle.merging.proofs.StateMerged.{parent-is}
 use Rattle.merging.proofs.Holders.{end-within}
 use Rattle.merging.proofs.PairCount.{some-pair}
 use Rattle.merging.proofs.Recording.{length-recorded}
@@ -28,14 +29,10 @@ module _ (entities steps : ℕ) (terms : List (List ℕ)) (rows : List ℕ) (run
   pub merges-so-far : length (history-of run) ≡ run .step
   merges-so-far = length-recorded (run .xs) (run .ys) (run .zs) (run .step)
 
-  pub parent-next : 2 * run .modes + 1 + run .step ≡ next-parent (run .modes) (history-of run)
-  unfolding next-parent
-  parent-next = ap (λ n. 2 * run .modes + 1 + n) (sym merges-so-far)
-
   -- The z-ends in the table are leaves.
   pub ends-low : (entity : ℕ) → entity < 2 * run .modes + 1 + run .step → getD (run .ends) entity 0 ≤ 2 * run .modes
   ends-low entity h =
-      let below : entity < next-parent (run .modes) (history-of run) = rw parent-next at h in
+      let below : entity < next-parent (run .modes) (history-of run) = rw (parent-is run) at h in
       rw (holds .tied .ends-are entity (omega (arith, holds .tied .within)))
       (end-within (run .modes) (history-of run) (holds .lawful) entity below)
 

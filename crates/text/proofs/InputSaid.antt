@@ -8,6 +8,7 @@ use native.Mathlib.Omega.{arith}
 use borrow.Author.Tests.{eq-eqb, ne-eqb, le-leb, eqb-true}
 use lib.Dec.{eqb, leb, eqb·suc-suc}
 use lib.ListN.{length, getD, take, drop, length-drop}
+use Rattle.lists.proofs.Parts.{nothing-in}
 use Rattle.lists.proofs.Tests.{same-or-not}
 use Rattle.journal.specs.Decimal.{value}
 use Rattle.journal.specs.Lines.{lines, lines-after, kept-of, first-line}
@@ -88,13 +89,9 @@ module _ (most : ℕ) (text : List ℕ) (start : ℕ) (is-start : start ≡ leng
     unfolding modes-line fields fields-after
     not-empty =
         ⊎-elim
-        (λ z. absurd (true≢false (sym good ∙ ap (λ l. modes-line (fields l)) (empty (first-line text) z))))
+        (λ z. absurd (true≢false (sym good ∙ ap (λ l. modes-line (fields l)) (nothing-in (first-line text) z))))
         (λ z. omega arith)
         (same-or-not (length (first-line text)) 0)
-      where
-        empty : (l : List ℕ) → length l ≡ 0 → l ≡ []
-        empty [] f = refl
-        empty (a ∷ l) f = absurd (omega arith)
 
     behind : lines text ≡ first-line text ∷ lines (drop start text)
     behind = rw is-start (next-line text not-empty)

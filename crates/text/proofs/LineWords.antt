@@ -15,8 +15,9 @@ use Rattle.lists.proofs.Alike.{alike-self, alike-same}
 use Rattle.journal.specs.Decimal.{is-number, value, value-after}
 use Rattle.journal.specs.Fields.{fields-after, fields, tabbed}
 use Rattle.journal.specs.Reading.{numbers-good}
-use Rattle.journal.proofs.Numerals.{not-so}
+use Rattle.lists.proofs.Tests.{not-so}
 use Rattle.journal.proofs.Tabbed.{tabbed-fields}
+use Rattle.journal.proofs.LineSaid.{value-at}
 use Rattle.text.specs.declared.input.Modes.the-variants.{Are, Broken}
 use Rattle.text.specs.Input.{modes-word, term-word, modes-line, term-line, term-row}
 use Rattle.text.specs.Reading.{modes-said, IndicesRead, TermRead}
@@ -52,10 +53,6 @@ module _ (line opening : List ℕ) (h : length opening + 1 ≤ length line) (e :
       let n : length opening + (length line - 1 - length opening) ≡ length line - 1 = omega arith in
       ap (λ k. take k line) (sym n) ∙ take-add (length opening) (length line - 1 - length opening) line
       ∙ ap (λ front. front ++ take (length line - 1 - length opening) (drop (length opening) line)) (alike-same (take (length opening) line) opening e)
-
-value-at : (parts : List (List ℕ)) (i : ℕ) → getD (map value parts) i 0 ≡ value (getD parts i [])
-unfolding value value-after
-value-at parts i = List·getD-map value parts i []
 
 -- `modes` and a tab.
 abbrev pub modes-opening : List ℕ

@@ -17,7 +17,7 @@ use Rattle.lists.proofs.Parts.{drop-take}
 use Rattle.journal.specs.Decimal.{is-number, is-digit, leads-well, value}
 use Rattle.journal.specs.Lines.{lines, kept-of, first-line, is-line}
 use Rattle.journal.specs.Fields.{fields, tabbed}
-use Rattle.journal.proofs.Numerals.{not-so}
+use Rattle.lists.proofs.Tests.{not-so}
 use Rattle.journal.proofs.Tabbed.{tabbed-fields}
 use Rattle.journal.proofs.LinesJoined.{lines-joined, kept-line, lines-one, lines-are-lines, line-cut}
 use Rattle.journal.proofs.LineSteps.{first-line-stands, next-line, no-next-line}

@@ -2,7 +2,7 @@
 use mathlib.Core.Path.{_≡_, refl, ap, _∙_, sym}
 use mathlib.Core.Bool.{Bool, true, false}
 use mathlib.Core.List.{List, [], _∷_, _++_}
-use Prim.Native.Nat.{ℕ, zero, suc, _+_, _-_, _/_, _%_, _<_, _≤_}
+use Prim.Native.Nat.{ℕ, suc, _+_, _-_, _/_, _%_, _<_, _≤_}
 use native.Mathlib.Nat.{zero-add}
 use native.Mathlib.Omega.{arith}
 use borrow.Author.Tests.{ltb-true, ltb-false}
@@ -10,17 +10,9 @@ use lib.Dec.{ltb}
 use lib.ListN.{length, drop}
 use Rattle.lists.specs.Written.{written-at}
 use Rattle.journal.specs.Decimal.{digits}
-use Rattle.journal.proofs.Digits.{length-digits-one, length-digits-more, digits-enough}
+use Rattle.journal.proofs.Digits.{length-digits-one, length-digits-more, digits-enough, one-asked}
+use Rattle.journal.proofs.DecimalRead.{length-digits}
 use Rattle.text.specs.Output.{numeral}
-
--- One digit asked for is one digit.
-one-asked : (number : ℕ) → length (digits 1 number) ≡ 1
-unfolding digits
-one-asked number = go (ltb number 10) refl
-  where
-    go : (b : Bool) → ltb number 10 ≡ b → length (digits 1 number) ≡ 1
-    go true e = length-digits-one 0 number (ltb-true number 10 e)
-    go false e = length-digits-more 0 number (ltb-false number 10 e)
 
 -- So many digits are passed, and those of what is left are still to be counted.
 pub record Counting (number count left : ℕ) : Type 0 where
@@ -81,11 +73,6 @@ numeral-short number h =
       length-digits-one 15 (number / 10 / 10 / 10 / 10) (omega arith),
     )
 
-as-many : (most number : ℕ) → length (digits most number) ≤ most
-unfolding digits
-as-many zero number = omega arith
-as-many (suc most) number = omega (arith, one-more most number, as-many most (number / 10))
-
 pub numeral-long : (number : ℕ) → length (numeral number) ≤ 20
 unfolding numeral
-numeral-long number = as-many 20 number
+numeral-long number = length-digits 20 number

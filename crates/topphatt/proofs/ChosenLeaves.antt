@@ -8,6 +8,7 @@ use native.Mathlib.Omega.{arith}
 use lib.Dec.{eqb}
 use lib.ListN.{length, getD, set, length-set}
 use lib.Seq.{getD-set-same, getD-set-other}
+use Rattle.lists.proofs.Tests.{not-so}
 use Rattle.tree.specs.declared.TreeChecked.the-variants.{Accepted}
 use Rattle.tree.specs.Table.{absent, child}
 use Rattle.tree.specs.Check.{tree-checked}
@@ -24,11 +25,6 @@ use Rattle.topphatt.proofs.ChosenRight.{of-candidates}
 use Rattle.topphatt.proofs.SlotCases.{Without, without-unfixed, unfixed-without, pair-below, low-fixed}
 use Rattle.topphatt.proofs.RoundGives.{slots-together}
 
--- What isn't true of a test is false.
-falsely : (b : Bool) → (b ≡ true → ⊥) → b ≡ false
-falsely true never = absurd (never refl)
-falsely false never = refl
-
 never-both : (b : Bool) → b ≡ true → b ≡ false → ⊥
 never-both b e f = let z : _≡_ {A = ℕ} 0 1 = cc in omega arith
 
@@ -43,12 +39,12 @@ module _ (modes : ℕ) (assigned : List ℕ) (whole : length assigned ≡ modes)
 
   unfixes-none : unfixed modes (slot-of modes assigned code) ≡ false → unfixed modes (slot-of modes (set assigned k mode) code) ≡ false
   unfixes-none e =
-      falsely (unfixed modes (slot-of modes (set assigned k mode) code))
+      not-so (unfixed modes (slot-of modes (set assigned k mode) code))
       (λ f. never-both _ (without-unfixed modes assigned code (had-none (unfixed-without modes (set assigned k mode) code f) .1)) e)
 
   fixes-own : pair-of modes code ≡ k → unfixed modes (slot-of modes (set assigned k mode) code) ≡ false
   fixes-own e =
-      falsely (unfixed modes (slot-of modes (set assigned k mode) code)) (λ f. had-none (unfixed-without modes (set assigned k mode) code f) .0 e)
+      not-so (unfixed modes (slot-of modes (set assigned k mode) code)) (λ f. had-none (unfixed-without modes (set assigned k mode) code f) .0 e)
 
 -- Fixing a slot of a node, with a number of a mode where it is unfixed.
 module _ (modes : ℕ) (table : List ℕ) (node edge number : ℕ) (assigned : List ℕ) (whole : length assigned ≡ modes)

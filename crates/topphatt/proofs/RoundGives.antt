@@ -24,7 +24,7 @@ use Rattle.topphatt.proofs.ActiveNodes.{of-active}
 use Rattle.topphatt.proofs.NumberBounds.{of-unassigned, of-without, of-numbers, Pairwise, Singly, of-choices}
 use Rattle.topphatt.proofs.ChosenRight.{of-candidates}
 use Rattle.topphatt.proofs.FairCounts.{given, given-twice, others-stay}
-use Rattle.topphatt.proofs.SlotCases.{Without, slot-without, without-unfixed, unfixed-without, fixed-not-unfixed, pair-below, even-pair, odd-pair, even-without}
+use Rattle.topphatt.proofs.SlotCases.{Without, slot-without, without-unfixed, unfixed-without, fixed-not-unfixed, pair-below, even-pair, odd-pair, even-without, edge-unfixed}
 use Rattle.topphatt.proofs.ActiveSlots.{PairHere, OnlyZ, active-slots, here-unfixed}
 
 module _ (modes : ℕ) (table : List ℕ) (node edge number : ℕ) (assigned : List ℕ) where
@@ -121,10 +121,6 @@ module _ (modes : ℕ) (table : List ℕ) (node : ℕ) where
       unfolding slot
       z-half v other = leaf-mode modes assigned (child table node 2) other v
 
-      z-unfixed : Without modes assigned (child table node 2) → unfixed modes (slot modes table assigned node 2) ≡ true
-      unfolding slot
-      z-unfixed v = without-unfixed modes assigned (child table node 2) v
-
       z-new : (other : ℕ) → other < modes → (other ≡ mode → ⊥) → occurrences other paired ≡ occurrences other assigned
       unfolding paired
       z-new other low apart =
@@ -145,7 +141,7 @@ module _ (modes : ℕ) (table : List ℕ) (node : ℕ) where
           (z-given paired number (leaf .1 .0) (first-given .fair) w (ap (λ u. u / 2) (leaf .1 .2) ∙ z-half v (leaf .1 .0)) (new .0)
           (z-new (leaf .1 .0) (new .0) (from .1) ∙ new .1)))
           (λ same.
-          let e = z-unfixed v in
+          let e = edge-unfixed modes table assigned node 2 v in
           let f = same .0 in
           let z : _≡_ {A = ℕ} 0 1 = cc in
           absurd (omega arith))

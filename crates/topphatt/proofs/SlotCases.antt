@@ -7,7 +7,8 @@ use native.Mathlib.Omega.{arith}
 use borrow.Author.Tests.{lt-ltb, le-ltb, ne-eqb, ltb-true, ltb-false}
 use lib.Dec.{eqb, ltb}
 use lib.ListN.{getD}
-use Rattle.topphatt.specs.Slots.{pair-of, parity-of, leaf-slot, slot-of, unfixed}
+use Rattle.tree.specs.Table.{child}
+use Rattle.topphatt.specs.Slots.{pair-of, parity-of, leaf-slot, slot-of, slot, unfixed}
 use Rattle.topphatt.specs.Nodes.{is-fixed}
 
 -- The code of a leaf whose pair has no mode.
@@ -134,3 +135,8 @@ module _ (modes k : ℕ) where
 
   pub odd-without : (assigned : List ℕ) → k < modes → modes ≤ getD assigned k modes → Without modes assigned (modes + 2 * k + 1)
   odd-without assigned h none = record { low = omega arith; high = omega arith; none = rw odd-pair none }
+
+pub edge-unfixed : (modes : ℕ) (table assigned : List ℕ) (node edge : ℕ) → Without modes assigned (child table node edge)
+    → unfixed modes (slot modes table assigned node edge) ≡ true
+unfolding slot
+edge-unfixed modes table assigned node edge w = without-unfixed modes assigned (child table node edge) w

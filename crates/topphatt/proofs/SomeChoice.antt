@@ -26,7 +26,7 @@ use Rattle.topphatt.specs.Choice.{candidates}
 use Rattle.topphatt.specs.Assignment.{Fair}
 use Rattle.topphatt.proofs.ActiveNodes.{Active, of-active, some-active}
 use Rattle.topphatt.proofs.FairCounts.{pair-without, two-left}
-use Rattle.topphatt.proofs.SlotCases.{Without, without-unfixed, unfixed-without, pair-below, even-without}
+use Rattle.topphatt.proofs.SlotCases.{Without, unfixed-without, pair-below, even-without, edge-unfixed}
 use Rattle.topphatt.proofs.Distances.{chain-holder}
 use Rattle.topphatt.proofs.ActiveSlots.{PairHere, OnlyZ, active-slots, here-unfixed, left-incomplete, z-incomplete, x-incomplete}
 
@@ -103,10 +103,6 @@ module _ (most modes : ℕ) (table : List ℕ) (accepted : tree-checked most mod
             (node, h, x-incomplete modes table assigned node (rw x-is w))
 
     module _ (node : ℕ) (a : Active modes table heuristic round assigned node) where
-      z-unfixed : Without modes assigned (child table node 2) → unfixed modes (slot modes table assigned node 2) ≡ true
-      unfolding slot
-      z-unfixed w = without-unfixed modes assigned (child table node 2) w
-
       z-without : unfixed modes (slot modes table assigned node 2) ≡ true → Without modes assigned (child table node 2)
       unfolding slot
       z-without e = unfixed-without modes assigned (child table node 2) e
@@ -142,7 +138,7 @@ module _ (most modes : ℕ) (table : List ℕ) (accepted : tree-checked most mod
           (λ (here : (k : ℕ) × PairHere modes table assigned node k). choices-paired (here .0) (here .1) (unfixed modes z) refl)
           (λ (only : OnlyZ modes table assigned node).
           single-choice modes free (slot modes table assigned node 0) (slot modes table assigned node 1) z (leaf-of modes z (first .0)) (only .x-fixed)
-          (free-number modes z (first .0) free (z-unfixed (only .z-without)) (first .1)))
+          (free-number modes z (first .0) free (edge-unfixed modes table assigned node 2 (only .z-without)) (first .1)))
           (active-slots most modes table accepted fits heuristic round assigned fresh node a)
 
     pub some-choice : 0 < length (candidates modes table heuristic round assigned)

@@ -170,7 +170,7 @@ fn fill_far(modes: usize, distances: &[usize], left: &[u16], far: &mut [u16]) ->
     count
 }
 
-// The two nodes' slots are the same.
+// The three slots are the same, each with its own.
 fn same_slots(a: Triple, b: Triple) -> bool
     ensures { λ r. ⌜ r ≡ alike (a .x ∷ (a .y ∷ (a .z ∷ []))) (b .x ∷ (b .y ∷ (b .z ∷ []))) ⌝ }
 {

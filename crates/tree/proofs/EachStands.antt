@@ -1,6 +1,6 @@
 -- A table of 3n codes under whose root each of 3n + 1 codes is met stands full: each of them but the root fills one place, and no place is left.
 use mathlib.Core.Path.{_≡_, refl, ap, _∙_, sym}
-use mathlib.Core.Bool.{Bool, true, false, _||_, true≢false}
+use mathlib.Core.Bool.{Bool, true, false, _||_}
 use mathlib.Core.List.{List}
 use Prim.Native.Nat.{ℕ, zero, suc, _+_, _*_, _<_, _≤_}
 use native.Mathlib.Omega.{arith}
@@ -8,6 +8,7 @@ use borrow.Author.Tests.{eqb-true, eqb-false, ltb-true, ltb-false}
 use lib.Dec.{eqb, ltb}
 use lib.ListN.{length, getD}
 use Rattle.lists.specs.Counting.{same, occurrences}
+use Rattle.lists.proofs.Tests.{neither}
 use Rattle.lists.proofs.Leading.{leads-not}
 use Rattle.lists.proofs.Occurring.{occurs-at}
 use Rattle.lists.proofs.Sums.{same-one, same-none}
@@ -19,10 +20,6 @@ use Rattle.tree.proofs.TableSteps.{climb-rests}
 use Rattle.tree.proofs.Standing.{own-parent, parent-is, above-below}
 use Rattle.tree.proofs.OneTreeSays.{OneTreeSays}
 use Rattle.tree.proofs.Under.{above, met, met-top, met-below, no-node}
-
-neither : (p q : Bool) → (p || q) ≡ false → (p ≡ false) × (q ≡ false)
-neither true q e = absurd (true≢false e)
-neither false q e = (refl, e)
 
 module _ (modes : ℕ) (table : List ℕ) (whole : length table ≡ 3 * modes) (fits : 3 * modes ≤ absent) (root : ℕ) (inside : root < modes)
     (each-met : (code : ℕ) → code < 3 * modes → met modes table (suc modes) root code ≡ 1) (absent-met : met modes table (suc modes) root absent ≡ 1) where

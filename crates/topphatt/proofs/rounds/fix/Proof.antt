@@ -1,6 +1,6 @@
 -- A leaf that isn't fixed stands within the table of pairs.
 use Rattle.topphatt.proofs.FixedSteps.{fixed-not, fixed-set}
-use Rattle.topphatt.proofs.SlotKinds.{unfixed-leaf}
+use Rattle.topphatt.proofs.SlotCases.{unfixed-without}
 use Rattle.topphatt.specs.Slots.{slot-of, unfixed}
 use lib.ListN.{length-set}
 use borrow.Author.Tests.{not-true, not-false}
@@ -33,7 +33,7 @@ returns c =
 sub-pair : tie.Need-sub-pair
 sub-pair c =
     let start = c .before .before .before .before .before .before .before in
-    let leaf = unfixed-leaf (start .args .modes) (start .args .assigned .now) (c .before .before .before .before .child .result)
+    let leaf = unfixed-without (start .args .modes) (start .args .assigned .now) (c .before .before .before .before .child .result)
     (rw (← c .before .before .slot-of .ensures .0) (sym (c .before .unfixed .ensures) ∙ not-false _ (c .if1 .left))) in
     omega arith
 
@@ -43,7 +43,7 @@ mul-assigned c = search needs
 slice-write-assigned : tie.Need-slice-write-assigned
 slice-write-assigned c =
     let start = c .before .before .before .before .before .before .before in
-    let leaf = unfixed-leaf (start .args .modes) (start .args .assigned .now) (c .before .before .before .before .child .result)
+    let leaf = unfixed-without (start .args .modes) (start .args .assigned .now) (c .before .before .before .before .child .result)
     (rw (← c .before .before .slot-of .ensures .0) (sym (c .before .unfixed .ensures) ∙ not-false _ (c .if1 .left))) in
     omega arith
 

@@ -2,7 +2,8 @@
 use Rattle.topphatt.specs.Slots.{leaf-slot}
 use Prim.Native.Nat.{_-_, _%_}
 use mathlib.Core.Path.{_∙_, ap, sym}
-use Rattle.topphatt.proofs.SlotKinds.{slot-child, slot-empty, slot-leaf}
+use Rattle.topphatt.proofs.SlotCases.{slot-child, slot-empty}
+use Rattle.topphatt.proofs.SlotKinds.{slot-read}
 use native.Mathlib.Omega.{arith}
 use borrow.Author.Needs.{needs}
 use Rattle.topphatt.proofs.slots.slot_of.Statement.{statement}
@@ -33,7 +34,7 @@ cast-result-2 : tie.Need-cast-result-2
 cast-result-2 c = search needs
 
 returns-2 : tie.Need-returns-2
-returns-2 c = (sym (slot-empty _ _ _ (c .before .if1 .left) (c .if2 .taken)), omega arith)
+returns-2 c = (sym (slot-empty _ _ _ (c .if2 .taken)), omega arith)
 
 mul-wide : tie.Need-mul-wide
 mul-wide c = search needs
@@ -50,7 +51,7 @@ leaf-slot-requires c κs = search needs
 returns-3 : tie.Need-returns-3
 returns-3 c =
     let args = c .before .before .before .before .before .before .args in
-    let read = slot-leaf (args .modes) (args .assigned .now) (args .code) (omega arith) (omega arith) (omega arith) in
+    let read = slot-read (args .modes) (args .assigned .now) (args .code) (omega arith) (omega arith) (omega arith) in
     (c .leaf-slot .ensures .0 ∙ ap (λ v. leaf-slot (args .modes) v ((args .code - args .modes) % 2)) (c .before .wide .ensures .0) ∙ sym read, c .leaf-slot .ensures .1)
 
 pub slot-of-spec : {M : Type 1} → statement M

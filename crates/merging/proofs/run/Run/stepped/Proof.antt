@@ -8,7 +8,8 @@ use Rattle.merging.specs.declared.run.Run.{Run}
 use Rattle.merging.specs.Choice.{candidates, chosen}
 use Rattle.merging.specs.Couples.{weight-here, nothing, seek}
 use Rattle.merging.specs.State.{history-of, Holds, Ready}
-use Rattle.merging.proofs.StateStepped.{ends-low, parent-next, best-is, ready-chosen}
+use Rattle.merging.proofs.StateMerged.{parent-is}
+use Rattle.merging.proofs.StateStepped.{ends-low, best-is, ready-chosen}
 use Rattle.merging.proofs.run.Run.stepped.Statement.{statement}
 use Rattle.merging.proofs.run.Run.stepped.Tie as tie
 
@@ -42,7 +43,7 @@ best-found c terms holds =
     let start = c .before .before .before .before .before .before .before .before .before in
     let count = c .before .before .before .before .before .before .before .next-parent .ensures in
     c .before .choose .ensures (history-of (start .args .t1)) (holds .tied)
-    (count ∙ parent-next 769 256 terms (start .args .rows .now) (start .args .t1) holds)
+    (count ∙ parent-is (start .args .t1))
 
 ready-best : (c : tie.After-merged-arg) (terms : List (List ℕ)) (holds : Holds 769 256 terms (rows-of c) (run-of c))
     → Ready 769 256 terms (rows-of c) (run-of c) (c .before .choose .result .triple) (c .before .choose .result .weight)
