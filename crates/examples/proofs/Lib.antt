@@ -1,2 +1,3 @@
--- The P cases hold.
+-- The P cases hold, and decide what document 01 says that they decide.
 pub mod CasesHold
+pub mod Decided

@@ -1,9 +1,11 @@
 -- "Marked P: proved of the definitions, one table, one claim."
+use mathlib.Core.Bool.{Bool, _&&_}
 use mathlib.Core.List.{List, [], _∷_, _++_}
-use Prim.Native.Nat.{ℕ, _+_}
+use Prim.Native.Nat.{ℕ, _+_, _*_}
 use lib.ListN.{length}
+use Rattle.lists.specs.Members.{alike}
 use Rattle.merging.specs.Trials.{trial-total}
-use Rattle.journal.specs.Resuming.{resumed}
+use Rattle.journal.specs.Resuming.{Outcome, resumed}
 use Rattle.journal.specs.Promises.{numbers-of, returned, rows-then, journal-then}
 use Rattle.tree.specs.Table.{absent}
 use Rattle.tree.specs.Check.{tree-checked}
@@ -14,10 +16,23 @@ use Rattle.refusal.specs.Numbers.{numberOf, placeOf}
 use Rattle.topphatt.specs.Answer.{outcome}
 use Rattle.topphatt.specs.Promises.{numbers-of as assign-numbers, returned as assigned, table-after}
 
+-- What a caller sees of a call: the numbers that it returns, refusal and place before the others; the rows or the table that it
+-- wrote; the lines that it wrote.
+pub record Seen : Type 0 where
+  pub numbers : List ℕ
+  pub rows : List ℕ
+  pub lines : List ℕ
+
 -- What the definitions say, and what document 01 shows.
 pub record Case : Type 0 where
-  pub says : List ℕ
-  pub shown : List ℕ
+  pub says : Seen
+  pub shown : Seen
+
+-- The two are the same.
+unfoldable pub holds : Case → Bool
+holds case =
+    alike (case .says .numbers) (case .shown .numbers)
+    && (alike (case .says .rows) (case .shown .rows) && alike (case .says .lines) (case .shown .lines))
 
 -- Rows of one, two and four indices.
 abbrev pub one : ℕ → List ℕ
@@ -44,64 +59,94 @@ header modes terms = 104 ∷ 97 ∷ 116 ∷ 116 ∷ 9 ∷ 49 ∷ 9 ∷ (48 + mod
 unfoldable pub line : ℕ → ℕ → ℕ → ℕ → ℕ → List ℕ
 line step x y z weight = (48 + step) ∷ 9 ∷ (48 + x) ∷ 9 ∷ (48 + y) ∷ 9 ∷ (48 + z) ∷ 9 ∷ (48 + weight) ∷ 10 ∷ []
 
--- What resuming says: refusal, place, weight, trials, kept and new bytes; then the rows; then the new lines. The rooms are as 01 asks for.
-unfoldable pub resuming : ℕ → List ℕ → List ℕ → ℕ → List ℕ
-resuming modes terms journal room =
-    let meant = resumed 256 modes terms journal (length terms) (modes + modes + modes + modes) room in
-    numbers-of (returned meant) ++ (rows-then meant [] ++ journal-then meant [])
+-- What resuming means; the rooms for work and rows are as 01 asks for.
+unfoldable pub meant : ℕ → List ℕ → List ℕ → ℕ → Outcome
+meant modes terms journal room = resumed 256 modes terms journal (length terms) (4 * modes) room
 
--- What the tree weight says: refusal, place, weight.
+-- What resuming shows: refusal, place, weight, trials, kept and new bytes.
+unfoldable pub resuming : Outcome → Seen
+resuming outcome = record { numbers = numbers-of (returned outcome); rows = rows-then outcome []; lines = journal-then outcome [] }
+
+-- What the tree weight shows: refusal, place, weight.
 unfoldable pub weighed : TreeWeighed → List ℕ
 weighed (Weight weight) = 0 ∷ 0 ∷ weight ∷ []
 weighed (Unweighed refusal) = numberOf refusal ∷ placeOf refusal ∷ 0 ∷ []
 
-unfoldable pub weighing : ℕ → List ℕ → List ℕ → List ℕ
-weighing modes tree terms = weighed (tree-weighed 256 modes tree terms (tree-checked 256 modes tree))
+-- Nothing but numbers.
+unfoldable pub told : List ℕ → Seen
+told numbers = record { numbers = numbers; rows = []; lines = [] }
 
--- What assigning says under `min_weight`: refusal, place, weight; then the table.
-unfoldable pub assigning : ℕ → List ℕ → List ℕ → List ℕ
+unfoldable pub weighing : ℕ → List ℕ → List ℕ → Seen
+weighing modes tree terms = told (weighed (tree-weighed 256 modes tree terms (tree-checked 256 modes tree)))
+
+-- What assigning shows under `min_weight`: refusal, place, weight.
+unfoldable pub assigning : ℕ → List ℕ → List ℕ → Seen
 assigning modes tree terms =
-    let meant = outcome 256 modes tree 0 terms (length terms) (length tree) in
-    assign-numbers (assigned meant) ++ table-after meant []
+    let came = outcome 256 modes tree 0 terms (length terms) (length tree) in
+    record { numbers = assign-numbers (assigned came); rows = table-after came []; lines = [] }
+
+-- P1: n=1, row 0 1
+abbrev pub p1 : Outcome
+p1 = meant 1 (two 0 1) [] 37
+
+-- P3: n=2, rows 01, 23, 0123; greedy and tree weight 4; trials 14
+abbrev pub p3 : Outcome
+p3 = meant 2 terms3 [] 58
+
+-- P5: P3's terms, journal of its header and `0 0 1 4 2`
+abbrev pub p5 : Outcome
+p5 = meant 2 terms3 (header 2 3 ++ line 0 0 1 4 2) 58
 
 unfoldable pub cases : List Case
 cases =
-    -- P1: n=1, row 0 1
-    record { says = resuming 1 (two 0 1) [] 37; shown = (0 ∷ 0 ∷ 1 ∷ 2 ∷ 0 ∷ 21 ∷ []) ++ ((0 ∷ 1 ∷ 2 ∷ absent ∷ []) ++ (header 1 1 ++ line 0 0 1 2 1)) }
+    record {
+      says = resuming p1;
+      shown = record { numbers = 0 ∷ 0 ∷ 1 ∷ 2 ∷ 0 ∷ 21 ∷ []; rows = 0 ∷ 1 ∷ 2 ∷ absent ∷ []; lines = header 1 1 ++ line 0 0 1 2 1 };
+    }
     -- P2: that row twice
     ∷ record {
-      says = resuming 1 (two 0 1 ++ two 0 1) [] 37;
-      shown = (0 ∷ 0 ∷ 2 ∷ 2 ∷ 0 ∷ 21 ∷ []) ++ ((0 ∷ 1 ∷ 2 ∷ absent ∷ []) ++ (header 1 2 ++ line 0 0 1 2 2));
+      says = resuming (meant 1 (two 0 1 ++ two 0 1) [] 37);
+      shown = record { numbers = 0 ∷ 0 ∷ 2 ∷ 2 ∷ 0 ∷ 21 ∷ []; rows = 0 ∷ 1 ∷ 2 ∷ absent ∷ []; lines = header 1 2 ++ line 0 0 1 2 2 };
     }
-    -- P3: n=2, rows 01, 23, 0123; greedy and tree weight 4; trials 14
     ∷ record {
-      says = resuming 2 terms3 [] 58;
+      says = resuming p3;
       shown =
-          (0 ∷ 0 ∷ 4 ∷ 14 ∷ 0 ∷ 31 ∷ [])
-          ++ ((1 ∷ 0 ∷ 5 ∷ absent ∷ 0 ∷ 2 ∷ 3 ∷ 4 ∷ []) ++ (header 2 3 ++ (line 0 0 1 2 2 ++ line 1 5 3 4 2)));
+          record {
+            numbers = 0 ∷ 0 ∷ 4 ∷ 14 ∷ 0 ∷ 31 ∷ [];
+            rows = 1 ∷ 0 ∷ 5 ∷ absent ∷ 0 ∷ 2 ∷ 3 ∷ 4 ∷ [];
+            lines = header 2 3 ++ (line 0 0 1 2 2 ++ line 1 5 3 4 2);
+          };
     }
-    ∷ record { says = weighing 2 tree3 terms3; shown = 0 ∷ 0 ∷ 4 ∷ [] }
+    ∷ record { says = weighing 2 tree3 terms3; shown = told (0 ∷ 0 ∷ 4 ∷ []) }
     -- P4: n=2, the one-index row 2 listed twice; greedy 1, tree weight 2
     ∷ record {
-      says = resuming 2 (one 2 ++ one 2) [] 58;
+      says = resuming (meant 2 (one 2 ++ one 2) [] 58);
       shown =
-          (0 ∷ 0 ∷ 1 ∷ 14 ∷ 0 ∷ 31 ∷ [])
-          ++ ((1 ∷ 4 ∷ 0 ∷ absent ∷ 0 ∷ 2 ∷ 3 ∷ 5 ∷ []) ++ (header 2 2 ++ (line 0 0 1 3 0 ++ line 1 2 5 4 1)));
+          record {
+            numbers = 0 ∷ 0 ∷ 1 ∷ 14 ∷ 0 ∷ 31 ∷ [];
+            rows = 1 ∷ 4 ∷ 0 ∷ absent ∷ 0 ∷ 2 ∷ 3 ∷ 5 ∷ [];
+            lines = header 2 2 ++ (line 0 0 1 3 0 ++ line 1 2 5 4 1);
+          };
     }
-    ∷ record { says = weighing 2 (2 ∷ 3 ∷ 5 ∷ 4 ∷ 0 ∷ absent ∷ []) (one 2 ++ one 2); shown = 0 ∷ 0 ∷ 2 ∷ [] }
-    -- P5: P3's terms, journal of its header and `0 0 1 4 2`
+    ∷ record { says = weighing 2 (2 ∷ 3 ∷ 5 ∷ 4 ∷ 0 ∷ absent ∷ []) (one 2 ++ one 2); shown = told (0 ∷ 0 ∷ 2 ∷ []) }
     ∷ record {
-      says = resuming 2 terms3 (header 2 3 ++ line 0 0 1 4 2) 58;
-      shown = (0 ∷ 0 ∷ 4 ∷ 2 ∷ 21 ∷ 10 ∷ []) ++ ((1 ∷ 4 ∷ 5 ∷ 0 ∷ 0 ∷ 2 ∷ 3 ∷ absent ∷ []) ++ line 1 2 3 5 2);
+      says = resuming p5;
+      shown = record { numbers = 0 ∷ 0 ∷ 4 ∷ 2 ∷ 21 ∷ 10 ∷ []; rows = 1 ∷ 4 ∷ 5 ∷ 0 ∷ 0 ∷ 2 ∷ 3 ∷ absent ∷ []; lines = line 1 2 3 5 2 };
     }
     -- P6: the same with weight 1
-    ∷ record { says = resuming 2 terms3 (header 2 3 ++ line 0 0 1 4 1) 58; shown = 11 ∷ 1 ∷ 0 ∷ 0 ∷ 0 ∷ 0 ∷ [] }
+    ∷ record { says = resuming (meant 2 terms3 (header 2 3 ++ line 0 0 1 4 1) 58); shown = told (11 ∷ 1 ∷ 0 ∷ 0 ∷ 0 ∷ 0 ∷ []) }
     -- P7: P3's lines in exchanged order
-    ∷ record { says = resuming 2 terms3 (header 2 3 ++ (line 1 5 3 4 2 ++ line 0 0 1 2 2)) 58; shown = 8 ∷ 1 ∷ 0 ∷ 0 ∷ 0 ∷ 0 ∷ [] }
+    ∷ record {
+      says = resuming (meant 2 terms3 (header 2 3 ++ (line 1 5 3 4 2 ++ line 0 0 1 2 2)) 58);
+      shown = told (8 ∷ 1 ∷ 0 ∷ 0 ∷ 0 ∷ 0 ∷ []);
+    }
     -- P8: assign P3's tree, row 1
-    ∷ record { says = assigning 2 tree3 (one 1); shown = (0 ∷ 0 ∷ 0 ∷ []) ++ (4 ∷ 5 ∷ 2 ∷ 0 ∷ 3 ∷ absent ∷ []) }
+    ∷ record {
+      says = assigning 2 tree3 (one 1);
+      shown = record { numbers = 0 ∷ 0 ∷ 0 ∷ []; rows = 4 ∷ 5 ∷ 2 ∷ 0 ∷ 3 ∷ absent ∷ []; lines = [] };
+    }
     -- P9: the same tree, P3's terms
-    ∷ record { says = assigning 2 tree3 terms3; shown = (0 ∷ 0 ∷ 2 ∷ []) ++ tree3 }
+    ∷ record { says = assigning 2 tree3 terms3; shown = record { numbers = 0 ∷ 0 ∷ 2 ∷ []; rows = tree3; lines = [] } }
     -- P10: trials for n=256
-    ∷ record { says = trial-total 256 ∷ []; shown = 22435072 ∷ [] }
+    ∷ record { says = told (trial-total 256 ∷ []); shown = told (22435072 ∷ []) }
     ∷ []
