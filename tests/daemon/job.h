@@ -42,5 +42,6 @@ uint64_t wrongs(void);
 
 void check_papers(void);
 void check_refusals(void);
+void check_stack(void);
 
 #endif

@@ -122,6 +122,7 @@ int main(int arguments, char **words)
     seed(from);
     check_papers();
     check_refusals();
+    check_stack();
     for (uint64_t i = 0; i < jobs; i++) {
         draw_job(&job);
         run_job(&job);
