@@ -32,6 +32,18 @@ module _ {A : Type 0} (test : A → Bool) where
       let p = every-uncons a l e in
       every-cons a (l ++ m) (p .0) (every-append l m (p .1) f)
 
+  -- Where the test brings another with it, that one holds of every element too; where it rules another out, that one holds of none.
+  pub every-also : (after : A → Bool) → ((a : A) → test a ≡ true → after a ≡ true) → (l : List A) → every test l ≡ true → every after l ≡ true
+  unfolding every
+  every-also after also [] e = refl
+  every-also after also (a ∷ l) e = let p = every-uncons a l e in rw (also a (p .0)) (every-also after also l (p .1))
+
+  pub none-beside : (other : A → Bool) → ((a : A) → test a ≡ true → other a ≡ false) → (l : List A) → every test l ≡ true
+      → some-of other l ≡ false
+  unfolding some-of
+  none-beside other never [] e = refl
+  none-beside other never (a ∷ l) e = let p = every-uncons a l e in rw (never a (p .0)) (none-beside other never l (p .1))
+
   every-chosen : (b : Bool) (l m : List A) → every test l ≡ true → every test m ≡ true → every test (cond b l m) ≡ true
   every-chosen true l m e f = e
   every-chosen false l m e f = f
