@@ -9,6 +9,7 @@ pub mod Sorting
 pub mod RowRewritten
 pub mod Reducing
 pub mod RowReduced
+pub mod MarkedRows
 pub mod ReducedRows
 pub mod Unchanged
 pub mod NoTwoEqual

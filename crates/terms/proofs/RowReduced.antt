@@ -39,16 +39,12 @@ module _ (triple : Triple) (parent kept place : ℕ) (before : List ℕ) (held :
     fits : 8 * kept + length aside ≤ length before
     fits = rw whole (omega arith)
 
-    after : List ℕ
-    after = written-at (8 * kept) aside before
-
     put-first : getD (written-at (8 * kept) aside before) (8 * kept) 0 ≡ getD aside 0 0
     put-first =
         ap (λ n. getD (written-at (8 * kept) aside before) n 0) (sym (add-zero (8 * kept)))
         ∙ getD-within (8 * kept) aside before fits 0 0 (rw whole (omega arith))
 
-    put-held : getD aside 0 0 < 8 → Held 8 (kept + 1) after
-    unfolding after
+    put-held : getD aside 0 0 < 8 → Held 8 (kept + 1) (written-at (8 * kept) aside before)
     put-held first =
         record {
           room = rw (length-written (8 * kept) aside before fits) (omega arith);
@@ -58,8 +54,7 @@ module _ (triple : Triple) (parent kept place : ℕ) (before : List ℕ) (held :
               (rw put-first first);
         }
 
-    put-terms : terms-of 8 (kept + 1) after ≡ terms-of 8 kept before ++ (term aside ∷ [])
-    unfolding after
+    pub put-terms : terms-of 8 (kept + 1) (written-at (8 * kept) aside before) ≡ terms-of 8 kept before ++ (term aside ∷ [])
     put-terms =
         terms-more 8 kept (written-at (8 * kept) aside before)
         ∙ rw (terms-front 8 kept (written-at (8 * kept) aside before) before (take-written (8 * kept) aside before fits))
@@ -69,7 +64,7 @@ module _ (triple : Triple) (parent kept place : ℕ) (before : List ℕ) (held :
     pub row-put : Rewritten triple parent (take 8 (drop (8 * place) before)) aside → getD aside 0 0 < 8
         → stays parent (terms-of 8 kept before) (rewriting triple parent (term (take 8 (drop (8 * place) before)))) ≡ true
         → RowReduced triple parent kept place before (written-at (8 * kept) aside before) (kept + 1)
-    unfolding addition after
+    unfolding addition
     row-put r first e =
         record {
           terms = put-terms ∙ rw (e, r .new-term);

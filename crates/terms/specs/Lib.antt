@@ -3,4 +3,5 @@ pub mod Rows
 pub mod Good
 pub mod Weight
 pub mod Reduction
+pub mod Marks
 pub mod Promises

@@ -1,13 +1,13 @@
 // Reduction: the triple becomes its parent in every row, rows that are all parent are dropped, equal rows become one.
 ghost use mathlib.Core.Path.{_≡_};
 ghost use Prim.Native.Nat.{_+_, _*_, _≤_, _<_, min, max};
-ghost use lib.ListN.{length, getD, take, drop};
-ghost use Rattle.lists.specs.Members.{«some-of», alike};
-ghost use Rattle.lists.specs.Written.{«written-at»};
+ghost use lib.ListN.{length, getD, drop};
 ghost use Rattle.terms.specs.Rows.{Held, «terms-of»};
 ghost use Rattle.terms.specs.Reduction.{replacement, «put-in», rewriting, stays};
 ghost use Rattle.terms.specs.Promises.{Rewritten, RowReduced, Reduced};
+ghost use Rattle.terms.specs.Marks.{Marked};
 use crate::copying;
+use crate::keeping;
 use crate::row;
 use crate::row::Triple;
 
@@ -88,56 +88,42 @@ fn rewritten(row: &[u16], triple: Triple, parent: u16) -> [u16; 8]
     aside
 }
 
-// One of the first rows has this term.
-fn has_term(rows: &[u16], count: usize, term: &[u16]) -> bool
-    requires { ⌜ Held 8 count (now rows) ⌝ }
-    ensures { λ r. ⌜ r ≡ some-of (alike (now (term .entry))) (terms-of 8 count (now (rows .entry))) ⌝ }
-{
-    let mut place = 0;
-    while place < count {
-        if row::same_term(term, row::term_at(rows, place)) {
-            return true;
-        }
-        place += 1;
-    }
-    false
-}
-
 // The term is not all parent, and none of the rows kept has it.
-fn survives(rows: &[u16], kept: usize, term: &[u16], parent: u16) -> bool
+fn survives<'a>(rows: &'a [u16], kept: usize, marks: &'a [bool], term: &[u16], parent: u16) -> bool
     requires { ⌜ Held 8 kept (now rows) ⌝ }
+    requires { ⌜ length (now marks) ≡ 16384 ⌝ }
+    requires { ⌜ Marked 16384 (terms-of 8 kept (now rows)) (now marks) ⌝ }
     ensures { λ r. ⌜ r ≡ stays parent (terms-of 8 kept (now (rows .entry))) (now (term .entry)) ⌝ }
 {
     if row::all_are(term, parent) {
         return false;
     }
-    !has_term(rows, kept, term)
-}
-
-// The row written over the one at this place.
-fn put_row(rows: &mut [u16], place: usize, row: &[u16])
-    requires { ⌜ length (now row) ≡ 8 ⌝ }
-    requires { ⌜ 8 * place + 8 ≤ length (now rows) ⌝ }
-    ensures { λ r. ⌜ now (rows .exit) ≡ written-at (8 * place) (now (row .entry)) (now (rows .entry)) ⌝ }
-{
-    let from = 8 * place;
-    let end = from + 8;
-    copying::copy(row, &mut rows[from..end]);
+    !keeping::is_kept(rows, kept, marks, term)
 }
 
 // One row reduced and, where it stays, put behind the rows kept; how many are kept then.
-fn reduce_row(rows: &mut [u16], kept: usize, place: usize, triple: Triple, parent: u16) -> usize
+fn reduce_row(
+    rows: &mut [u16],
+    marks: &mut [bool],
+    kept: usize,
+    place: usize,
+    triple: Triple,
+    parent: u16,
+) -> usize
     requires { ⌜ Held 8 kept (now rows) ⌝ }
     requires { ⌜ kept ≤ place ⌝ }
     requires { ⌜ 8 * place + 8 ≤ length (now rows) ⌝ }
     requires { ⌜ getD (now rows) (8 * place) 0 < 8 ⌝ }
+    requires { ⌜ length (now marks) ≡ 16384 ⌝ }
+    requires { ⌜ Marked 16384 (terms-of 8 kept (now rows)) (now marks) ⌝ }
     ensures { λ r. ⌜ RowReduced triple parent kept place (now (rows .entry)) (now (rows .exit)) r ⌝ }
+    ensures { λ r. ⌜ Marked 16384 (terms-of 8 r (now (rows .exit))) (now (marks .exit)) ⌝ }
 {
     let aside = rewritten(row::row_at(rows, place), triple, parent);
-    if !survives(rows, kept, row::term_of(&aside), parent) {
+    if !survives(rows, kept, marks, row::term_of(&aside), parent) {
         return kept;
     }
-    put_row(rows, kept, &aside);
+    keeping::keep_row(rows, marks, kept, &aside);
     kept + 1
 }
 
@@ -146,10 +132,12 @@ pub fn reduce_hamiltonian(rows: &mut [u16], live: usize, parent: u16, selection:
     requires { ⌜ Held 8 live (now rows) ⌝ }
     ensures { λ r. ⌜ Reduced selection parent live (now (rows .entry)) (now (rows .exit)) r ⌝ }
 {
+    // no row is kept yet, so no mark is set
+    let mut marks = [false; 16384];
     let mut kept: usize = 0;
     let mut place = 0;
     while place < live {
-        kept = reduce_row(rows, kept, place, selection, parent);
+        kept = reduce_row(rows, &mut marks, kept, place, selection, parent);
         place += 1;
     }
     let from = 8 * kept;

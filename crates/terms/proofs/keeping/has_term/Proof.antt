@@ -8,8 +8,8 @@ use Rattle.lists.specs.Members.{some-of, alike}
 use Rattle.terms.specs.Rows.{terms-of}
 use Rattle.terms.proofs.RowSteps.{terms-start}
 use Rattle.terms.proofs.Reducing.{sought-passes, sought-found, sought-ends}
-use Rattle.terms.proofs.reduction.has_term.Statement.{statement}
-use Rattle.terms.proofs.reduction.has_term.Tie as tie
+use Rattle.terms.proofs.keeping.has_term.Statement.{statement}
+use Rattle.terms.proofs.keeping.has_term.Tie as tie
 
 abbrev Inv-loop : tie.InvT-loop
 Inv-loop rows count term place₀ place =

@@ -1,39 +1,47 @@
 -- The rows kept and what those ahead still add are the whole reduction; at the end nothing is ahead, and what is left behind the kept rows is cleared.
-use mathlib.Core.Path.{_∙_, ap}
+use mathlib.Core.Path.{_≡_, refl, _∙_, ap}
 use Prim.Native.Nat.{_≤_, _-_, _*_}
 use native.Mathlib.Omega.{arith}
 use borrow.Rule.Slice.PartMut.{mid-len}
 use borrow.Author.Needs.{needs}
 use lib.ListN.{length, replicate, length-replicate}
 use Rattle.lists.proofs.Written.{put-written}
+use Rattle.lists.specs.Members.{every}
+use Rattle.terms.specs.Rows.{rows-of, terms-of}
+use Rattle.terms.specs.Marks.{Marked}
 use Rattle.terms.proofs.ReducedRows.{Passing, passing-starts, next-room, next-within, passing-on, passing-ends}
 use Rattle.terms.proofs.reduction.reduce_hamiltonian.Statement.{statement}
 use Rattle.terms.proofs.reduction.reduce_hamiltonian.Tie as tie
 
 abbrev Inv-loop : tie.InvT-loop
-Inv-loop rows₀ live parent selection kept₀ place₀ rows kept place = Passing selection parent live rows₀ rows kept place
+Inv-loop rows₀ live parent selection marks₀ kept₀ place₀ rows marks kept place =
+    Passing selection parent live rows₀ rows kept place × (length marks ≡ 16384) × Marked 16384 (terms-of 8 kept rows) marks
 
 abbrev μ-loop : tie.MeasureT-loop
-μ-loop rows₀ live parent selection kept₀ place₀ rows kept place = live - place
+μ-loop rows₀ live parent selection marks₀ kept₀ place₀ rows marks kept place = live - place
 
 loop-holds : tie.Need-loop-holds Inv-loop μ-loop
+unfolding terms-of rows-of every
 loop-holds c =
     let args = c .before .args in
-    passing-starts (args .selection) (args .parent) (args .live) (args .rows .now)
+    (passing-starts (args .selection) (args .parent) (args .live) (args .rows .now), refl, refl)
+
+slice-aggregate-reduce-row : tie.Need-slice-aggregate-reduce-row Inv-loop μ-loop
+slice-aggregate-reduce-row c = search needs
 
 reduce-row-requires : tie.Need-reduce-row-requires Inv-loop μ-loop
 reduce-row-requires c κs =
-    let here = c .before .before in
+    let here = c .before .before .before in
     let start = here .before .before in
     let args = start .args in
-    let p = here .loop .inv in
-    let h = c .before .loop-test .taken in (
+    let p = here .loop .inv .0 in
+    let h = c .before .before .loop-test .taken in (
       p .held,
       (
         p .fewer,
         (
           next-room (args .selection) (args .parent) (args .live) (args .rows .now) (start .pre) _ _ _ p h,
-          next-within (args .selection) (args .parent) (args .live) (args .rows .now) (start .pre) _ _ _ p h,
+          (next-within (args .selection) (args .parent) (args .live) (args .rows .now) (start .pre) _ _ _ p h, (here .loop .inv .1, here .loop .inv .2)),
         ),
       ),
     )
@@ -46,12 +54,16 @@ loop-less c = search needs
 
 loop-again : tie.Need-loop-again Inv-loop μ-loop
 loop-again c =
-    let here = c .before .before .before .before .before in
+    let called = c .before .before .before in
+    let here = called .before .before .before .before in
     let start = here .before .before in
     let args = start .args in
-    let called = c .before .before .reduce-row in
-    passing-on (args .selection) (args .parent) (args .live) (args .rows .now) (start .pre) _ _ _ (here .loop .inv)
-    (c .before .before .before .before .loop-test .taken) _ _ (called .ensures) (called .kept .0)
+    let reduced = called .reduce-row in (
+      passing-on (args .selection) (args .parent) (args .live) (args .rows .now) (start .pre) _ _ _ (here .loop .inv .0)
+          (called .before .before .before .loop-test .taken) _ _ (reduced .ensures .0) (reduced .kept .0),
+      reduced .kept .1 .0 ∙ here .loop .inv .1,
+      reduced .ensures .1,
+    )
 
 mul-from : tie.Need-mul-from Inv-loop μ-loop
 mul-from c = search needs
@@ -82,7 +94,7 @@ returns c =
     let here = c .before .before .before .before .before in
     let start = here .before .before in
     let args = start .args in
-    let p = here .loop .inv in
+    let p = here .loop .inv .0 in
     let rows = here .loop .rows in
     let from = 8 * here .loop .kept in
     let end = 8 * args .live in
@@ -99,6 +111,7 @@ reduce-hamiltonian-spec =
     Inv-loop
     μ-loop
     loop-holds
+    slice-aggregate-reduce-row
     reduce-row-requires
     add-place
     loop-less

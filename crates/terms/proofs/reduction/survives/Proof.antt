@@ -11,12 +11,12 @@ returns : tie.Need-returns
 unfolding stays dropped
 returns c = rw (← c .before .all-are .ensures, c .if1 .taken)
 
-has-term-requires : tie.Need-has-term-requires
-has-term-requires c κs = search needs
+is-kept-requires : tie.Need-is-kept-requires
+is-kept-requires c κs = search needs
 
 returns-2 : tie.Need-returns-2
 unfolding stays dropped
-returns-2 c = rw (← c .before .before .all-are .ensures, c .before .if1 .left, ← c .has-term .ensures)
+returns-2 c = rw (← c .before .before .all-are .ensures, c .before .if1 .left, ← c .is-kept .ensures)
 
 pub survives-spec : {M : Type 1} → statement M
-survives-spec = tie.close (tie.spec all-are-requires returns has-term-requires returns-2)
+survives-spec = tie.close (tie.spec all-are-requires returns is-kept-requires returns-2)

@@ -1,0 +1,77 @@
+// The rows kept: whether one of them has a term, and one more put behind them. Marks tell most new terms from them without a search.
+ghost use mathlib.Core.Bool.{true};
+ghost use mathlib.Core.Path.{_≡_};
+ghost use Prim.Native.Nat.{_+_, _*_, _≤_, _<_};
+ghost use lib.ListN.{length, getD, set};
+ghost use Rattle.lists.specs.Members.{«some-of», alike};
+ghost use Rattle.lists.specs.Written.{«written-at»};
+ghost use Rattle.terms.specs.Rows.{Held, term as «term-in», «terms-of»};
+ghost use Rattle.terms.specs.Marks.{«mark-of», Marked};
+use crate::copying;
+use crate::row;
+
+// The term's mark, a number made from its indices: terms with different marks differ.
+fn mark_of(term: &[u16]) -> usize
+    ensures { λ r. ⌜ (r ≡ mark-of 16384 (now (term .entry))) × (r < 16384) ⌝ }
+{
+    let mut mark: usize = 0;
+    let mut at = 0;
+    while at < term.len() {
+        mark = (31 * mark + row::wide(term[at])) % 16384;
+        at += 1;
+    }
+    mark
+}
+
+// One of the first rows has this term.
+fn has_term(rows: &[u16], count: usize, term: &[u16]) -> bool
+    requires { ⌜ Held 8 count (now rows) ⌝ }
+    ensures { λ r. ⌜ r ≡ some-of (alike (now (term .entry))) (terms-of 8 count (now (rows .entry))) ⌝ }
+{
+    let mut place = 0;
+    while place < count {
+        if row::same_term(term, row::term_at(rows, place)) {
+            return true;
+        }
+        place += 1;
+    }
+    false
+}
+
+// One of the rows kept has this term. Their marks are set, so a term whose mark is not is none of theirs, and they aren't searched.
+pub fn is_kept<'a>(rows: &'a [u16], kept: usize, marks: &'a [bool], term: &[u16]) -> bool
+    requires { ⌜ Held 8 kept (now rows) ⌝ }
+    requires { ⌜ length (now marks) ≡ 16384 ⌝ }
+    requires { ⌜ Marked 16384 (terms-of 8 kept (now rows)) (now marks) ⌝ }
+    ensures { λ r. ⌜ r ≡ some-of (alike (now (term .entry))) (terms-of 8 kept (now (rows .entry))) ⌝ }
+{
+    let mark = mark_of(term);
+    if !marks[mark] {
+        return false;
+    }
+    has_term(rows, kept, term)
+}
+
+// The row written over the one at this place.
+fn put_row(rows: &mut [u16], place: usize, row: &[u16])
+    requires { ⌜ length (now row) ≡ 8 ⌝ }
+    requires { ⌜ 8 * place + 8 ≤ length (now rows) ⌝ }
+    ensures { λ r. ⌜ now (rows .exit) ≡ written-at (8 * place) (now (row .entry)) (now (rows .entry)) ⌝ }
+{
+    let from = 8 * place;
+    let end = from + 8;
+    copying::copy(row, &mut rows[from..end]);
+}
+
+// The row written over the one at this place, and its term's mark set.
+pub fn keep_row(rows: &mut [u16], marks: &mut [bool], place: usize, row: &[u16])
+    requires { ⌜ (length (now row) ≡ 8) × (getD (now row) 0 0 < 8) ⌝ }
+    requires { ⌜ 8 * place + 8 ≤ length (now rows) ⌝ }
+    requires { ⌜ length (now marks) ≡ 16384 ⌝ }
+    ensures { λ r. ⌜ now (rows .exit) ≡ written-at (8 * place) (now (row .entry)) (now (rows .entry)) ⌝ }
+    ensures { λ r. ⌜ now (marks .exit) ≡ set (now (marks .entry)) (mark-of 16384 (term-in (now (row .entry)))) true ⌝ }
+{
+    let mark = mark_of(row::term_of(row));
+    marks[mark] = true;
+    put_row(rows, place, row);
+}
