@@ -6,7 +6,7 @@ use Prim.Native.Nat.{ℕ, _+_, _*_, _%_}
 use lib.ListN.{getD}
 use Rattle.lists.specs.Members.{every}
 
--- The mark after one number more; the factor is above the numbers of a run, which go to 768, so that short terms seldom share a mark.
+-- The mark after one number more. Any factor would be right; under this one short terms seldom share a mark.
 unfoldable pub next-mark : ℕ → ℕ → ℕ → ℕ
 next-mark size mark number = (773 * mark + number) % size
 
