@@ -1,100 +1,70 @@
 -- A number's decimal text is read back as that number, and an accepted text is the decimal text of its value.
 use mathlib.Core.Path.{_≡_, refl, ap, _∙_, sym}
-use mathlib.Core.Bool.{Bool, true, false, cond}
+use mathlib.Core.Bool.{Bool, true, false, not, true≢false}
 use mathlib.Core.List.{List, [], _∷_, _++_}
-use Prim.Native.Nat.{ℕ, zero, suc, _+_, _-_, _*_, _/_, _%_, _<_, _≤_}
+use Prim.Native.Nat.{ℕ, zero, suc, _+_, _-_, _*_, _/_, _%_, _^_, _<_, _≤_}
+use native.Mathlib.Nat.{pow-suc}
 use native.Mathlib.Omega.{arith}
-use borrow.Author.Tests.{ltb-true, ltb-false, lt-ltb, le-ltb, ne-eqb}
-use lib.Dec.{ltb}
-use lib.ListN.{length, getD, take, length-append, List·getD-append}
+use borrow.Author.Tests.{ne-eqb}
+use lib.Dec.{eqb}
+use lib.ListN.{length, getD, take, List·getD-append}
 use lib.Seq.{take-suc, take-all, getD-take, length-take-le}
 use Rattle.lists.specs.Members.{every}
-use Rattle.lists.proofs.Every.{every-append, every-cons, every-uncons, every-at}
+use Rattle.lists.proofs.Every.{every-append, every-cons, every-uncons, every-at, every-by-place}
 use Rattle.journal.specs.Decimal.{is-digit, value-after, value, leads-well, is-number, digits, decimal}
 use Rattle.journal.proofs.Numerals.{Numeral, numeral, is-numeral, digit-bounds, digit-within, value-more, value-least, leads-first}
+use Rattle.journal.proofs.Digits.{by-size, digits-one, digits-more, some-digits, decimal-short}
 
--- The least number that so many digits can't say.
-unfoldable beyond : ℕ → ℕ
-beyond zero = 1
-beyond (suc more) = 10 * beyond more
-
--- The digits before the last.
-unfoldable before-last : ℕ → ℕ → List ℕ
-before-last more number = cond (ltb number 10) [] (digits more (number / 10))
-
-digits-last : (more number : ℕ) → digits (suc more) number ≡ before-last more number ++ ((48 + number % 10) ∷ [])
-unfolding digits before-last
-digits-last more number = refl
-
-before-small : (more number : ℕ) → number < 10 → before-last more number ≡ []
-unfolding before-last
-before-small more number h = rw (lt-ltb number 10 h)
-
-before-large : (more number : ℕ) → 10 ≤ number → before-last more number ≡ digits more (number / 10)
-unfolding before-last
-before-large more number h = rw (le-ltb number 10 h)
-
--- The number has one digit or more.
-module _ (P : ℕ → Type 0) (number : ℕ) where
-  by-size : (number < 10 → P number) → (10 ≤ number → P number) → P number
-  by-size small large = go (ltb number 10) refl
-    where
-      go : (b : Bool) → ltb number 10 ≡ b → P number
-      go true e = small (ltb-true number 10 e)
-      go false e = large (ltb-false number 10 e)
-
-pub length-digits : (more number : ℕ) → length (digits more number) ≤ more
-unfolding digits
-length-digits zero number = omega arith
-length-digits (suc more) number =
-    by-size (λ n. length (digits (suc more) n) ≤ suc more) number
-    (λ h. rw (digits-last more number, before-small more number h) (omega arith))
-    (λ h. rw (digits-last more number, before-large more number h, length-append) (omega (arith, length-digits more (number / 10))))
-
-some-digits : (more number : ℕ) → 1 ≤ length (digits (suc more) number)
-some-digits more number = rw (digits-last more number, length-append) (omega arith)
-
+-- Every byte of a decimal text is a digit.
 all-digits : (more number : ℕ) → every is-digit (digits more number) ≡ true
 unfolding digits every
 all-digits zero number = refl
 all-digits (suc more) number =
     let last : every is-digit ((48 + number % 10) ∷ []) ≡ true =
     every-cons is-digit (48 + number % 10) [] (digit-within (48 + number % 10) (omega arith) (omega arith)) refl in
-    by-size (λ n. every is-digit (digits (suc more) n) ≡ true) number
-    (λ h. rw (digits-last more number, before-small more number h) last)
+    by-size number
+    (λ h. rw (digits-one more number h) last)
     (λ h.
-    rw (digits-last more number, before-large more number h)
+    rw (digits-more more number h)
     (every-append is-digit (digits more (number / 10)) ((48 + number % 10) ∷ []) (all-digits more (number / 10)) last))
 
-value-digits : (more number : ℕ) → number < beyond more → value (digits more number) ≡ number
-unfolding digits value value-after beyond
+-- A byte that is no digit isn't among them.
+pub decimal-without : (mark number : ℕ) → is-digit mark ≡ false → every (λ byte. not (eqb byte mark)) (decimal number) ≡ true
+unfolding decimal
+decimal-without mark number other =
+    every-by-place (λ byte. not (eqb byte mark)) (digits 20 number) 0
+    (λ i h.
+    let byte = getD (digits 20 number) i 0 in
+    let digit = every-at is-digit (digits 20 number) i 0 h (all-digits 20 number) in
+    rw (ne-eqb byte mark (λ e. true≢false (sym digit ∙ ap is-digit e ∙ other))))
+
+value-digits : (more number : ℕ) → number < 10 ^ more → value (digits more number) ≡ number
+unfolding digits value value-after
 value-digits zero number h = omega arith
 value-digits (suc more) number h =
-    by-size (λ n. value (digits (suc more) n) ≡ n) number
-    (λ k. rw (digits-last more number, before-small more number k) (omega arith))
+    by-size number
+    (λ k. rw (digits-one more number k) (omega arith))
     (λ k.
-    rw (digits-last more number, before-large more number k)
-    (let e = value-more (digits more (number / 10)) (48 + number % 10) in
-    let f = value-digits more (number / 10) (omega arith) in
-    e ∙ rw f (omega arith)))
+    let tenth = value-digits more (number / 10) (omega (arith, pow-suc 10 more)) in
+    rw (digits-more more number k) (value-more (digits more (number / 10)) (48 + number % 10) ∙ rw tenth (omega arith)))
 
 -- A number above 0 doesn't begin with 0.
-first-digit : (more number : ℕ) → 1 ≤ number → number < beyond more → getD (digits more number) 0 0 ≡ 48 → ⊥
-unfolding digits beyond
-first-digit zero number h k = λ e. omega arith
-first-digit (suc more) number h k =
-    by-size (λ n. getD (digits (suc more) n) 0 0 ≡ 48 → ⊥) number
-    (λ l. rw (digits-last more number, before-small more number l) (λ e. omega arith))
+first-digit : (more number : ℕ) → 1 ≤ number → number < 10 ^ more → getD (digits more number) 0 0 ≡ 48 → ⊥
+first-digit zero number h k e = omega arith
+first-digit (suc zero) number h k e =
+    let f : 48 + number % 10 ≡ 48 = rw (digits-one 0 number (omega arith)) at e in
+    omega arith
+first-digit (suc (suc more)) number h k e =
+    by-size number
     (λ l.
-    rw (digits-last more number, before-large more number l)
-    (go more k l (first-digit more (number / 10) (omega arith) (omega arith))))
-  where
-    go : (m : ℕ) → number < 10 * beyond m → 10 ≤ number → (getD (digits m (number / 10)) 0 0 ≡ 48 → ⊥)
-        → getD (digits m (number / 10) ++ ((48 + number % 10) ∷ [])) 0 0 ≡ 48 → ⊥
-    go zero j l no-zero e = omega arith
-    go (suc m) j l no-zero e =
-        no-zero
-        (sym (List·getD-append (digits (suc m) (number / 10)) ((48 + number % 10) ∷ []) 0 0 (omega (arith, some-digits m (number / 10)))) ∙ e)
+    let f : 48 + number % 10 ≡ 48 = rw (digits-one (suc more) number l) at e in
+    omega arith)
+    (λ l.
+    let front = digits (suc more) (number / 10) in
+    first-digit (suc more) (number / 10) (omega arith) (omega (arith, pow-suc 10 (suc more)))
+    (sym (List·getD-append front ((48 + number % 10) ∷ []) 0 0 (some-digits more (number / 10)))
+    ∙ ap (λ l. getD l 0 0) (sym (digits-more (suc more) number l))
+    ∙ e))
 
 leads-unless : (l : List ℕ) → (getD l 0 0 ≡ 48 → ⊥) → leads-well l ≡ true
 unfolding leads-well
@@ -102,30 +72,26 @@ leads-unless [] h = refl
 leads-unless (a ∷ []) h = refl
 leads-unless (a ∷ (b ∷ l)) h = rw (ne-eqb a 48 h)
 
-leads-digits : (more number : ℕ) → number < beyond (suc more) → leads-well (digits (suc more) number) ≡ true
+leads-digits : (more number : ℕ) → number < 10 ^ suc more → leads-well (digits (suc more) number) ≡ true
 unfolding leads-well
 leads-digits more number h =
-    by-size (λ n. leads-well (digits (suc more) n) ≡ true) number
-    (λ l. rw (digits-last more number, before-small more number l))
+    by-size number
+    (λ l. rw (digits-one more number l))
     (λ l. leads-unless (digits (suc more) number) (first-digit (suc more) number (omega arith) h))
-
-five : (number : ℕ) → number ≤ 65535 → number < beyond 5
-unfolding beyond
-five number h = omega arith
 
 module _ (number : ℕ) (h : number ≤ 65535) where
   pub value-decimal : value (decimal number) ≡ number
   unfolding decimal
-  value-decimal = value-digits 5 number (five number h)
+  value-decimal = value-digits 20 number (omega arith)
 
-  pub decimal-numeral : Numeral (decimal number)
+  decimal-numeral : Numeral (decimal number)
   unfolding decimal
   decimal-numeral =
       record {
-        digits = all-digits 5 number;
-        some = some-digits 4 number;
-        short = length-digits 5 number;
-        leads = leads-digits 4 number (five number h);
+        digits = all-digits 20 number;
+        some = some-digits 19 number;
+        short = decimal-short number h;
+        leads = leads-digits 19 number (omega arith);
         fits = rw value-decimal h;
       }
 
@@ -153,26 +119,18 @@ above-zero (a ∷ l) e h no-zero =
     go (suc d) f low more = omega arith
 
 -- The digits of what digits say, with one more behind them.
-digits-joined : (more number byte : ℕ) → 48 ≤ byte → byte ≤ 57
-    → digits (suc more) (10 * number + (byte - 48)) ≡ before-last more (10 * number + (byte - 48)) ++ (byte ∷ [])
-digits-joined more number byte h k =
-    let e : 48 + (10 * number + (byte - 48)) % 10 ≡ byte = omega arith in
-    rw (digits-last more (10 * number + (byte - 48)), e)
-
-before-joined : (more number byte : ℕ) → byte ≤ 57 → 1 ≤ number
-    → before-last more (10 * number + (byte - 48)) ≡ digits more number
-before-joined more number byte k h =
-    let e : (10 * number + (byte - 48)) / 10 ≡ number = omega arith in
-    rw (before-large more (10 * number + (byte - 48)) (omega arith), e)
-
 digits-behind : (more : ℕ) (l : List ℕ) (byte : ℕ) → 48 ≤ byte → byte ≤ 57
     → (1 ≤ length l → (1 ≤ value l) × (digits more (value l) ≡ l)) → digits (suc more) (value (l ++ (byte ∷ []))) ≡ l ++ (byte ∷ [])
 unfolding value value-after
-digits-behind more [] byte h k on = digits-joined more 0 byte h k ∙ rw (before-small more (10 * 0 + (byte - 48)) (omega arith))
+digits-behind more [] byte h k on =
+    let last : 48 + (10 * 0 + (byte - 48)) % 10 ≡ byte = omega arith in
+    digits-one more (10 * 0 + (byte - 48)) (omega arith) ∙ rw last
 digits-behind more (a ∷ l) byte h k on =
     let p = on (omega arith) in
-    let m = a ∷ l in
-    rw (value-more m byte, digits-joined more (value m) byte h k, before-joined more (value m) byte k (p .0), p .1)
+    let number = 10 * value (a ∷ l) + (byte - 48) in
+    let tenth : number / 10 ≡ value (a ∷ l) = omega arith in
+    let last : 48 + number % 10 ≡ byte = omega arith in
+    rw (value-more (a ∷ l) byte, digits-more more number (omega (arith, p .0)), tenth, last, p .1)
 
 no-zero-first : (l : List ℕ) → 2 ≤ length l → leads-well l ≡ true → getD l 0 0 ≡ 48 → ⊥
 no-zero-first [] h e = absurd (omega arith)
@@ -211,4 +169,4 @@ pub decimal-value : (bytes : List ℕ) → is-number bytes ≡ true → decimal 
 unfolding decimal
 decimal-value bytes e =
     let n = numeral bytes e in
-    digits-value 5 bytes (n .digits) (n .some) (n .short) (n .leads)
+    digits-value 20 bytes (n .digits) (n .some) (omega (arith, n .short)) (n .leads)

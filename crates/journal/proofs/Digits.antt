@@ -1,9 +1,9 @@
--- The digits of a number: how many there are, and how they are written from the last one back.
+-- The digits of a number: how many there are, how they are counted, and how they are written from the last one back.
 use mathlib.Core.Path.{_≡_, refl, ap, _∙_, sym}
 use mathlib.Core.Bool.{Bool, true, false}
 use mathlib.Core.List.{List, [], _∷_, _++_, append-assoc}
-use Prim.Native.Nat.{ℕ, zero, suc, _+_, _-_, _/_, _%_, _<_, _≤_}
-use native.Mathlib.Nat.{zero-add}
+use Prim.Native.Nat.{ℕ, zero, suc, _+_, _-_, _/_, _%_, _^_, _<_, _≤_}
+use native.Mathlib.Nat.{zero-add, pow-suc}
 use native.Mathlib.Numerals.{add-one}
 use native.Mathlib.Omega.{arith}
 use borrow.Author.Tests.{lt-ltb, le-ltb, ltb-true, ltb-false}
@@ -13,6 +13,14 @@ use lib.Seq.{set-split, drop-at, length-take-le}
 use Rattle.lists.specs.Written.{written-at}
 use Rattle.journal.specs.Decimal.{digits, decimal}
 
+-- The number has one digit or more.
+pub by-size : {P : Type 0} (number : ℕ) → (number < 10 → P) → (10 ≤ number → P) → P
+by-size {P} number small large = go (ltb number 10) refl
+  where
+    go : (b : Bool) → ltb number 10 ≡ b → P
+    go true e = small (ltb-true number 10 e)
+    go false e = large (ltb-false number 10 e)
+
 pub digits-one : (more number : ℕ) → number < 10 → digits (suc more) number ≡ (48 + number % 10) ∷ []
 unfolding digits
 digits-one more number h = rw (lt-ltb number 10 h)
@@ -21,31 +29,91 @@ pub digits-more : (more number : ℕ) → 10 ≤ number → digits (suc more) nu
 unfolding digits
 digits-more more number h = rw (le-ltb number 10 h)
 
-pub length-digits-one : (more number : ℕ) → number < 10 → length (digits (suc more) number) ≡ 1
+length-digits-one : (more number : ℕ) → number < 10 → length (digits (suc more) number) ≡ 1
 length-digits-one more number h = ap length (digits-one more number h)
 
-pub length-digits-more : (more number : ℕ) → 10 ≤ number → length (digits (suc more) number) ≡ length (digits more (number / 10)) + 1
+length-digits-more : (more number : ℕ) → 10 ≤ number → length (digits (suc more) number) ≡ length (digits more (number / 10)) + 1
 length-digits-more more number h =
     ap length (digits-more more number h) ∙ length-append (digits more (number / 10)) ((48 + number % 10) ∷ [])
 
+length-digits : (more number : ℕ) → length (digits more number) ≤ more
+unfolding digits
+length-digits zero number = omega arith
+length-digits (suc more) number =
+    by-size number
+    (λ h. omega (arith, length-digits-one more number h))
+    (λ h. omega (arith, length-digits-more more number h, length-digits more (number / 10)))
+
+pub some-digits : (more number : ℕ) → 1 ≤ length (digits (suc more) number)
+some-digits more number =
+    by-size number
+    (λ h. omega (arith, length-digits-one more number h))
+    (λ h. omega (arith, length-digits-more more number h))
+
+digits-below : (more k number : ℕ) → number < 10 ^ suc k → length (digits more number) ≤ suc k
+unfolding digits
+digits-below zero k number h = omega arith
+digits-below (suc more) zero number h = omega (arith, length-digits-one more number (omega arith))
+digits-below (suc more) (suc k) number h =
+    by-size number
+    (λ l. omega (arith, length-digits-one more number l))
+    (λ l. omega (arith, length-digits-more more number l, digits-below more k (number / 10) (omega (arith, pow-suc 10 (suc k)))))
+
+-- A number below a power of ten has no more digits than the power has zeros.
+pub few-digits : (k number : ℕ) → number < 10 ^ suc k → length (decimal number) ≤ suc k
+unfolding decimal
+few-digits k number h = digits-below 20 k number h
+
+pub decimal-short : (number : ℕ) → number ≤ 65535 → length (decimal number) ≤ 5
+decimal-short number h = few-digits 4 number (omega arith)
+
+pub decimal-long : (number : ℕ) → length (decimal number) ≤ 20
+unfolding decimal
+decimal-long number = length-digits 20 number
+
+-- So many digits are passed, and those of what is left are still to be counted.
+pub record Counting (number count left : ℕ) : Type 0 where
+  pub some : 1 ≤ count
+  pub few : count ≤ 20
+  pub rest : length (decimal number) + 1 ≡ count + length (digits (21 - count) left)
+
+pub counting-starts : (number : ℕ) → Counting number 1 number
+unfolding decimal
+counting-starts number = record { some = omega arith; few = omega arith; rest = omega arith }
+
+module _ (number count left : ℕ) (c : Counting number count left) where
+  pub counting-ends : left < 10 → count ≡ length (decimal number)
+  counting-ends h =
+      let e : 21 - count ≡ suc (20 - count) = omega (arith, c .few) in
+      omega (arith, c .rest, ap (λ n. length (digits n left)) e, length-digits-one (20 - count) left h)
+
+  pub counting-goes : 10 ≤ left → count < 20 → Counting number (count + 1) (left / 10)
+  counting-goes h k =
+      let e : 21 - count ≡ suc (20 - count) = omega (arith, c .few) in
+      let f : 21 - (count + 1) ≡ 20 - count = omega arith in
+      record {
+        some = omega arith;
+        few = omega arith;
+        rest = rw f (omega (arith, c .rest, ap (λ n. length (digits n left)) e, length-digits-more (20 - count) left h));
+      }
+
+  pub counting-full : 20 ≤ count → count ≡ length (decimal number)
+  counting-full h =
+      let e : 21 - count ≡ 1 = omega (arith, c .few) in
+      omega (arith, c .rest, ap (λ n. length (digits n left)) e, some-digits 0 left, length-digits 1 left)
+
 -- As many digits as the number has are enough for it.
-pub digits-enough : (most number : ℕ) → digits (length (digits most number)) number ≡ digits most number
+digits-enough : (most number : ℕ) → digits (length (digits most number)) number ≡ digits most number
 unfolding digits
 digits-enough zero number = refl
-digits-enough (suc most) number = go (ltb number 10) refl (digits-enough most (number / 10))
-  where
-    go : (b : Bool) → ltb number 10 ≡ b
-        → digits (length (digits most (number / 10))) (number / 10) ≡ digits most (number / 10)
-        → digits (length (digits (suc most) number)) number ≡ digits (suc most) number
-    go true e same =
-        let h = ltb-true number 10 e in
-        ap (λ n. digits n number) (length-digits-one most number h) ∙ digits-one 0 number h ∙ sym (digits-one most number h)
-    go false e same =
-        let h = ltb-false number 10 e in
-        ap (λ n. digits n number) (length-digits-more most number h ∙ add-one (length (digits most (number / 10))))
-        ∙ digits-more (length (digits most (number / 10))) number h
-        ∙ ap (λ l. l ++ ((48 + number % 10) ∷ [])) same
-        ∙ sym (digits-more most number h)
+digits-enough (suc most) number =
+    by-size number
+    (λ h. ap (λ n. digits n number) (length-digits-one most number h) ∙ digits-one 0 number h ∙ sym (digits-one most number h))
+    (λ h.
+    ap (λ n. digits n number) (length-digits-more most number h ∙ add-one (length (digits most (number / 10))))
+    ∙ digits-more (length (digits most (number / 10))) number h
+    ∙ ap (λ l. l ++ ((48 + number % 10) ∷ [])) (digits-enough most (number / 10))
+    ∙ sym (digits-more most number h))
 
 pub no-digits : (number : ℕ) → digits 0 number ≡ []
 unfolding digits
@@ -55,76 +123,20 @@ no-digits number = refl
 digits-last : (more number : ℕ) → length (digits (suc more) number) ≡ suc more
     → (length (digits more (number / 10)) ≡ more)
     × (digits (suc more) number ≡ digits more (number / 10) ++ ((48 + number % 10) ∷ []))
-digits-last more number e = go (ltb number 10) refl more e
-  where
-    go : (b : Bool) → ltb number 10 ≡ b → (n : ℕ) → length (digits (suc n) number) ≡ suc n
-        → (length (digits n (number / 10)) ≡ n)
-        × (digits (suc n) number ≡ digits n (number / 10) ++ ((48 + number % 10) ∷ []))
-    go true f zero l =
-        rw (no-digits (number / 10)) (refl, digits-one 0 number (ltb-true number 10 f))
-    go true f (suc n) l = absurd (omega (arith, length-digits-one (suc n) number (ltb-true number 10 f)))
-    go false f n l =
-        let h = ltb-false number 10 f in
-        (omega (arith, length-digits-more n number h), digits-more n number h)
+digits-last more number e =
+    by-size number
+    (λ h.
+    let none : more ≡ 0 = omega (arith, length-digits-one more number h) in
+    rw none (rw (no-digits (number / 10)) (refl, digits-one 0 number h)))
+    (λ h. (omega (arith, length-digits-more more number h), digits-more more number h))
 
-pub one-asked : (number : ℕ) → length (digits 1 number) ≡ 1
-unfolding digits
-one-asked number = go (ltb number 10) refl
-  where
-    go : (b : Bool) → ltb number 10 ≡ b → length (digits 1 number) ≡ 1
-    go true e = length-digits-one 0 number (ltb-true number 10 e)
-    go false e = length-digits-more 0 number (ltb-false number 10 e)
-
-module _ (number : ℕ) where
-  pub one-digit : number < 10 → length (decimal number) ≡ 1
-  unfolding decimal
-  one-digit h = length-digits-one 4 number h
-
-  pub two-digits : 10 ≤ number → number < 100 → length (decimal number) ≡ 2
-  unfolding decimal
-  two-digits l h =
-      omega (arith, length-digits-more 4 number (omega arith), length-digits-one 3 (number / 10) (omega arith))
-
-  pub three-digits : 100 ≤ number → number < 1000 → length (decimal number) ≡ 3
-  unfolding decimal
-  three-digits l h =
-      omega (
-        arith,
-        length-digits-more 4 number (omega arith),
-        length-digits-more 3 (number / 10) (omega arith),
-        length-digits-one 2 (number / 10 / 10) (omega arith),
-      )
-
-  pub four-digits : 1000 ≤ number → number < 10000 → length (decimal number) ≡ 4
-  unfolding decimal
-  four-digits l h =
-      omega (
-        arith,
-        length-digits-more 4 number (omega arith),
-        length-digits-more 3 (number / 10) (omega arith),
-        length-digits-more 2 (number / 10 / 10) (omega arith),
-        length-digits-one 1 (number / 10 / 10 / 10) (omega arith),
-      )
-
-  pub five-digits : 10000 ≤ number → length (decimal number) ≡ 5
-  unfolding decimal
-  five-digits l =
-      omega (
-        arith,
-        length-digits-more 4 number (omega arith),
-        length-digits-more 3 (number / 10) (omega arith),
-        length-digits-more 2 (number / 10 / 10) (omega arith),
-        length-digits-more 1 (number / 10 / 10 / 10) (omega arith),
-        one-asked (number / 10 / 10 / 10 / 10),
-      )
-
--- Before the first digit is written.
-pub all-digits : (number : ℕ) (out : List ℕ) (count : ℕ) → count ≡ length (decimal number)
+-- Before the first digit is written all are left.
+pub all-left : (number : ℕ) (out : List ℕ) (count : ℕ) → count ≡ length (decimal number)
     → (length (digits count number) ≡ count) × (digits count number ++ drop count out ≡ written-at 0 (decimal number) out)
 unfolding decimal written-at
-all-digits number out count e =
-    let enough = digits-enough 5 number in
-    rw (e, enough, zero-add (length (digits 5 number))) (refl, refl)
+all-left number out count e =
+    let enough = digits-enough 20 number in
+    rw (e, enough, zero-add (length (digits 20 number))) (refl, refl)
 
 -- One digit put before those that are written.
 pub put-digit : (out : List ℕ) (at left : ℕ) → 0 < at → at ≤ length out → length (digits at left) ≡ at

@@ -5,7 +5,7 @@ use mathlib.Core.List.{List, [], _∷_, _++_, map}
 use Prim.Native.Nat.{ℕ, suc, _-_, _≤_}
 use native.Mathlib.Nat.{zero-add}
 use native.Mathlib.Omega.{arith}
-use borrow.Author.Tests.{eqb-true, ne-eqb, leb-true, le-leb}
+use borrow.Author.Tests.{eqb-true, leb-true, le-leb}
 use lib.Dec.{eqb, leb}
 use lib.ListN.{length, getD, take, drop, length-append}
 use lib.Seq.{take-at, ext-getD}
@@ -20,22 +20,14 @@ use Rattle.journal.specs.declared.merge_line.MergeLine.{MergeLine}
 use Rattle.journal.specs.declared.merge_line.Merge.the-variants.{Is as MergeIs, Broken as MergeBroken}
 use Rattle.journal.specs.Decimal.{is-digit, is-number, value, decimal}
 use Rattle.journal.specs.Fields.{fields, word, version, header-good, header-of, merge-good, merge-of-line, tabbed, header-text, merge-text}
-use Rattle.journal.proofs.Numerals.{digit-bounds}
-use Rattle.journal.proofs.DecimalRead.{value-decimal, decimal-numeral, decimal-is-number, decimal-value, parted}
+use Rattle.journal.proofs.DecimalRead.{decimal-without, value-decimal, decimal-is-number, decimal-value, parted}
 use Rattle.journal.specs.Reading.{numbers-good}
 use Rattle.journal.proofs.LineSaid.{merge-said}
 use Rattle.journal.proofs.Tabbed.{no-tab, tabbed-fields, fields-tabbed}
 
-digits-no-tab : (bytes : List ℕ) → every is-digit bytes ≡ true → every no-tab bytes ≡ true
-unfolding every no-tab
-digits-no-tab [] e = refl
-digits-no-tab (byte ∷ bytes) e =
-    let p = every-uncons is-digit byte bytes e in
-    let q = digit-bounds byte (p .0) in
-    rw (ne-eqb byte 9 (λ f. omega arith)) (digits-no-tab bytes (p .1))
-
-decimal-no-tab : (number : ℕ) → number ≤ 65535 → every no-tab (decimal number) ≡ true
-decimal-no-tab number h = digits-no-tab (decimal number) (decimal-numeral number h .digits)
+decimal-no-tab : (number : ℕ) → every no-tab (decimal number) ≡ true
+unfolding no-tab is-digit
+decimal-no-tab number = decimal-without 9 number refl
 
 -- Decimal texts of numbers that all fit.
 unfoldable fits : ℕ → Bool
@@ -44,7 +36,7 @@ fits number = leb number 65535
 module _ (numbers : List ℕ) (e : every fits numbers ≡ true) where
   decimals-no-tab : every (every no-tab) (map decimal numbers) ≡ true
   unfolding fits
-  decimals-no-tab = every-mapped fits (every no-tab) decimal (λ n f. decimal-no-tab n (leb-true n 65535 f)) numbers e
+  decimals-no-tab = every-mapped fits (every no-tab) decimal (λ n f. decimal-no-tab n) numbers e
 
   decimals-are-numbers : every is-number (map decimal numbers) ≡ true
   unfolding fits
@@ -70,7 +62,7 @@ module _ (modes terms : ℕ) (m : modes ≤ 65535) (t : terms ≤ 65535) where
   header-parts : fields (header-text modes terms) ≡ word ∷ (version ∷ (decimal modes ∷ (decimal terms ∷ [])))
   unfolding header-text every word version no-tab
   header-parts =
-      fields-line word (version ∷ (decimal modes ∷ (decimal terms ∷ []))) (rw (decimal-no-tab modes m, decimal-no-tab terms t))
+      fields-line word (version ∷ (decimal modes ∷ (decimal terms ∷ []))) (rw (decimal-no-tab modes, decimal-no-tab terms))
 
   -- A header that was written is read back.
   pub header-read : header-of (header-text modes terms) ≡ HeaderIs modes terms

@@ -36,6 +36,6 @@ unfoldable pub digits : ℕ → ℕ → List ℕ
 digits zero number = []
 digits (suc more) number = cond (ltb number 10) [] (digits more (number / 10)) ++ ((48 + number % 10) ∷ [])
 
--- A number as text.
+-- A number as text, of as many digits as it has; twenty hold any number of 64 bits.
 unfoldable pub decimal : ℕ → List ℕ
-decimal number = digits 5 number
+decimal number = digits 20 number

@@ -1,4 +1,5 @@
 // The journal: its text read, obeyed, written and looked up; a run resumed from it.
+pub mod decimals;
 pub mod header;
 pub mod lookup;
 pub mod merge_line;

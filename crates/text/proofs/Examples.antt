@@ -24,7 +24,6 @@ use Rattle.journal.specs.Writing.{line-of as journal-line, greedy-lines, new-te
 use Rattle.journal.specs.Resuming.{ending, with-journal, roomy, with-terms, resumed, hatt-run}
 use Rattle.text.specs.Input.{modes-word, term-word, modes-line, term-line, well-formed, formed-from, formed, term-row, whole, said}
 use Rattle.text.specs.Output.{
-  numeral,
   line-of,
   weight-word,
   trials-word,
@@ -96,5 +95,5 @@ examples =
     ∷ []
 
 pub examples-right : every right examples ≡ true
-unfolding examples right every keep leading some-of alike firsts firsts-after sum same occurrences listed ascends ascends-from least lighter rows-of term terms-of modes-good good-indices good-row good-rows checked weight-of term-weight odd-ones reduction rewriting sorted put-in replacement dropped next-parent among is-open z-end holder rows-after is-lawful three-open paired named entities pairs-with lawful-pairs weight-in candidates least-of chosen greedy finished run-weight trials merge-of code absent-leaf children walk rows-for flatpack is-digit value-after value leads-well is-number digits decimal fields-after fields word version header-text merge-text tabbed lines-after lines kept-of obeyed-texts obeyed journal-line greedy-lines new-text ending with-journal roomy with-terms resumed hatt-run modes-word term-word modes-line term-line well-formed formed-from formed term-row whole said numeral line-of weight-word trials-word node-word refused-word code-text node-line node-lines refusal-text printed answered answer-text flatMap
+unfolding examples right every keep leading some-of alike firsts firsts-after sum same occurrences listed ascends ascends-from least lighter rows-of term terms-of modes-good good-indices good-row good-rows checked weight-of term-weight odd-ones reduction rewriting sorted put-in replacement dropped next-parent among is-open z-end holder rows-after is-lawful three-open paired named entities pairs-with lawful-pairs weight-in candidates least-of chosen greedy finished run-weight trials merge-of code absent-leaf children walk rows-for flatpack is-digit value-after value leads-well is-number digits decimal fields-after fields word version header-text merge-text tabbed lines-after lines kept-of obeyed-texts obeyed journal-line greedy-lines new-text ending with-journal roomy with-terms resumed hatt-run modes-word term-word modes-line term-line well-formed formed-from formed term-row whole said line-of weight-word trials-word node-word refused-word code-text node-line node-lines refusal-text printed answered answer-text flatMap
 examples-right = refl

@@ -1,6 +1,5 @@
 -- The laws of the program's text.
 pub mod Examples
-pub mod Numerals
 pub mod Written
 pub mod PrintedLines
 pub mod FieldsCounted

@@ -13,7 +13,8 @@ use Rattle.refusal.specs.Numbers.{numberOf, placeOf}
 use Rattle.terms.specs.Rows.{rows-of}
 use Rattle.terms.proofs.RowSteps.{rows-more}
 use Rattle.journal.specs.Fields.{tabbed}
-use Rattle.text.specs.Output.{numeral, line-of, weight-word, trials-word, node-word, refused-word, code-text, node-line, node-lines, refusal-text}
+use Rattle.journal.specs.Decimal.{decimal}
+use Rattle.text.specs.Output.{line-of, weight-word, trials-word, node-word, refused-word, code-text, node-line, node-lines, refusal-text}
 use Rattle.text.specs.Printing.{done-text}
 
 -- A part was written at a place, and this is the place after it.
@@ -51,7 +52,7 @@ pub code-absent : (code : ℕ) → code ≡ 65535 → code-text code ≡ 45 ∷ 
 unfolding code-text
 code-absent code e = rw (eq-eqb code 65535 e)
 
-pub code-number : (code : ℕ) → (code ≡ 65535 → ⊥) → code-text code ≡ numeral code
+pub code-number : (code : ℕ) → (code ≡ 65535 → ⊥) → code-text code ≡ decimal code
 unfolding code-text
 code-number code e = rw (ne-eqb code 65535 e)
 
@@ -82,13 +83,13 @@ node-parts row e =
 
 -- A refusal's line: its word, number and place.
 pub refusal-parts : (refusal : Refusal)
-    → (((refused-word ++ (9 ∷ [])) ++ (numeral (numberOf refusal) ++ (9 ∷ []))) ++ (numeral (placeOf refusal) ++ (10 ∷ []))) ≡ refusal-text refusal
+    → (((refused-word ++ (9 ∷ [])) ++ (decimal (numberOf refusal) ++ (9 ∷ []))) ++ (decimal (placeOf refusal) ++ (10 ∷ []))) ≡ refusal-text refusal
 unfolding refusal-text line-of tabbed
 refusal-parts refusal = simp append-assoc
 
 -- What a run prints: two lines of one number each, and the lines of its rows.
 pub done-parts : (weight trials : ℕ) (rows : List ℕ)
-    → ((((weight-word ++ (9 ∷ [])) ++ (numeral weight ++ (10 ∷ []))) ++ ((trials-word ++ (9 ∷ [])) ++ (numeral trials ++ (10 ∷ [])))) ++ node-lines rows)
+    → ((((weight-word ++ (9 ∷ [])) ++ (decimal weight ++ (10 ∷ []))) ++ ((trials-word ++ (9 ∷ [])) ++ (decimal trials ++ (10 ∷ [])))) ++ node-lines rows)
     ≡ done-text weight trials rows
 unfolding done-text line-of tabbed
 done-parts weight trials rows = simp append-assoc
@@ -144,17 +145,17 @@ module _ (row before : List ℕ) (at : ℕ) (size : length row ≡ 4) (room : at
 -- A refusal's line, part by part.
 pub refusal-wrote : (refusal : Refusal) (number place : ℕ) → number ≡ numberOf refusal → place ≡ placeOf refusal
     → (before : List ℕ) → 50 ≤ length before → {s1 s2 s3 : List ℕ} {e1 e2 e3 : ℕ}
-    → Wrote 0 (refused-word ++ (9 ∷ [])) before s1 e1 → Wrote e1 (numeral number ++ (9 ∷ [])) s1 s2 e2
-    → Wrote e2 (numeral place ++ (10 ∷ [])) s2 s3 e3 → e3 ≤ 50 → Wrote 0 (refusal-text refusal) before s3 e3
+    → Wrote 0 (refused-word ++ (9 ∷ [])) before s1 e1 → Wrote e1 (decimal number ++ (9 ∷ [])) s1 s2 e2
+    → Wrote e2 (decimal place ++ (10 ∷ [])) s2 s3 e3 → e3 ≤ 50 → Wrote 0 (refusal-text refusal) before s3 e3
 refusal-wrote refusal number place n p before room a b c h =
-    let parts : (((refused-word ++ (9 ∷ [])) ++ (numeral number ++ (9 ∷ []))) ++ (numeral place ++ (10 ∷ []))) ≡ refusal-text refusal =
+    let parts : (((refused-word ++ (9 ∷ [])) ++ (decimal number ++ (9 ∷ []))) ++ (decimal place ++ (10 ∷ []))) ≡ refusal-text refusal =
     rw (n, p) (refusal-parts refusal) in
     rw (← parts) (then-wrote (then-wrote a b (omega (arith, b .behind, c .behind))) c (omega (arith, c .behind)))
 
 -- What a run prints, part by part.
 pub done-wrote : (weight trials : ℕ) (rows before : List ℕ) → {s1 s2 s3 : List ℕ} {e1 e2 e3 : ℕ}
-    → Wrote 0 ((weight-word ++ (9 ∷ [])) ++ (numeral weight ++ (10 ∷ []))) before s1 e1
-    → Wrote e1 ((trials-word ++ (9 ∷ [])) ++ (numeral trials ++ (10 ∷ []))) s1 s2 e2
+    → Wrote 0 ((weight-word ++ (9 ∷ [])) ++ (decimal weight ++ (10 ∷ []))) before s1 e1
+    → Wrote e1 ((trials-word ++ (9 ∷ [])) ++ (decimal trials ++ (10 ∷ []))) s1 s2 e2
     → Wrote e2 (node-lines rows) s2 s3 e3 → e2 ≤ length before → Wrote 0 (done-text weight trials rows) before s3 e3
 done-wrote weight trials rows before a b c h =
     rw (← done-parts weight trials rows) (then-wrote (then-wrote a b (omega (arith, b .behind))) c h)

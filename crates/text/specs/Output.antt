@@ -8,14 +8,10 @@ use Rattle.refusal.specs.declared.Refusal.{Refusal}
 use Rattle.refusal.specs.declared.Refusal.the-variants.{Malformed}
 use Rattle.refusal.specs.Numbers.{numberOf, placeOf}
 use Rattle.terms.specs.Rows.{rows-of}
-use Rattle.journal.specs.Decimal.{digits}
+use Rattle.journal.specs.Decimal.{decimal}
 use Rattle.journal.specs.Fields.{tabbed}
 use Rattle.journal.specs.Resuming.{Outcome, done, refuses, hatt-run}
 use Rattle.text.specs.Input.{Said, given, malformed, said}
-
--- A number as text, of so many digits as it has, twenty at most.
-unfoldable pub numeral : ℕ → List ℕ
-numeral number = digits 20 number
 
 -- A line: fields parted by tabs, and LF.
 unfoldable pub line-of : List (List ℕ) → List ℕ
@@ -36,7 +32,7 @@ refused-word = 114 ∷ (101 ∷ (102 ∷ (117 ∷ (115 ∷ (101 ∷ (100 ∷ [])
 
 -- "65535 for the one absent child. Text writes "-" for it."
 unfoldable pub code-text : ℕ → List ℕ
-code-text code = cond (eqb code 65535) (45 ∷ []) (numeral code)
+code-text code = cond (eqb code 65535) (45 ∷ []) (decimal code)
 
 -- The line of one row: label, X, Y, Z.
 unfoldable pub node-line : List ℕ → List ℕ
@@ -48,13 +44,13 @@ node-lines rows = flatMap node-line (rows-of 4 (length rows / 4) rows)
 
 -- "A refusal prints `refused`, number, place."
 unfoldable pub refusal-text : Refusal → List ℕ
-refusal-text refusal = line-of (refused-word ∷ (numeral (numberOf refusal) ∷ (numeral (placeOf refusal) ∷ [])))
+refusal-text refusal = line-of (refused-word ∷ (decimal (numberOf refusal) ∷ (decimal (placeOf refusal) ∷ [])))
 
 -- What a call's outcome prints as.
 unfoldable pub printed : Outcome → List ℕ
 printed (done ending) =
-    line-of (weight-word ∷ (numeral (ending .weight) ∷ []))
-    ++ (line-of (trials-word ∷ (numeral (ending .trials) ∷ [])) ++ node-lines (ending .rows))
+    line-of (weight-word ∷ (decimal (ending .weight) ∷ []))
+    ++ (line-of (trials-word ∷ (decimal (ending .trials) ∷ [])) ++ node-lines (ending .rows))
 printed (refuses refusal) = refusal-text refusal
 
 -- 18 is "before any other number".

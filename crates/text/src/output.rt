@@ -1,63 +1,14 @@
 // The program's answer as it is printed, every part written at a place of a lent buffer.
 ghost use mathlib.Core.Path.{_≡_};
 ghost use mathlib.Core.List.{[], _∷_, _++_};
-ghost use Prim.Native.Nat.{_+_, _*_, _/_, _%_, _≤_};
+ghost use Prim.Native.Nat.{_+_, _*_, _/_, _≤_};
 ghost use lib.ListN.{length};
 ghost use Rattle.lists.specs.Written.{«written-at»};
-ghost use Rattle.text.specs.Output.{numeral, «code-text», «node-line», «node-lines», «refusal-text»};
+ghost use Rattle.journal.specs.Decimal.{decimal};
+ghost use Rattle.text.specs.Output.{«code-text», «node-line», «node-lines», «refusal-text»};
 ghost use Rattle.text.specs.Printing.{«done-text»};
+use journal::decimals;
 use refusal::Refusal;
-
-// How many digits the number has.
-fn numeral_length(number: u64) -> usize
-    ensures { λ r. ⌜ (r ≡ length (numeral number)) × (r ≤ 20) ⌝ }
-{
-    let mut count = 1;
-    let mut left = number;
-    while count < 20 {
-        if left < 10 {
-            return count;
-        }
-        left = left / 10;
-        count += 1;
-    }
-    count
-}
-
-// The number's last digit as a byte.
-fn last_digit(number: u64) -> u8
-    ensures { λ r. ⌜ r ≡ 48 + number % 10 ⌝ }
-{
-    48 + (number % 10) as u8
-}
-
-// The number written over the front, from its last digit back; how many bytes that is.
-fn put_numeral(out: &mut [u8], number: u64) -> usize
-    requires { ⌜ length (numeral number) ≤ length (now out) ⌝ }
-    ensures { λ r. ⌜ (r ≡ length (numeral number)) × (r ≤ 20) ⌝ }
-    ensures { λ r. ⌜ now (out .exit) ≡ written-at 0 (numeral number) (now (out .entry)) ⌝ }
-{
-    let count = numeral_length(number);
-    let mut left = number;
-    let mut at = count;
-    while 0 < at {
-        at -= 1;
-        out[at] = last_digit(left);
-        left = left / 10;
-    }
-    count
-}
-
-// The number and the byte behind it written at this place; the place after them.
-fn put_field(out: &mut [u8], at: usize, number: u64, mark: u8) -> usize
-    requires { ⌜ at + (length (numeral number) + 1) ≤ length (now out) ⌝ }
-    ensures { λ r. ⌜ r ≡ at + (length (numeral number) + 1) ⌝ }
-    ensures { λ r. ⌜ now (out .exit) ≡ written-at at (numeral number ++ (mark ∷ [])) (now (out .entry)) ⌝ }
-{
-    let end = at + put_numeral(&mut out[at..], number);
-    out[end] = mark;
-    end + 1
-}
 
 // The bytes written at this place; the place after them.
 fn put_bytes(out: &mut [u8], at: usize, bytes: &[u8]) -> usize
@@ -82,7 +33,7 @@ fn put_code(out: &mut [u8], at: usize, code: u16, mark: u8) -> usize
     if code == 65535 {
         return put_bytes(out, at, &[b'-', mark]);
     }
-    put_field(out, at, code as u64, mark)
+    decimals::put_field(out, at, code as u64, mark)
 }
 
 // A row's line written at this place; the place after it.
@@ -119,11 +70,11 @@ fn put_nodes(out: &mut [u8], start: usize, rows: &[u16]) -> usize
 // A word with its tab, a number and LF written at this place; the place after them.
 fn put_value(out: &mut [u8], at: usize, word: &[u8], number: u64) -> usize
     requires { ⌜ at + (length (now word) + 21) ≤ length (now out) ⌝ }
-    ensures { λ r. ⌜ (r ≡ at + length (now (word .entry) ++ (numeral number ++ (10 ∷ [])))) × (r ≤ at + (length (now (word .entry)) + 21)) ⌝ }
-    ensures { λ r. ⌜ now (out .exit) ≡ written-at at (now (word .entry) ++ (numeral number ++ (10 ∷ []))) (now (out .entry)) ⌝ }
+    ensures { λ r. ⌜ (r ≡ at + length (now (word .entry) ++ (decimal number ++ (10 ∷ [])))) × (r ≤ at + (length (now (word .entry)) + 21)) ⌝ }
+    ensures { λ r. ⌜ now (out .exit) ≡ written-at at (now (word .entry) ++ (decimal number ++ (10 ∷ []))) (now (out .entry)) ⌝ }
 {
     let end = put_bytes(out, at, word);
-    put_field(out, end, number, 10)
+    decimals::put_field(out, end, number, 10)
 }
 
 // A refusal written over the front; how many bytes that is.
@@ -135,8 +86,8 @@ pub fn put_refusal(out: &mut [u8], refusal: Refusal) -> usize
     let number = refusal::number(refusal) as u64;
     let place = refusal::place(refusal) as u64;
     let word = put_bytes(out, 0, b"refused\t");
-    let end = put_field(out, word, number, 9);
-    put_field(out, end, place, 10)
+    let end = decimals::put_field(out, word, number, 9);
+    decimals::put_field(out, end, place, 10)
 }
 
 // What a run came to written over the front; how many bytes that is.

@@ -1,7 +1,7 @@
 -- The absent child is one byte, any other code its digits, and the mark stands behind.
 use native.Mathlib.Omega.{arith}
 use borrow.Author.Needs.{needs}
-use Rattle.text.proofs.Numerals.{numeral-short}
+use Rattle.journal.proofs.Digits.{decimal-short}
 use Rattle.text.proofs.PrintedLines.{code-absent, code-number}
 use Rattle.text.proofs.output.put_code.Statement.{statement}
 use Rattle.text.proofs.output.put_code.Tie as tie
@@ -24,7 +24,7 @@ returns c =
 put-field-requires : tie.Need-put-field-requires
 put-field-requires c κs =
     let start = c .before .before .before in
-    omega (arith, numeral-short (start .args .code) (omega arith))
+    omega (arith, decimal-short (start .args .code) (omega arith))
 
 same-length-2 : tie.Need-same-length-2
 same-length-2 c = search needs
@@ -33,7 +33,7 @@ returns-2 : tie.Need-returns-2
 returns-2 c =
     let start = c .before .before .before .before .before .before in
     let put = c .before .before .put-field .ensures in
-    let short = numeral-short (start .args .code) (omega arith) in
+    let short = decimal-short (start .args .code) (omega arith) in
     rw (code-number (start .args .code) (c .before .before .before .before .if1 .left)) ((put .0, omega (arith, put .0)), put .1)
 
 pub put-code-spec : {M : Type 1} → statement M

@@ -1,8 +1,9 @@
 -- The word, the number and the place, each behind what is before it.
 use native.Mathlib.Omega.{arith}
 use borrow.Author.Needs.{needs}
-use Rattle.text.specs.Output.{numeral, refused-word}
-use Rattle.text.proofs.Numerals.{numeral-long}
+use Rattle.journal.specs.Decimal.{decimal}
+use Rattle.text.specs.Output.{refused-word}
+use Rattle.journal.proofs.Digits.{decimal-long}
 use Rattle.text.proofs.PrintedLines.{Wrote, field-wrote, refusal-wrote}
 use Rattle.text.proofs.output.put_refusal.Statement.{statement}
 use Rattle.text.proofs.output.put_refusal.Tie as tie
@@ -23,13 +24,13 @@ put-field-requires : tie.Need-put-field-requires
 put-field-requires c κs =
     let start = c .before .before .before .before .before .before .before .before .before in
     let put = c .before .before .before .put-bytes in
-    omega (arith, numeral-long (c .before .before .before .before .before .before .before .number .result), put .ensures .0, put .kept)
+    omega (arith, decimal-long (c .before .before .before .before .before .before .before .number .result), put .ensures .0, put .kept)
 
 put-field-requires-2 : tie.Need-put-field-requires-2
 put-field-requires-2 c κs =
     let first = c .before .before .before .before .before .before .before .put-bytes in
     let second = c .before .before .before .put-field in
-    omega (arith, numeral-long (c .before .before .before .before .before .before .before .before .before .before .before .number .result), numeral-long (c .before .before .before .before .before .before .before .before .before .before .place .result), first .ensures .0, first .kept, second .ensures .0, second .kept)
+    omega (arith, decimal-long (c .before .before .before .before .before .before .before .before .before .before .before .number .result), decimal-long (c .before .before .before .before .before .before .before .before .before .before .place .result), first .ensures .0, first .kept, second .ensures .0, second .kept)
 
 same-length : tie.Need-same-length
 same-length c = search needs
@@ -43,10 +44,10 @@ returns c =
     let first = c .before .before .before .before .before .before .before .before .before .before .put-bytes .ensures in
     let second = c .before .before .before .before .before .before .put-field .ensures in
     let third = c .before .before .put-field2 .ensures in
-    let short = numeral-long (number .result) in
-    let near = numeral-long (place .result) in
+    let short = decimal-long (number .result) in
+    let near = decimal-long (place .result) in
     let all = refusal-wrote (start .args .refusal) (number .result) (place .result) (number .ensures) (place .ensures) (start .args .out .now) (start .pre) (record { behind = first .0; written = first .1 })
-    (field-wrote (numeral (number .result)) 9 (second .0) (second .1)) (field-wrote (numeral (place .result)) 10 (third .0) (third .1)) (omega arith) in
+    (field-wrote (decimal (number .result)) 9 (second .0) (second .1)) (field-wrote (decimal (place .result)) 10 (third .0) (third .1)) (omega arith) in
     ((omega (arith, all .behind), omega arith), all .written)
 
 pub put-refusal-spec : {M : Type 1} → statement M

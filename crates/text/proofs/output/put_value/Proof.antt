@@ -1,8 +1,8 @@
 -- The number is written behind the word.
 use native.Mathlib.Omega.{arith}
 use borrow.Author.Needs.{needs}
-use Rattle.text.specs.Output.{numeral}
-use Rattle.text.proofs.Numerals.{numeral-long}
+use Rattle.journal.specs.Decimal.{decimal}
+use Rattle.journal.proofs.Digits.{decimal-long}
 use Rattle.text.proofs.PrintedLines.{Wrote, then-wrote, field-wrote}
 use Rattle.text.proofs.output.put_value.Statement.{statement}
 use Rattle.text.proofs.output.put_value.Tie as tie
@@ -14,7 +14,7 @@ put-field-requires : tie.Need-put-field-requires
 put-field-requires c κs =
     let start = c .before .before .before .before .before .before .before in
     let put = c .before .before .before .put-bytes in
-    omega (arith, numeral-long (start .args .number), put .ensures .0, put .kept)
+    omega (arith, decimal-long (start .args .number), put .ensures .0, put .kept)
 
 same-length : tie.Need-same-length
 same-length c = search needs
@@ -24,8 +24,8 @@ returns c =
     let start = c .before .before .before .before .before .before .before .before .before .before in
     let first = c .before .before .before .before .before .before .put-bytes .ensures in
     let second = c .before .before .put-field .ensures in
-    let long = numeral-long (start .args .number) in
-    let both = then-wrote (record { behind = first .0; written = first .1 }) (field-wrote (numeral (start .args .number)) 10 (second .0) (second .1)) (omega arith) in
+    let long = decimal-long (start .args .number) in
+    let both = then-wrote (record { behind = first .0; written = first .1 }) (field-wrote (decimal (start .args .number)) 10 (second .0) (second .1)) (omega arith) in
     ((both .behind, omega arith), both .written)
 
 pub put-value-spec : {M : Type 1} → statement M

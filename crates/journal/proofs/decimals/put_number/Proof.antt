@@ -6,30 +6,28 @@ use native.Mathlib.Omega.{arith}
 use borrow.Author.Needs.{needs}
 use lib.ListN.{length, drop, length-set}
 use Rattle.lists.specs.Written.{written-at}
-use Rattle.journal.specs.Decimal.{digits}
-use Rattle.journal.proofs.Digits.{put-digit, no-digits}
-use Rattle.text.specs.Output.{numeral}
-use Rattle.text.proofs.Numerals.{all-digits}
-use Rattle.text.proofs.output.put_numeral.Statement.{statement}
-use Rattle.text.proofs.output.put_numeral.Tie as tie
+use Rattle.journal.specs.Decimal.{digits, decimal}
+use Rattle.journal.proofs.Digits.{all-left, put-digit, no-digits}
+use Rattle.journal.proofs.decimals.put_number.Statement.{statement}
+use Rattle.journal.proofs.decimals.put_number.Tie as tie
 
 abbrev Inv-loop : tie.InvT-loop
 Inv-loop out₀ number count left₀ at₀ out left at =
     (at ≤ count)
     × (length out ≡ length out₀)
     × (length (digits at left) ≡ at)
-    × (digits at left ++ drop at out ≡ written-at 0 (numeral number) out₀)
+    × (digits at left ++ drop at out ≡ written-at 0 (decimal number) out₀)
 
 abbrev μ-loop : tie.MeasureT-loop
 μ-loop out₀ number count left₀ at₀ out left at = at
 
-numeral-length-requires : tie.Need-numeral-length-requires Inv-loop μ-loop
-numeral-length-requires c κs = search needs
+digit-count-requires : tie.Need-digit-count-requires Inv-loop μ-loop
+digit-count-requires c κs = search needs
 
 loop-holds : tie.Need-loop-holds Inv-loop μ-loop
 loop-holds c =
     let args = c .before .before .args in
-    let start = all-digits (args .number) (args .out .now) (c .numeral-length .result) (c .numeral-length .ensures .0) in
+    let start = all-left (args .number) (args .out .now) (c .digit-count .result) (c .digit-count .ensures .0) in
     (omega arith, omega arith, start .0, start .1)
 
 sub-at : tie.Need-sub-at Inv-loop μ-loop
@@ -64,15 +62,15 @@ returns : tie.Need-returns Inv-loop μ-loop
 returns c =
     let here = c .before in
     let none : here .loop .at ≡ 0 = omega arith in
-    (here .before .numeral-length .ensures, rw (none, no-digits) at (here .loop .inv .3))
+    (here .before .digit-count .ensures, rw (none, no-digits) at (here .loop .inv .3))
 
-pub put-numeral-spec : {M : Type 1} → statement M
-put-numeral-spec =
+pub put-number-spec : {M : Type 1} → statement M
+put-number-spec =
     tie.close
     (tie.spec
     Inv-loop
     μ-loop
-    numeral-length-requires
+    digit-count-requires
     loop-holds
     sub-at
     last-digit-requires

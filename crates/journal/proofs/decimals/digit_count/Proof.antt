@@ -2,9 +2,9 @@
 use Prim.Native.Nat.{_-_}
 use native.Mathlib.Omega.{arith}
 use borrow.Author.Needs.{needs}
-use Rattle.text.proofs.Numerals.{Counting, counting-starts, counting-ends, counting-goes, counting-full}
-use Rattle.text.proofs.output.numeral_length.Statement.{statement}
-use Rattle.text.proofs.output.numeral_length.Tie as tie
+use Rattle.journal.proofs.Digits.{Counting, counting-starts, counting-ends, counting-goes, counting-full}
+use Rattle.journal.proofs.decimals.digit_count.Statement.{statement}
+use Rattle.journal.proofs.decimals.digit_count.Tie as tie
 
 abbrev Inv-loop : tie.InvT-loop
 Inv-loop number count₀ left₀ count left = Counting number count left
@@ -36,7 +36,7 @@ returns-2 c =
     let here = c .before in
     (counting-full _ _ _ (here .loop .inv) (omega arith), omega (arith, here .loop .inv .few))
 
-pub numeral-length-spec : {M : Type 1} → statement M
-numeral-length-spec =
+pub digit-count-spec : {M : Type 1} → statement M
+digit-count-spec =
     tie.close
     (tie.spec Inv-loop μ-loop loop-holds returns add-count loop-less loop-again returns-2)
