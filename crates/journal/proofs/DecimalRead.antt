@@ -79,10 +79,14 @@ leads-digits more number h =
     (λ l. rw (digits-one more number l))
     (λ l. leads-unless (digits (suc more) number) (first-digit (suc more) number (omega arith) h))
 
+-- Twenty digits hold any number of 64 bits.
+pub value-decimal-long : (number : ℕ) → number < 18446744073709551616 → value (decimal number) ≡ number
+unfolding decimal
+value-decimal-long number h = value-digits 20 number (omega arith)
+
 module _ (number : ℕ) (h : number ≤ 65535) where
   pub value-decimal : value (decimal number) ≡ number
-  unfolding decimal
-  value-decimal = value-digits 20 number (omega arith)
+  value-decimal = value-decimal-long number (omega arith)
 
   decimal-numeral : Numeral (decimal number)
   unfolding decimal

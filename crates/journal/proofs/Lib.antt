@@ -7,6 +7,7 @@ pub mod NumbersAhead
 pub mod LineSaid
 pub mod Tabbed
 pub mod Digits
+pub mod PuttingBytes
 pub mod Texts
 pub mod LineSteps
 pub mod LinesJoined

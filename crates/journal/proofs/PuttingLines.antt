@@ -1,5 +1,5 @@
 -- Lines put one behind the other: what stands in the buffer after some of them, and the room for the next.
-use mathlib.Core.Path.{_≡_, refl, ap, _∙_, sym}
+use mathlib.Core.Path.{_≡_, ap, _∙_}
 use mathlib.Core.List.{List, [], _++_}
 use Prim.Native.Nat.{ℕ, zero, suc, _+_, _-_, _<_, _≤_}
 use native.Mathlib.Nat.{add-zero}
@@ -7,7 +7,7 @@ use native.Mathlib.Omega.{arith}
 use lib.ListN.{length, length-append}
 use Rattle.lists.specs.Written.{written-at}
 use Rattle.lists.proofs.Written.{length-written}
-use Rattle.lists.proofs.Behind.{written-behind, nothing-written}
+use Rattle.lists.proofs.Behind.{Wrote, wrote-none, then-wrote}
 use Rattle.merging.specs.declared.run.Run.{Run}
 use Rattle.journal.specs.NewLines.{noted-line, noted-text}
 use Rattle.journal.proofs.NotedLines.{noted-none, noted-more}
@@ -25,8 +25,7 @@ longer run from j (suc more) =
 pub record Putting (run : Run) (from start : ℕ) (before after : List ℕ) (at step : ℕ) : Type 0 where
   pub begun : from ≤ step
   pub inside : step ≤ run .modes
-  pub place : at ≡ start + length (noted-text run from (step - from))
-  pub written : after ≡ written-at start (noted-text run from (step - from)) before
+  pub wrote : Wrote start (noted-text run from (step - from)) before after at
 
 module _ (run : Run) (from start : ℕ) (before : List ℕ) (room : start + length (noted-text run from (run .modes - from)) ≤ length before) where
   pub putting-starts : from ≤ run .modes → Putting run from start before before start from
@@ -35,8 +34,7 @@ module _ (run : Run) (from start : ℕ) (before : List ℕ) (room : start + leng
       record {
         begun = omega arith;
         inside = h;
-        place = rw none-yet (omega arith);
-        written = rw none-yet (sym (nothing-written start before));
+        wrote = rw none-yet (wrote-none start before);
       }
 
   module _ (after : List ℕ) (at step : ℕ) (so-far : Putting run from start before after at step) where
@@ -46,7 +44,7 @@ module _ (run : Run) (from start : ℕ) (before : List ℕ) (room : start + leng
         omega (arith, room, ap (λ n. length (noted-text run from n)) e, longer run from (step - from) (run .modes - step))
 
     pub putting-length : length after ≡ length before
-    putting-length = rw (so-far .written) (length-written start (noted-text run from (step - from)) before fits)
+    putting-length = rw (so-far .wrote .written) (length-written start (noted-text run from (step - from)) before fits)
 
     -- One line more.
     grown : noted-text run from (suc step - from) ≡ noted-text run from (step - from) ++ noted-line run step
@@ -65,7 +63,7 @@ module _ (run : Run) (from start : ℕ) (before : List ℕ) (room : start + leng
           arith,
           room,
           putting-length,
-          so-far .place,
+          so-far .wrote .behind,
           grown-length,
           ap (λ n. length (noted-text run from n)) e,
           longer run from (suc step - from) (run .modes - suc step),
@@ -79,19 +77,13 @@ module _ (run : Run) (from start : ℕ) (before : List ℕ) (room : start + leng
         (record {
           begun = omega (arith, so-far .begun);
           inside = h;
-          place = omega (arith, placed, so-far .place, grown-length);
-          written =
-              put
-              ∙ ap (λ n. written-at n (noted-line run step) after) (so-far .place)
-              ∙ ap (written-at (start + length (noted-text run from (step - from))) (noted-line run step)) (so-far .written)
-              ∙ written-behind start (noted-text run from (step - from)) (noted-line run step) before fits
-              ∙ ap (λ part. written-at start part before) (sym grown);
+          wrote = rw grown (then-wrote (so-far .wrote) (record { behind = placed; written = put }) (omega (arith, fits, so-far .wrote .behind)));
         })
 
     pub putting-ends : run .modes ≤ step
         → (at ≡ start + length (noted-text run from (run .modes - from))) × (after ≡ written-at start (noted-text run from (run .modes - from)) before)
     putting-ends h =
         let all : step - from ≡ run .modes - from = omega (arith, so-far .inside) in (
-          so-far .place ∙ ap (λ n. start + length (noted-text run from n)) all,
-          so-far .written ∙ ap (λ n. written-at start (noted-text run from n) before) all,
+          so-far .wrote .behind ∙ ap (λ n. start + length (noted-text run from n)) all,
+          so-far .wrote .written ∙ ap (λ n. written-at start (noted-text run from n) before) all,
         )

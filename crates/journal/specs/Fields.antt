@@ -61,10 +61,6 @@ tabbed [] = []
 tabbed (field ∷ []) = field
 tabbed (field ∷ (next ∷ rest)) = field ++ (9 ∷ tabbed (next ∷ rest))
 
--- What every header begins with.
-unfoldable pub header-front : List ℕ
-header-front = word ++ (9 ∷ (version ++ (9 ∷ [])))
-
 -- The header as it is written.
 unfoldable pub header-text : ℕ → ℕ → List ℕ
 header-text modes terms = tabbed (word ∷ (version ∷ (decimal modes ∷ (decimal terms ∷ [])))) ++ (10 ∷ [])

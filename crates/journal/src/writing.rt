@@ -1,11 +1,25 @@
-// The journal's lines as they are written, from the front of what is left of the buffer.
+// Bytes written at a place of a buffer, and the journal's lines as they are written over its front.
 ghost use mathlib.Core.Path.{_≡_};
-ghost use Prim.Native.Nat.{_≤_};
+ghost use Prim.Native.Nat.{_+_, _≤_};
 ghost use lib.ListN.{length};
 ghost use Rattle.lists.specs.Written.{«written-at»};
-ghost use Rattle.journal.specs.Fields.{«header-front», «header-text», «merge-text»};
+ghost use Rattle.journal.specs.Fields.{«header-text», «merge-text»};
 use crate::decimals;
 use terms::row::Triple;
+
+// The bytes written at this place; the place after them.
+pub fn put_bytes(out: &mut [u8], at: usize, bytes: &[u8]) -> usize
+    requires { ⌜ at + length (now bytes) ≤ length (now out) ⌝ }
+    ensures { λ r. ⌜ r ≡ at + length (now (bytes .entry)) ⌝ }
+    ensures { λ r. ⌜ now (out .exit) ≡ written-at at (now (bytes .entry)) (now (out .entry)) ⌝ }
+{
+    let mut done = 0;
+    while done < bytes.len() {
+        out[at + done] = bytes[done];
+        done += 1;
+    }
+    at + done
+}
 
 // The merge line written over the front; how many bytes it has.
 pub fn put_merge(out: &mut [u8], step: u16, triple: Triple, weight: u16) -> usize
@@ -20,27 +34,13 @@ pub fn put_merge(out: &mut [u8], step: u16, triple: Triple, weight: u16) -> usiz
     decimals::put_field(out, at, weight as u64, 10)
 }
 
-// The word, the version and the tabs behind them written over the front.
-fn put_header_front(out: &mut [u8])
-    requires { ⌜ 7 ≤ length (now out) ⌝ }
-    ensures { λ r. ⌜ now (out .exit) ≡ written-at 0 header-front (now (out .entry)) ⌝ }
-{
-    out[0] = b'h';
-    out[1] = b'a';
-    out[2] = b't';
-    out[3] = b't';
-    out[4] = 9;
-    out[5] = b'1';
-    out[6] = 9;
-}
-
 // The header written over the front; how many bytes it has.
 pub fn put_header(out: &mut [u8], modes: u16, terms: u16) -> usize
     requires { ⌜ length (header-text modes terms) ≤ length (now out) ⌝ }
     ensures { λ r. ⌜ r ≡ length (header-text modes terms) ⌝ }
     ensures { λ r. ⌜ now (out .exit) ≡ written-at 0 (header-text modes terms) (now (out .entry)) ⌝ }
 {
-    put_header_front(out);
-    let at = decimals::put_field(out, 7, modes as u64, 9);
+    let front = put_bytes(out, 0, b"hatt\t1\t");
+    let at = decimals::put_field(out, front, modes as u64, 9);
     decimals::put_field(out, at, terms as u64, 10)
 }

@@ -7,7 +7,7 @@ use native.Mathlib.Numerals.{add-one}
 use native.Mathlib.Omega.{arith}
 use borrow.Rule.Slice.PartMut.{putMid}
 use lib.ListN.{length, set, take, drop, length-append, length-drop, drop-of-length-le, take-append-drop}
-use lib.Seq.{set-split, sets, sets-eq, drop-drop, drop-append-add, take-at, length-take-le}
+use lib.Seq.{set-split, drop-drop, drop-append-add, take-at, length-take-le}
 use Rattle.lists.specs.Written.{written-at}
 use Rattle.lists.proofs.Written.{length-written, drop-written}
 use Rattle.lists.proofs.Steps.{part-to-end}
@@ -20,11 +20,6 @@ module _ {A : Type 0} where
   pub nothing-written : (place : ℕ) (s : List A) → written-at place [] s ≡ s
   unfolding written-at
   nothing-written place s = rw (add-zero place) (take-append-drop place s)
-
-  -- Stores one behind the other.
-  pub sets-written : (place : ℕ) (part s : List A) → place + length part ≤ length s → sets s place part ≡ written-at place part s
-  unfolding written-at
-  sets-written place part s h = sets-eq part s place h ∙ append-assoc (take place s) part (drop (place + length part) s)
 
   -- What is left of a list lent from a place on, with a part written over its front.
   pub rest-written : (place : ℕ) (part s : List A) → place ≤ length s
@@ -81,3 +76,30 @@ module _ {A : Type 0} where
         length-append p q,
       )
       (sym (append-assoc p q (drop (length p + length q) s)))
+
+-- A part was written at a place, and this is the place after it.
+pub record Wrote {A : Type 0} (at : ℕ) (part before after : List A) (end : ℕ) : Type 0 where
+  pub behind : end ≡ at + length part
+  pub written : after ≡ written-at at part before
+
+module _ {A : Type 0} where
+  pub wrote-none : (at : ℕ) (before : List A) → Wrote at [] before before at
+  wrote-none at before = record { behind = omega arith; written = sym (nothing-written at before) }
+
+  -- One part behind the other.
+  pub then-wrote : {at middle end : ℕ} {p q before between after : List A} → Wrote at p before between middle → Wrote middle q between after end
+      → middle ≤ length before → Wrote at (p ++ q) before after end
+  then-wrote {at} {middle} {end} {p} {q} {before} a b room =
+      record {
+        behind = omega (arith, a .behind, b .behind, length-append p q);
+        written =
+            b .written
+            ∙ ap (written-at middle q) (a .written)
+            ∙ ap (λ n. written-at n q (written-at at p before)) (a .behind)
+            ∙ written-behind at p q before (omega (arith, a .behind));
+      }
+
+  -- A field and the mark behind it.
+  pub field-wrote : (field : List A) (mark : A) {at end : ℕ} {before after : List A} → end ≡ at + (length field + 1)
+      → after ≡ written-at at (field ++ (mark ∷ [])) before → Wrote at (field ++ (mark ∷ [])) before after end
+  field-wrote field mark e w = record { behind = omega (arith, e, length-append field (mark ∷ [])); written = w }

@@ -1,6 +1,5 @@
 -- The laws of the program's text.
 pub mod Examples
-pub mod Written
 pub mod PrintedLines
 pub mod FieldsCounted
 pub mod LineWords

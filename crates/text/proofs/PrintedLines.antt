@@ -1,47 +1,21 @@
 -- Parts written one behind the other as the lines that are printed.
 use mathlib.Core.Path.{_≡_, refl, ap, _∙_, sym}
 use mathlib.Core.List.{List, [], _∷_, _++_, map, flatMap, append-assoc, append-nil}
-use Prim.Native.Nat.{ℕ, zero, suc, _+_, _-_, _*_, _/_, _<_, _≤_}
+use Prim.Native.Nat.{ℕ, _+_, _-_, _*_, _/_, _<_, _≤_}
 use native.Mathlib.Omega.{arith}
 use borrow.Author.Tests.{eq-eqb, ne-eqb}
-use lib.ListN.{length, getD, take, drop, length-append}
+use lib.ListN.{length, getD, take, drop}
 use Rattle.lists.specs.Written.{written-at}
-use Rattle.lists.proofs.Written.{length-written, part-written}
-use Rattle.lists.proofs.Behind.{written-behind, nothing-written}
+use Rattle.lists.proofs.Written.{part-written}
+use Rattle.lists.proofs.Behind.{Wrote, wrote-none, then-wrote}
 use Rattle.refusal.specs.declared.Refusal.{Refusal}
 use Rattle.refusal.specs.Numbers.{numberOf, placeOf}
 use Rattle.terms.specs.Rows.{rows-of}
 use Rattle.terms.proofs.RowSteps.{rows-more}
-use Rattle.journal.specs.Fields.{tabbed}
 use Rattle.journal.specs.Decimal.{decimal}
+use Rattle.journal.specs.Fields.{tabbed}
 use Rattle.text.specs.Output.{line-of, weight-word, trials-word, node-word, refused-word, code-text, node-line, node-lines, refusal-text}
 use Rattle.text.specs.Printing.{done-text}
-
--- A part was written at a place, and this is the place after it.
-pub record Wrote (at : ℕ) (part before after : List ℕ) (end : ℕ) : Type 0 where
-  pub behind : end ≡ at + length part
-  pub written : after ≡ written-at at part before
-
-pub wrote-none : (at : ℕ) (before : List ℕ) → Wrote at [] before before at
-wrote-none at before = record { behind = omega arith; written = sym (nothing-written at before) }
-
-module _ {at middle end : ℕ} {p q before between after : List ℕ} where
-  -- One part behind the other.
-  pub then-wrote : Wrote at p before between middle → Wrote middle q between after end → middle ≤ length before → Wrote at (p ++ q) before after end
-  then-wrote a b room =
-      record {
-        behind = omega (arith, a .behind, b .behind, length-append p q);
-        written =
-            b .written
-            ∙ ap (written-at middle q) (a .written)
-            ∙ ap (λ n. written-at n q (written-at at p before)) (a .behind)
-            ∙ written-behind at p q before (omega (arith, a .behind));
-      }
-
--- A field and the byte behind it.
-pub field-wrote : (field : List ℕ) (mark : ℕ) {at end : ℕ} {before after : List ℕ} → end ≡ at + (length field + 1)
-    → after ≡ written-at at (field ++ (mark ∷ [])) before → Wrote at (field ++ (mark ∷ [])) before after end
-field-wrote field mark e w = record { behind = omega (arith, e, length-append field (mark ∷ [])); written = w }
 
 -- What was written over the front stands there.
 pub front-is : (part before after : List ℕ) (end : ℕ) → end ≡ length part → after ≡ written-at 0 part before → end ≤ length before → take end after ≡ part

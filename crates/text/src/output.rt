@@ -8,21 +8,8 @@ ghost use Rattle.journal.specs.Decimal.{decimal};
 ghost use Rattle.text.specs.Output.{«code-text», «node-line», «node-lines», «refusal-text»};
 ghost use Rattle.text.specs.Printing.{«done-text»};
 use journal::decimals;
+use journal::writing;
 use refusal::Refusal;
-
-// The bytes written at this place; the place after them.
-fn put_bytes(out: &mut [u8], at: usize, bytes: &[u8]) -> usize
-    requires { ⌜ at + length (now bytes) ≤ length (now out) ⌝ }
-    ensures { λ r. ⌜ r ≡ at + length (now (bytes .entry)) ⌝ }
-    ensures { λ r. ⌜ now (out .exit) ≡ written-at at (now (bytes .entry)) (now (out .entry)) ⌝ }
-{
-    let mut done = 0;
-    while done < bytes.len() {
-        out[at + done] = bytes[done];
-        done += 1;
-    }
-    at + done
-}
 
 // A code and the byte behind it written at this place, the absent child as `-`; the place after them.
 fn put_code(out: &mut [u8], at: usize, code: u16, mark: u8) -> usize
@@ -31,7 +18,7 @@ fn put_code(out: &mut [u8], at: usize, code: u16, mark: u8) -> usize
     ensures { λ r. ⌜ now (out .exit) ≡ written-at at (code-text code ++ (mark ∷ [])) (now (out .entry)) ⌝ }
 {
     if code == 65535 {
-        return put_bytes(out, at, &[b'-', mark]);
+        return writing::put_bytes(out, at, &[b'-', mark]);
     }
     decimals::put_field(out, at, code as u64, mark)
 }
@@ -42,7 +29,7 @@ fn put_node(out: &mut [u8], at: usize, row: &[u16]) -> usize
     ensures { λ r. ⌜ (r ≡ at + length (node-line (now (row .entry)))) × (r ≤ at + 29) ⌝ }
     ensures { λ r. ⌜ now (out .exit) ≡ written-at at (node-line (now (row .entry))) (now (out .entry)) ⌝ }
 {
-    let mut end = put_bytes(out, at, b"node\t");
+    let mut end = writing::put_bytes(out, at, b"node\t");
     end = put_code(out, end, row[0], 9);
     end = put_code(out, end, row[1], 9);
     end = put_code(out, end, row[2], 9);
@@ -73,7 +60,7 @@ fn put_value(out: &mut [u8], at: usize, word: &[u8], number: u64) -> usize
     ensures { λ r. ⌜ (r ≡ at + length (now (word .entry) ++ (decimal number ++ (10 ∷ [])))) × (r ≤ at + (length (now (word .entry)) + 21)) ⌝ }
     ensures { λ r. ⌜ now (out .exit) ≡ written-at at (now (word .entry) ++ (decimal number ++ (10 ∷ []))) (now (out .entry)) ⌝ }
 {
-    let end = put_bytes(out, at, word);
+    let end = writing::put_bytes(out, at, word);
     decimals::put_field(out, end, number, 10)
 }
 
@@ -85,7 +72,7 @@ pub fn put_refusal(out: &mut [u8], refusal: Refusal) -> usize
 {
     let number = refusal::number(refusal) as u64;
     let place = refusal::place(refusal) as u64;
-    let word = put_bytes(out, 0, b"refused\t");
+    let word = writing::put_bytes(out, 0, b"refused\t");
     let end = decimals::put_field(out, word, number, 9);
     decimals::put_field(out, end, place, 10)
 }

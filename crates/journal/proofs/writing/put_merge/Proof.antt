@@ -1,7 +1,7 @@
 -- Five fields, each behind the one before it.
 use native.Mathlib.Omega.{arith}
 use borrow.Author.Needs.{needs}
-use Rattle.journal.proofs.Texts.{length-merge, merge-written}
+use Rattle.journal.proofs.Texts.{length-merge, merge-wrote}
 use Rattle.journal.proofs.writing.put_merge.Statement.{statement}
 use Rattle.journal.proofs.writing.put_merge.Tie as tie
 
@@ -51,8 +51,9 @@ returns c =
     let first = second .before .before .before .before .before in
     let start = first .before .before .before in
     let args = start .args in
-    merge-written (args .step) (args .triple) (args .weight) (args .out .now) (start .pre) (first .put-field .ensures)
-    (second .put-field2 .ensures) (third .put-field3 .ensures) (fourth .put-field4 .ensures) (fifth .put-field5 .ensures)
+    let all = merge-wrote (args .step) (args .triple) (args .weight) (args .out .now) (start .pre) (first .put-field .ensures)
+    (second .put-field2 .ensures) (third .put-field3 .ensures) (fourth .put-field4 .ensures) (fifth .put-field5 .ensures) in
+    (omega (arith, all .behind), all .written)
 
 pub put-merge-spec : {M : Type 1} → statement M
 put-merge-spec =

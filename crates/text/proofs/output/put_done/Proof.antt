@@ -2,7 +2,7 @@
 use native.Mathlib.Omega.{arith}
 use borrow.Author.Needs.{needs}
 use Rattle.text.specs.Output.{weight-word, trials-word}
-use Rattle.text.proofs.PrintedLines.{Wrote, done-wrote}
+use Rattle.text.proofs.PrintedLines.{done-wrote}
 use Rattle.text.proofs.output.put_done.Statement.{statement}
 use Rattle.text.proofs.output.put_done.Tie as tie
 

@@ -2,8 +2,9 @@
 use native.Mathlib.Omega.{arith}
 use borrow.Author.Needs.{needs}
 use lib.ListN.{getD}
+use Rattle.lists.proofs.Behind.{field-wrote}
 use Rattle.text.specs.Output.{node-word, code-text}
-use Rattle.text.proofs.PrintedLines.{Wrote, field-wrote, node-wrote}
+use Rattle.text.proofs.PrintedLines.{node-wrote}
 use Rattle.text.proofs.output.put_node.Statement.{statement}
 use Rattle.text.proofs.output.put_node.Tie as tie
 

@@ -1,9 +1,8 @@
 -- The lines of the rows passed stand behind the start; at the end they are all.
+use Prim.Native.Nat.{_-_}
 use native.Mathlib.Omega.{arith}
 use borrow.Author.Needs.{needs}
-use lib.ListN.{length, length-take, length-drop}
-use Rattle.text.proofs.PrintedLines.{Wrote, PuttingRows, rows-start, rows-go, rows-end}
-use Prim.Native.Nat.{_-_, _/_}
+use Rattle.text.proofs.PrintedLines.{PuttingRows, rows-start, rows-go, rows-end}
 use Rattle.text.proofs.output.put_nodes.Statement.{statement}
 use Rattle.text.proofs.output.put_nodes.Tie as tie
 

@@ -1,10 +1,11 @@
 -- The word, the number and the place, each behind what is before it.
 use native.Mathlib.Omega.{arith}
 use borrow.Author.Needs.{needs}
+use Rattle.lists.proofs.Behind.{field-wrote}
 use Rattle.journal.specs.Decimal.{decimal}
-use Rattle.text.specs.Output.{refused-word}
 use Rattle.journal.proofs.Digits.{decimal-long}
-use Rattle.text.proofs.PrintedLines.{Wrote, field-wrote, refusal-wrote}
+use Rattle.text.specs.Output.{refused-word}
+use Rattle.text.proofs.PrintedLines.{refusal-wrote}
 use Rattle.text.proofs.output.put_refusal.Statement.{statement}
 use Rattle.text.proofs.output.put_refusal.Tie as tie
 

@@ -1,9 +1,9 @@
 -- The number is written behind the word.
 use native.Mathlib.Omega.{arith}
 use borrow.Author.Needs.{needs}
+use Rattle.lists.proofs.Behind.{then-wrote, field-wrote}
 use Rattle.journal.specs.Decimal.{decimal}
 use Rattle.journal.proofs.Digits.{decimal-long}
-use Rattle.text.proofs.PrintedLines.{Wrote, then-wrote, field-wrote}
 use Rattle.text.proofs.output.put_value.Statement.{statement}
 use Rattle.text.proofs.output.put_value.Tie as tie
 

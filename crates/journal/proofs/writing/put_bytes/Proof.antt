@@ -3,18 +3,18 @@ use native.Mathlib.Omega.{arith}
 use borrow.Author.Needs.{needs}
 use Prim.Native.Nat.{_-_}
 use lib.ListN.{length}
-use Rattle.text.proofs.Written.{Putting, putting-starts, putting-goes, putting-ends}
-use Rattle.text.proofs.output.put_bytes.Statement.{statement}
-use Rattle.text.proofs.output.put_bytes.Tie as tie
+use Rattle.journal.proofs.PuttingBytes.{PuttingBytes, bytes-start, bytes-go, bytes-end}
+use Rattle.journal.proofs.writing.put_bytes.Statement.{statement}
+use Rattle.journal.proofs.writing.put_bytes.Tie as tie
 
 abbrev Inv-loop : tie.InvT-loop
-Inv-loop out₀ at bytes done₀ out done = Putting at bytes out₀ out done
+Inv-loop out₀ at bytes done₀ out done = PuttingBytes at bytes out₀ out done
 
 abbrev μ-loop : tie.MeasureT-loop
 μ-loop out₀ at bytes done₀ out done = length bytes - done
 
 loop-holds : tie.Need-loop-holds Inv-loop μ-loop
-loop-holds c = putting-starts (c .args .at) (c .args .bytes .now) (c .args .out .now) (c .pre)
+loop-holds c = bytes-start (c .args .at) (c .args .bytes .now) (c .args .out .now) (c .pre)
 
 shared-slice-read-out : tie.Need-shared-slice-read-out Inv-loop μ-loop
 shared-slice-read-out c = search needs
@@ -35,7 +35,7 @@ loop-again : tie.Need-loop-again Inv-loop μ-loop
 loop-again c =
     let here = c .before .before in
     let start = here .before in
-    putting-goes (start .args .at) (start .args .bytes .now) (start .args .out .now) (start .pre) _ _ (here .loop .inv) (omega arith)
+    bytes-go (start .args .at) (start .args .bytes .now) (start .args .out .now) (start .pre) _ _ (here .loop .inv) (omega arith)
 
 add-result : tie.Need-add-result Inv-loop μ-loop
 add-result c = search needs
@@ -47,7 +47,7 @@ returns : tie.Need-returns Inv-loop μ-loop
 returns c =
     let here = c .before in
     let start = here .before in
-    putting-ends (start .args .at) (start .args .bytes .now) (start .args .out .now) (start .pre) _ _ (here .loop .inv) (omega arith)
+    bytes-end (start .args .at) (start .args .bytes .now) (start .args .out .now) (start .pre) _ _ (here .loop .inv) (omega arith)
 
 pub put-bytes-spec : {M : Type 1} → statement M
 put-bytes-spec =
