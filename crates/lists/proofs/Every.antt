@@ -4,6 +4,8 @@ use mathlib.Core.Bool.{Bool, true, false, cond, and-eq-true-iff}
 use mathlib.Core.List.{List, [], _∷_, _++_, map}
 use Prim.Native.Nat.{ℕ, zero, suc, _<_, _≤_}
 use native.Mathlib.Omega.{arith}
+use borrow.Author.Tests.{ltb-true}
+use lib.Dec.{ltb}
 use lib.ListN.{length, getD}
 use Rattle.lists.specs.Members.{every, keep, leading, some-of, firsts-after}
 
@@ -48,6 +50,13 @@ module _ {A : Type 0} (test : A → Bool) where
   every-chosen true l m e f = e
   every-chosen false l m e f = f
 
+  -- One more, where it stays.
+  pub every-more : (front : List A) (a : A) (stays : Bool) → every test front ≡ true → test a ≡ true
+      → every test (front ++ cond stays (a ∷ []) []) ≡ true
+  unfolding every
+  every-more front a stays e h =
+      every-append front (cond stays (a ∷ []) []) e (every-chosen stays (a ∷ []) [] (every-cons a [] h refl) refl)
+
   pub every-kept : (other : A → Bool) (l : List A) → every test l ≡ true → every test (keep other l) ≡ true
   unfolding every keep
   every-kept other [] e = refl
@@ -84,6 +93,10 @@ module _ {A : Type 0} (test : A → Bool) where
       go : (b : Bool) → test a ≡ b → (length l ≤ leading test l → every test l ≡ true) → every test (a ∷ l) ≡ true
       go true e on = every-cons a l e (on (omega (arith, rw e at h)))
       go false e on = absurd (omega (arith, rw e at h))
+
+-- One of a list whose numbers are all below a bound.
+pub below-at : (bound : ℕ) (l : List ℕ) (i d : ℕ) → i < length l → every (λ v. ltb v bound) l ≡ true → getD l i d < bound
+below-at bound l i d h e = ltb-true (getD l i d) bound (every-at (λ v. ltb v bound) l i d h e)
 
 pub every-mapped : {A B : Type 0} (test : A → Bool) (after : B → Bool) (f : A → B) → ((a : A) → test a ≡ true → after (f a) ≡ true)
     → (l : List A) → every test l ≡ true → every after (map f l) ≡ true

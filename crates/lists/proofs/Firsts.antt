@@ -1,13 +1,14 @@
--- The first of equals: each is like none before it, and they are no more than there were.
+-- The first of equals: each is like none before it, they are no more than there were, and a loop finds them step by step.
 use mathlib.Core.Path.{_≡_, refl}
-use mathlib.Core.Bool.{Bool, true, false, cond}
+use mathlib.Core.Bool.{Bool, true, false, cond, not}
 use mathlib.Core.List.{List, [], _∷_, _++_, append-nil, append-assoc}
-use Prim.Native.Nat.{ℕ, zero, suc, _<_, _≤_}
+use Prim.Native.Nat.{ℕ, zero, suc, _+_, _<_, _≤_}
 use native.Mathlib.Omega.{arith}
-use lib.ListN.{length, getD, take, length-append}
+use lib.ListN.{length, getD, take, drop, length-append, drop-of-length-le}
 use lib.Seq.{getD-take, length-take-le}
 use Rattle.lists.specs.Members.{keep, some-of, firsts-after, firsts}
 use Rattle.lists.proofs.Tests.{neither}
+use Rattle.lists.proofs.Steps.{drop-step}
 
 module _ {A : Type 0} where
   none-at : (test : A → Bool) (l : List A) (i : ℕ) (d : A) → i < length l → some-of test l ≡ false → test (getD l i d) ≡ false
@@ -73,3 +74,23 @@ module _ {A : Type 0} (like : A → A → Bool) where
       let new = firsts-after like [] l in
       rw (getD-take j new i d h) at
       (none-at (like (getD new j d)) (take j new) i d (rw (length-take-le j new (omega arith)) h) (firsts-apart [] l j d k))
+
+  -- What was found, with the next where it is new, and the firsts of what is left are all.
+  module _ (s : List A) (i : ℕ) where
+    pub firsts-next : (d : A) (kept more all : List A) → i < length s
+        → more ≡ kept ++ cond (not (some-of (like (getD s i d)) kept)) (getD s i d ∷ []) [] → kept ++ firsts-after like kept (drop i s) ≡ all
+        → more ++ firsts-after like more (drop (i + 1) s) ≡ all
+    firsts-next d kept more all h e g =
+        let a = getD s i d in
+        go (some-of (like a) kept) refl e (rw (drop-step s i d h) at g)
+      where
+        go : (b : Bool) → some-of (like (getD s i d)) kept ≡ b → more ≡ kept ++ cond (not b) (getD s i d ∷ []) []
+            → kept ++ firsts-after like kept (getD s i d ∷ drop (i + 1) s) ≡ all → more ++ firsts-after like more (drop (i + 1) s) ≡ all
+        go true q e g = rw (e, append-nil kept) (rw (adds-nothing kept (getD s i d) (drop (i + 1) s) q) at g)
+        go false q e g =
+            rw (e, append-assoc kept (getD s i d ∷ []) (firsts-after like (kept ++ (getD s i d ∷ [])) (drop (i + 1) s)))
+            (rw (adds-itself kept (getD s i d) (drop (i + 1) s) q) at g)
+
+    pub firsts-end : (kept : List A) → length s ≤ i → firsts-after like kept (drop i s) ≡ []
+    unfolding firsts-after
+    firsts-end kept h = rw (drop-of-length-le s h)

@@ -1,11 +1,11 @@
--- The least of a list stands in it, measures no more than any other, and comes first among those that measure the same.
+-- The least of a list stands in it, measures no more than any other, and comes first among those that measure the same; and it is sought part by part.
 use mathlib.Core.Path.{_≡_, refl, ap}
 use mathlib.Core.Bool.{Bool, true, false, cond}
-use mathlib.Core.List.{List, [], _∷_, map, List·Memᴰ, List·Memᴰ·head, List·Memᴰ·tail, List·Memᴰ·cases-cons, List·Memᴰ·eq-of-singleton}
+use mathlib.Core.List.{List, [], _∷_, _++_, map, map-append, List·Memᴰ, List·Memᴰ·head, List·Memᴰ·tail, List·Memᴰ·cases-cons, List·Memᴰ·eq-of-singleton}
 use mathlib.Core.Logic.{_⊎_, inl, inr, ⊎-elim}
 use Prim.Native.Nat.{ℕ, _<_, _≤_}
 use native.Mathlib.Omega.{arith}
-use borrow.Author.Tests.{ltb-true, ltb-false}
+use borrow.Author.Tests.{ltb-true, ltb-false, lt-ltb, le-ltb}
 use lib.Dec.{ltb}
 use Rattle.lists.specs.Least.{least, lighter}
 use Rattle.lists.proofs.Ordered.{Ascending}
@@ -17,15 +17,22 @@ pub record FirstLeast {A : Type 0} (measure : A → ℕ) (before : A → A → T
 
 module _ {A : Type 0} (measure : A → ℕ) where
   -- One step: the first of two stays unless the second is lighter.
+  pub ahead : (best a : A) → measure a < measure best → lighter measure best a ≡ a
+  unfolding lighter
+  ahead best a h = rw (lt-ltb (measure a) (measure best) h)
+
+  pub behind : (best a : A) → measure best ≤ measure a → lighter measure best a ≡ best
+  unfolding lighter
+  behind best a h = rw (le-ltb (measure a) (measure best) h)
+
   lighter-cases : (best a : A)
       → ((measure a < measure best) × (lighter measure best a ≡ a)) ⊎ ((measure best ≤ measure a) × (lighter measure best a ≡ best))
-  unfolding lighter
   lighter-cases best a = go (ltb (measure a) (measure best)) refl
     where
       go : (b : Bool) → ltb (measure a) (measure best) ≡ b
-          → ((measure a < measure best) × (cond b a best ≡ a)) ⊎ ((measure best ≤ measure a) × (cond b a best ≡ best))
-      go true e = inl (ltb-true _ _ e, refl)
-      go false e = inr (ltb-false _ _ e, refl)
+          → ((measure a < measure best) × (lighter measure best a ≡ a)) ⊎ ((measure best ≤ measure a) × (lighter measure best a ≡ best))
+      go true e = let h = ltb-true _ _ e in inl (h, ahead best a h)
+      go false e = let h = ltb-false _ _ e in inr (h, behind best a h)
 
   least-at-most : (best : A) (l : List A) → measure (least measure best l) ≤ measure best
   unfolding least
@@ -45,6 +52,16 @@ module _ {A : Type 0} (measure : A → ℕ) where
       (λ second. absurd (omega (arith, least-at-most a l, ap measure (ap (λ b. least measure b l) (second .1)))))
       (λ stays. rw (stays .1) (least-ties best l (rw (stays .1) at e)))
       (lighter-cases best a)
+
+  -- The least of two lists joined, and of what they are mapped to, is sought in one after the other.
+  pub least-joined : (best : A) (l m : List A) → least measure best (l ++ m) ≡ least measure (least measure best l) m
+  unfolding least
+  least-joined best [] m = refl
+  least-joined best (a ∷ l) m = least-joined (lighter measure best a) l m
+
+  pub least-map-joined : {B : Type 0} (f : B → A) (best : A) (l m : List B)
+      → least measure best (map f (l ++ m)) ≡ least measure (least measure best (map f l)) (map f m)
+  least-map-joined f best l m = rw (map-append f l m) (least-joined best (map f l) (map f m))
 
   pub least-map : {B : Type 0} (f : B → A) (best : B) (l : List B)
       → least measure (f best) (map f l) ≡ f (least (λ b. measure (f b)) best l)

@@ -17,6 +17,7 @@ pub mod Totals
 pub mod Sums
 pub mod Behind
 pub mod Kept
+pub mod Joined
 pub mod Ranges
 pub mod Leading
 pub mod Occurring

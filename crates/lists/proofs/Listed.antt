@@ -1,6 +1,6 @@
--- What a rule lists: entry by entry, from the front and from the end.
+-- What a rule lists: entry by entry, from the front and from the end, and mapped.
 use mathlib.Core.Path.{_≡_, refl, ap, _∙_}
-use mathlib.Core.List.{[], _∷_, _++_}
+use mathlib.Core.List.{[], _∷_, _++_, map}
 use Prim.Native.Nat.{ℕ, zero, suc, _+_, _<_, _≤_}
 use native.Mathlib.Nat.{add-zero, zero-add, suc-add}
 use native.Mathlib.Omega.{arith}
@@ -36,3 +36,8 @@ module _ {A : Type 0} (rule : ℕ → A) where
   listed-same v from zero same = refl
   listed-same v from (suc count) same =
       rw (same from (omega arith), listed-same v (suc from) count (λ i h. same i (omega arith)))
+
+pub map-listed : {A B : Type 0} (f : A → B) (rule : ℕ → A) (from count : ℕ) → map f (listed rule from count) ≡ listed (λ i. f (rule i)) from count
+unfolding listed
+map-listed f rule from zero = refl
+map-listed f rule from (suc count) = ap (λ l. f (rule from) ∷ l) (map-listed f rule (suc from) count)

@@ -1,7 +1,7 @@
 -- One step along a range: what a loop that counts upward to an end has still to see.
 use mathlib.Core.Path.{_≡_, refl, ap, _∙_, sym}
-use mathlib.Core.Bool.{Bool, true, false, true≢false}
-use mathlib.Core.List.{[], _∷_, map}
+use mathlib.Core.Bool.{Bool, true, false, cond, true≢false}
+use mathlib.Core.List.{[], _∷_, _++_, map}
 use Prim.Native.Nat.{ℕ, zero, suc, _+_, _-_, _<_, _≤_}
 use native.Mathlib.Numerals.{add-one}
 use native.Mathlib.Nat.{sub-zero}
@@ -9,7 +9,7 @@ use native.Mathlib.Omega.{arith}
 use borrow.Author.Tests.{eqb-true, eqb-false}
 use lib.Dec.{eqb}
 use Rattle.lists.specs.Counting.{sum}
-use Rattle.lists.specs.Members.{every, some-of, leading}
+use Rattle.lists.specs.Members.{every, keep, some-of, leading}
 use Rattle.lists.specs.Ranges.{listed}
 use Rattle.lists.proofs.Every.{every-cons, every-uncons}
 
@@ -52,6 +52,15 @@ module _ {A : Type 0} (test : A → Bool) (rule : ℕ → A) (end at : ℕ) wher
   pub some-done : end ≤ at → some-of test (listed rule at (end - at)) ≡ false
   unfolding some-of
   some-done h = rw (listed-end rule end at h)
+
+  pub keep-on : at < end
+      → keep test (listed rule at (end - at)) ≡ cond (test (rule at)) (rule at ∷ []) [] ++ keep test (listed rule (at + 1) (end - (at + 1)))
+  unfolding keep
+  keep-on h = rw (listed-step rule end at h)
+
+  pub keep-done : end ≤ at → keep test (listed rule at (end - at)) ≡ []
+  unfolding keep
+  keep-done h = rw (listed-end rule end at h)
 
   pub leading-on : at < end → test (rule at) ≡ true
       → at + leading test (listed rule at (end - at)) ≡ at + 1 + leading test (listed rule (at + 1) (end - (at + 1)))
@@ -122,3 +131,10 @@ module _ (test : ℕ → Bool) where
   leading-from from zero h = refl
   leading-from from (suc count) h =
       rw (h from (omega arith) (omega arith)) (ap suc (leading-from (suc from) count (λ v low high. h v (omega arith) (omega arith))))
+
+-- Two tests that agree on what a rule lists keep the same of it.
+pub keep-same : {A : Type 0} (rule : ℕ → A) (test other : A → Bool) → ((i : ℕ) → test (rule i) ≡ other (rule i)) → (from count : ℕ)
+    → keep test (listed rule from count) ≡ keep other (listed rule from count)
+unfolding keep listed
+keep-same rule test other same from zero = refl
+keep-same rule test other same from (suc count) = rw (same from, keep-same rule test other same (suc from) count)
