@@ -1,15 +1,13 @@
--- One step up from a node, and where the steps end.
-use mathlib.Core.Path.{_≡_, refl, _∙_}
-use Prim.Native.Nat.{ℕ, zero, suc, _+_, _-_, _/_, _<_, _≤_}
+-- One step up from a node, and where the steps end; and one step along nodes whose largest distance is sought.
+use mathlib.Core.Path.{_≡_, refl}
+use mathlib.Core.List.{List, map}
+use Prim.Native.Nat.{ℕ, zero, suc, _+_, _-_, _/_, _<_, _≤_, max}
 use native.Mathlib.Omega.{arith}
-use mathlib.Core.List.{List}
 use borrow.Author.Tests.{lt-ltb, le-ltb}
-use lib.ListN.{length, getD, set}
-use lib.Seq.{getD-set-same, getD-set-other}
-use mathlib.Core.Logic.{⊎-elim}
-use Rattle.lists.proofs.Tests.{same-or-not}
+use lib.ListN.{length, getD, drop, drop-of-length-le}
+use Rattle.lists.proofs.Steps.{drop-step}
 use Rattle.tree.specs.Table.{place-of}
-use Rattle.topphatt.specs.Nodes.{distance}
+use Rattle.topphatt.specs.Nodes.{distance, largest}
 
 pub distance-none : (table : List ℕ) (left node : ℕ) → length table ≤ place-of table node → distance table left node ≡ 0
 unfolding distance
@@ -27,11 +25,12 @@ pub distance-end : (table : List ℕ) (steps up node : ℕ) → steps ≤ up →
 unfolding distance
 distance-end table steps up node h = let none : steps - up ≡ 0 = omega arith in rw none
 
--- One node more has its distance.
-pub distances-next : (rule : ℕ → ℕ) (distances : List ℕ) (node value : ℕ) → node < length distances → value ≡ rule node
-    → ((k : ℕ) → k < node → getD distances k 0 ≡ rule k) → (k : ℕ) → k < node + 1 → getD (set distances node value) k 0 ≡ rule k
-distances-next rule distances node value h e before k l =
-    ⊎-elim
-    (λ same. rw same (getD-set-same distances node value 0 h ∙ e))
-    (λ other. rw (getD-set-other distances node k value 0 other) (before k (omega arith)))
-    (same-or-not k node)
+-- Along the nodes: the largest of those passed and of those ahead is the largest of all.
+module _ (f : ℕ → ℕ) (s : List ℕ) (i : ℕ) where
+  pub largest-step : i < length s → largest (map f (drop i s)) ≡ max (f (getD s i 0)) (largest (map f (drop (i + 1) s)))
+  unfolding largest
+  largest-step h = rw (drop-step s i 0 h)
+
+  pub largest-end : length s ≤ i → largest (map f (drop i s)) ≡ 0
+  unfolding largest
+  largest-end h = rw (drop-of-length-le s h)

@@ -1,13 +1,11 @@
--- The tree weight step by step: along the codes placed, a term's indices, the nodes and the rows.
-use mathlib.Core.Path.{_≡_, refl, ap, _∙_}
-use mathlib.Core.Bool.{Bool, true, false, cond, _&&_}
+-- The tree weight step by step: along a term's indices, the nodes and the rows.
+use mathlib.Core.Path.{_≡_, ap, _∙_}
+use mathlib.Core.Bool.{true, cond, _&&_}
 use mathlib.Core.List.{List, [], map}
 use Prim.Native.Nat.{ℕ, suc, _+_, _-_, _*_, _%_, _<_, _≤_}
-use native.Mathlib.Omega.{arith}
-use borrow.Author.Tests.{eq-eqb, ne-eqb, eqb-true, eqb-false, ltb-true}
+use borrow.Author.Tests.{eq-eqb, ne-eqb}
 use lib.Dec.{eqb, ltb}
-use lib.ListN.{length, getD, take, drop, set, drop-of-length-le, List·getD-map}
-use lib.Seq.{getD-set-same, getD-set-other}
+use lib.ListN.{length, getD, take, drop, drop-of-length-le, List·getD-map}
 use Rattle.lists.specs.Counting.{sum, same, occurrences}
 use Rattle.lists.specs.Members.{every}
 use Rattle.lists.specs.Ranges.{listed}
@@ -17,25 +15,9 @@ use Rattle.terms.specs.Rows.{rows-of, term, terms-of}
 use Rattle.terms.specs.Good.{good-term}
 use Rattle.terms.proofs.RowSteps.{terms-step, terms-end, length-terms, rows-at}
 use Rattle.terms.proofs.StaysGood.{good-term-says}
-use Rattle.tree.specs.Table.{place-of}
 use Rattle.tree.specs.Weight.{edge-under, edges, node-weight, row-weight, tree-weight}
 use Rattle.tree.specs.Promises.{GoodRows}
 use Rattle.tree.proofs.TableSteps.{nodes-start}
-
--- One more code is placed.
-pub places-next : (table places : List ℕ) (code place : ℕ) → code < length places → place ≡ place-of table code
-    → ((k : ℕ) → k < code → getD places k 0 ≡ place-of table k) → (k : ℕ) → k < code + 1 → getD (set places code place) k 0 ≡ place-of table k
-places-next table places code place room e before k h = go (eqb k code) refl
-  where
-    go : (b : Bool) → eqb k code ≡ b → getD (set places code place) k 0 ≡ place-of table k
-    go true q = let f = eqb-true k code q in rw f (getD-set-same places code place 0 room ∙ e)
-    go false q =
-        let other = eqb-false k code q in
-        getD-set-other places code k place 0 other ∙ before k (omega arith)
-
--- An index of a term that is below 2n throughout.
-pub index-below : (modes at : ℕ) (s : List ℕ) → at < length s → every (λ index. ltb index (2 * modes)) s ≡ true → getD s at 0 < 2 * modes
-index-below modes at s h e = ltb-true (getD s at 0) (2 * modes) (every-at (λ index. ltb index (2 * modes)) s at 0 h e)
 
 -- Along a term's indices: the edges counted and those ahead are all.
 module _ (modes : ℕ) (table : List ℕ) (node : ℕ) (s : List ℕ) (at edge : ℕ) where

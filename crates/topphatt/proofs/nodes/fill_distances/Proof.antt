@@ -1,5 +1,5 @@
 -- Each node passed has its distance; at the end that is every node.
-use Rattle.topphatt.proofs.DistanceSteps.{distances-next}
+use Rattle.lists.proofs.Writes.{agrees-next}
 use Rattle.topphatt.specs.Nodes.{distance}
 use lib.ListN.{length, getD, length-set}
 use native.Mathlib.Omega.{arith}
@@ -39,7 +39,7 @@ loop-again c =
     let args = here .before .before .before .args in (
       omega arith,
       simp length-set (omega arith),
-      distances-next (distance (args .tree .now) (args .modes)) (here .loop .distances) (here .loop .node) (c .distance .result) (omega arith) (c .distance .ensures) (here .loop .inv .2),
+      agrees-next (distance (args .tree .now) (args .modes)) (here .loop .distances) (here .loop .node) (c .distance .result) 0 (omega arith) (c .distance .ensures) (here .loop .inv .2),
     )
 
 same-length : tie.Need-same-length Inv-loop μ-loop

@@ -3,7 +3,7 @@ use mathlib.Core.Path.{_≡_}
 use Prim.Native.Nat.{ℕ, _≤_, _<_, _-_}
 use lib.ListN.{length, getD, length-set}
 use Rattle.tree.specs.Table.{place-of}
-use Rattle.tree.proofs.TreeWeighing.{places-next}
+use Rattle.lists.proofs.Writes.{agrees-next}
 use borrow.Author.Needs.{needs}
 use native.Mathlib.Omega.{arith}
 use Rattle.tree.proofs.weight.fill_places.Statement.{statement}
@@ -42,7 +42,7 @@ loop-again c =
     let args = here .before .before .before .args in (
       omega arith,
       simp length-set (omega arith),
-      places-next (args .tree .now) (here .loop .places) (here .loop .code) (c .place-of .result) (omega arith) (c .place-of .ensures) (here .loop .inv .2),
+      agrees-next (place-of (args .tree .now)) (here .loop .places) (here .loop .code) (c .place-of .result) 0 (omega arith) (c .place-of .ensures) (here .loop .inv .2),
     )
 
 same-length : tie.Need-same-length Inv-loop μ-loop

@@ -1,11 +1,12 @@
 -- Each count and what is ahead of it make all the edges of its kind; at the end the three counts decide the weight.
 use mathlib.Core.Path.{_≡_, _∙_, sym, ap}
-use Prim.Native.Nat.{_<_, _≤_, _-_, _+_}
+use Prim.Native.Nat.{_<_, _≤_, _-_, _+_, _*_}
 use native.Mathlib.Numerals.{add-one}
 use lib.ListN.{length, drop}
 use Rattle.lists.specs.Counting.{same, occurrences}
 use Rattle.tree.specs.Weight.{edge-under, edges}
-use Rattle.tree.proofs.TreeWeighing.{edges-step, edges-end, index-below, Counted, x-apart, z-apart, none-apart}
+use Rattle.lists.proofs.Every.{below-at}
+use Rattle.tree.proofs.TreeWeighing.{edges-step, edges-end, Counted, x-apart, z-apart, none-apart}
 use borrow.Author.Needs.{needs}
 use native.Mathlib.Omega.{arith}
 use Rattle.tree.proofs.weight.node_weight.Statement.{statement}
@@ -42,7 +43,7 @@ add-edge-under-2 : tie.Need-add-edge-under-2 Inv-loop μ-loop
 add-edge-under-2 c =
     let here = c .before .before .before in
     let start = here .before .before .before .before in
-    let below = index-below (start .args .modes) (here .loop .at) (start .args .term .now) (omega arith) (start .pre .1 .1) in
+    let below = below-at (2 * start .args .modes) (start .args .term .now) (here .loop .at) 0 (omega arith) (start .pre .1 .1) in
     let e = c .wide .ensures .0 in
     omega arith
 
@@ -50,7 +51,7 @@ edge-under-requires : tie.Need-edge-under-requires Inv-loop μ-loop
 edge-under-requires c κs =
     let here = c .before .before .before in
     let start = here .before .before .before .before in
-    let below = index-below (start .args .modes) (here .loop .at) (start .args .term .now) (omega arith) (start .pre .1 .1) in
+    let below = below-at (2 * start .args .modes) (start .args .term .now) (here .loop .at) 0 (omega arith) (start .pre .1 .1) in
     let e = c .wide .ensures .0 in
     (start .pre .0, omega arith)
 
