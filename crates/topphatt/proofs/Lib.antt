@@ -20,7 +20,6 @@ pub mod RoundList
 pub mod ChosenLeaves
 pub mod WeightAtMost
 pub mod SlotKinds
-pub mod Gathering
 pub mod DistanceSteps
 pub mod SoughtSteps
 pub mod FixedSteps

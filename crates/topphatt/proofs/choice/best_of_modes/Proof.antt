@@ -1,6 +1,6 @@
 -- The choices with the modes still to come give the answer.
 use Rattle.topphatt.proofs.SoughtSteps.{sought-none, modes-step}
-use Rattle.topphatt.proofs.Gathering.{below-at}
+use Rattle.lists.proofs.Every.{below-at}
 use Rattle.topphatt.specs.Seeking.{sought}
 use Rattle.topphatt.specs.Choices.{with-z, without}
 use Rattle.topphatt.specs.Slots.{leaf-of}
@@ -36,7 +36,7 @@ best-of-mode-requires : tie.Need-best-of-mode-requires Inv-loop μ-loop
 best-of-mode-requires c κs =
     let here = c .before .before in
     let start = here .before .before .before .before in
-    let low = below-at (start .args .free .now) (here .loop .at) (start .args .modes) (omega arith) (start .pre .1 .1 .1 .1) in
+    let low = below-at (start .args .modes) (start .args .free .now) (here .loop .at) 0 (omega arith) (start .pre .1 .1 .1 .1) in
     (start .pre .0, (start .pre .1 .0, (start .pre .1 .1 .0, (omega arith, low, omega arith, omega arith))))
 
 add-at : tie.Need-add-at Inv-loop μ-loop

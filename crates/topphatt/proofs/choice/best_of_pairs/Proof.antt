@@ -1,6 +1,7 @@
 -- The choices with the pair's modes still to come give the answer.
 use Rattle.topphatt.proofs.SoughtSteps.{sought-none, sought-joined}
-use Rattle.topphatt.proofs.Gathering.{below-at, joined-step, joined-end}
+use Rattle.lists.proofs.Every.{below-at}
+use Rattle.lists.proofs.Steps.{joined-step, joined-end}
 use Rattle.topphatt.specs.Seeking.{sought}
 use Rattle.topphatt.specs.Choices.{with-z, without, numbers}
 use Rattle.topphatt.specs.Slots.{leaf-of}
@@ -36,7 +37,7 @@ best-of-leaves-requires : tie.Need-best-of-leaves-requires Inv-loop μ-loop
 best-of-leaves-requires c κs =
     let here = c .before .before in
     let start = here .before .before .before in
-    let low = below-at (start .args .free .now) (here .loop .at) (start .args .modes) (omega arith) (start .pre .1 .1 .1) in
+    let low = below-at (start .args .modes) (start .args .free .now) (here .loop .at) 0 (omega arith) (start .pre .1 .1 .1) in
     (start .pre .0, ((omega arith, omega arith, low), (start .pre .1 .1 .0, start .pre .1 .1 .1)))
 
 add-at : tie.Need-add-at Inv-loop μ-loop
@@ -54,7 +55,7 @@ loop-again c =
     let of : ℕ → List Triple = λ mode. with-z (leaf-of (args .modes) (args .slots .x) mode) (leaf-of (args .modes) (args .slots .y) mode) (numbers (args .modes) (args .slots .z) (without mode free)) in (
       omega arith,
       here .loop .inv .1
-          ∙ rw (joined-step free (here .loop .at) of (omega arith))
+          ∙ rw (joined-step of free (here .loop .at) 0 (omega arith))
           (sought-joined rows (args .node) (here .loop .best) (of (getD free (here .loop .at) 0)) (flatMap of (drop (here .loop .at + 1) free))
           ∙ ap (λ b. sought rows (args .node) b (flatMap of (drop (here .loop .at + 1) free))) (sym (c .best-of-leaves .ensures))),
     )
@@ -63,7 +64,7 @@ returns : tie.Need-returns Inv-loop μ-loop
 returns c =
     let here = c .before in
     let args = here .before .before .before .args in
-    sym (here .loop .inv .1 ∙ rw (joined-end (args .free .now) (here .loop .at) _ (omega arith)) (sought-none _ _ _))
+    sym (here .loop .inv .1 ∙ rw (joined-end _ (args .free .now) (here .loop .at) (omega arith)) (sought-none _ _ _))
 
 pub best-of-pairs-spec : {M : Type 1} → statement M
 best-of-pairs-spec =

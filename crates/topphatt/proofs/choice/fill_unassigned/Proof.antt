@@ -1,10 +1,12 @@
 -- The modes gathered and those ahead are all that no pair has.
-use Rattle.topphatt.proofs.Gathering.{gathered, gathered-all, kept-start, kept-step, kept-end}
+use Rattle.lists.proofs.Joined.{gathered, gathered-all}
+use Rattle.lists.proofs.Ranges.{keep-on, keep-done}
 use Rattle.topphatt.specs.Choices.{unassigned}
 use Rattle.lists.specs.Ranges.{listed}
 use Rattle.lists.specs.Members.{keep, some-of}
 use lib.ListN.{length, take}
 use lib.Dec.{eqb}
+use native.Mathlib.Nat.{sub-zero}
 use native.Mathlib.Omega.{arith}
 use Prim.Native.Nat.{_≤_, _-_}
 use mathlib.Core.List.{_++_}
@@ -22,7 +24,7 @@ abbrev μ-loop : tie.MeasureT-loop
 
 loop-holds : tie.Need-loop-holds Inv-loop μ-loop
 unfolding unassigned
-loop-holds c = (omega arith, omega arith, omega arith, kept-start _ _)
+loop-holds c = (omega arith, omega arith, omega arith, rw sub-zero)
 
 cast-is-assigned : tie.Need-cast-is-assigned Inv-loop μ-loop
 cast-is-assigned c = search needs
@@ -52,7 +54,7 @@ loop-again c =
       omega arith,
       omega arith,
       omega arith,
-      gathered (take (here .loop .count) (here .loop .free)) _ _ _ _ _ one (kept-step _ (args .modes) (here .loop .mode) (omega arith)) (here .loop .inv .3),
+      gathered (take (here .loop .count) (here .loop .free)) _ _ _ _ _ one (keep-on _ (λ v. v) (args .modes) (here .loop .mode) (omega arith)) (here .loop .inv .3),
     )
 
 same-length : tie.Need-same-length Inv-loop μ-loop
@@ -61,7 +63,7 @@ same-length c = search needs
 returns : tie.Need-returns Inv-loop μ-loop
 returns c =
     let here = c .before in
-    (omega arith, gathered-all _ _ _ (kept-end _ _ _ (omega arith)) (here .loop .inv .3))
+    (omega arith, gathered-all _ _ _ (keep-done _ (λ v. v) _ _ (omega arith)) (here .loop .inv .3))
 
 pub fill-unassigned-spec : {M : Type 1} → statement M
 fill-unassigned-spec =

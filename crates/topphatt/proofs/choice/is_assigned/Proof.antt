@@ -1,5 +1,5 @@
 -- Those ahead decide.
-use Rattle.topphatt.proofs.Gathering.{some-passes, some-stops, some-ends}
+use Rattle.lists.proofs.Steps.{some-passes, some-stops, some-ends}
 use Rattle.lists.specs.Members.{some-of}
 use lib.ListN.{length, drop}
 use lib.Dec.{eqb}
@@ -30,7 +30,7 @@ returns : tie.Need-returns Inv-loop μ-loop
 returns c =
     let here = c .before .before .before in
     let args = here .before .args in
-    sym (here .loop .inv .1 ∙ some-stops (args .assigned .now) (here .loop .at) (eqb (args .mode)) (omega arith) (eq-eqb _ _ (c .if1 .taken)))
+    sym (here .loop .inv .1 ∙ some-stops (eqb (args .mode)) (args .assigned .now) (here .loop .at) 0 (omega arith) (eq-eqb _ _ (c .if1 .taken)))
 
 add-at : tie.Need-add-at Inv-loop μ-loop
 add-at c = search needs
@@ -42,13 +42,13 @@ loop-again : tie.Need-loop-again Inv-loop μ-loop
 loop-again c =
     let here = c .before .before .before in
     let args = here .before .args in
-    (omega arith, here .loop .inv .1 ∙ some-passes (args .assigned .now) (here .loop .at) (eqb (args .mode)) (omega arith) (ne-eqb _ _ (c .if1 .left)))
+    (omega arith, here .loop .inv .1 ∙ some-passes (eqb (args .mode)) (args .assigned .now) (here .loop .at) 0 (omega arith) (ne-eqb _ _ (c .if1 .left)))
 
 returns-2 : tie.Need-returns-2 Inv-loop μ-loop
 returns-2 c =
     let here = c .before in
     let args = here .before .args in
-    sym (here .loop .inv .1 ∙ some-ends (args .assigned .now) (here .loop .at) (eqb (args .mode)) (omega arith))
+    sym (here .loop .inv .1 ∙ some-ends (eqb (args .mode)) (args .assigned .now) (here .loop .at) (omega arith))
 
 pub is-assigned-spec : {M : Type 1} → statement M
 is-assigned-spec =

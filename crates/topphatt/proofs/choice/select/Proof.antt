@@ -1,7 +1,7 @@
 use borrow.Author.Needs.{needs}
 -- The choices of the nodes still to come give the answer.
 use Rattle.topphatt.proofs.SoughtSteps.{over-none, over-step}
-use Rattle.topphatt.proofs.Gathering.{below-at}
+use Rattle.lists.proofs.Every.{below-at}
 use Rattle.topphatt.specs.Seeking.{sought-over, worst}
 use Rattle.terms.specs.Rows.{terms-of}
 use lib.ListN.{length, drop, drop-of-length-le}
@@ -35,7 +35,7 @@ best-at-requires : tie.Need-best-at-requires Inv-loop μ-loop
 best-at-requires c κs =
     let here = c .before .before in
     let start = here .before .before .before .before .before .before in
-    let low = below-at (start .args .active .now) (here .loop .at) (start .args .modes) (omega arith) (start .pre .1 .1 .1) in
+    let low = below-at (start .args .modes) (start .args .active .now) (here .loop .at) 0 (omega arith) (start .pre .1 .1 .1) in
     (start .pre .0, ((omega arith, omega arith, omega arith, omega arith, low), start .pre .1 .1 .0))
 
 add-at : tie.Need-add-at Inv-loop μ-loop

@@ -1,6 +1,8 @@
 -- The nodes gathered and those ahead are all with the largest distance.
 use mathlib.Core.Path.{refl, _≡_, _∙_, ap}
-use Rattle.topphatt.proofs.Gathering.{gathered, gathered-all, keep-step, keep-end, below-at}
+use Rattle.lists.proofs.Every.{below-at}
+use Rattle.lists.proofs.Joined.{gathered, gathered-all}
+use Rattle.lists.proofs.Steps.{keep-step, keep-end}
 use Rattle.topphatt.specs.Seeking.{Distances}
 use Rattle.topphatt.specs.Nodes.{distance, farthest}
 use Rattle.lists.specs.Members.{keep}
@@ -35,7 +37,7 @@ distance-at-requires : tie.Need-distance-at-requires Inv-loop μ-loop
 distance-at-requires c κs =
     let here = c .before .before in
     let start = here .before .before .before .before .before in
-    let low = below-at (start .args .left .now) (here .loop .at) (start .args .modes) (omega arith) (start .pre .1) in
+    let low = below-at (start .args .modes) (start .args .left .now) (here .loop .at) 0 (omega arith) (start .pre .1) in
     (omega arith, low)
 
 mul-put-if : tie.Need-mul-put-if Inv-loop μ-loop
@@ -64,7 +66,7 @@ loop-again c =
       omega arith,
       λ table are.
           (let one = rw (c .before .before .before .before .before .distance-at .ensures table are) at (put .ensures .1) in
-          gathered (take (here .loop .count) (here .loop .far)) _ _ _ _ _ one (keep-step (args .left .now) (here .loop .at) _ (omega arith)) (here .loop .inv .3 table are)),
+          gathered (take (here .loop .count) (here .loop .far)) _ _ _ _ _ one (keep-step _ (args .left .now) (here .loop .at) 0 (omega arith)) (here .loop .inv .3 table are)),
     )
 
 same-length : tie.Need-same-length Inv-loop μ-loop
@@ -77,7 +79,7 @@ returns c =
     let args = here .before .before .before .before .before .args in (
       omega arith,
       λ table are.
-          (gathered-all _ _ _ (keep-end (args .left .now) (here .loop .at) _ (omega arith)) (here .loop .inv .3 table are)
+          (gathered-all _ _ _ (keep-end _ (args .left .now) (here .loop .at) (omega arith)) (here .loop .inv .3 table are)
           ∙ ap (λ m. keep (λ v. eqb (distance table (args .modes) v) m) (args .left .now)) (here .before .largest .ensures table are)),
     )
 

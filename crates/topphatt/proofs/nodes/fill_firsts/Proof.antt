@@ -1,10 +1,13 @@
 -- The nodes gathered and the first of those ahead are all the firsts.
 use lib.ListN.{getD, length, take, drop}
 use mathlib.Core.Bool.{not, Bool, true}
-use Rattle.topphatt.proofs.Gathering.{firsts-next, firsts-end, gathered-all, below-at, below-more}
+use Rattle.lists.proofs.Every.{below-at, every-more}
+use Rattle.lists.proofs.Firsts.{firsts-next, firsts-end}
+use Rattle.lists.proofs.Joined.{gathered-all}
 use Rattle.topphatt.specs.Slots.{slots}
 use Rattle.lists.specs.Members.{every, alike, firsts, firsts-after}
 use lib.Dec.{ltb}
+use borrow.Author.Tests.{lt-ltb}
 use native.Mathlib.Omega.{arith}
 use Prim.Native.Nat.{ℕ, _≤_, _-_}
 use mathlib.Core.List.{_++_}
@@ -35,7 +38,7 @@ has-like-requires : tie.Need-has-like-requires Inv-loop μ-loop
 has-like-requires c κs =
     let here = c .before .before .before in
     let start = here .before .before .before .before .before in
-    let low = below-at (start .args .far .now) (here .loop .at) (start .args .modes) (omega arith) (start .pre .1) in
+    let low = below-at (start .args .modes) (start .args .far .now) (here .loop .at) 0 (omega arith) (start .pre .1) in
     ((omega arith, omega arith, omega arith, low), (omega arith, here .loop .inv .3))
 
 mul-put-if : tie.Need-mul-put-if Inv-loop μ-loop
@@ -62,14 +65,14 @@ loop-again c =
     let seen = c .before .before .before .before .before .has-like in
     let same = put .kept .0 in
     let inside = c .before .before .before .before .before .before .before .before .loop-test .taken in
-    let low = below-at (args .far .now) (here .loop .at) (args .modes) inside (start .pre .1) in
+    let low = below-at (args .modes) (args .far .now) (here .loop .at) 0 inside (start .pre .1) in
     let like : ℕ → ℕ → Bool = λ v w. alike (slots (args .modes) (args .tree .now) (args .assigned .now) v) (slots (args .modes) (args .tree .now) (args .assigned .now) w) in
     let one = rw (seen .ensures) at (put .ensures .1) in (
       omega arith,
       omega (arith, put .ensures .0),
       omega arith,
-      rw (put .ensures .1) (below-more (args .modes) (take (here .loop .count) (here .loop .kept)) (getD (args .far .now) (here .loop .at) 0) (not (seen .result)) (here .loop .inv .3) low),
-      firsts-next (args .far .now) (here .loop .at) like (take (here .loop .count) (here .loop .kept)) _ _ inside one (here .loop .inv .4),
+      rw (put .ensures .1) (every-more (λ v. ltb v (args .modes)) (take (here .loop .count) (here .loop .kept)) (getD (args .far .now) (here .loop .at) 0) (not (seen .result)) (here .loop .inv .3) (lt-ltb _ _ low)),
+      firsts-next like (args .far .now) (here .loop .at) 0 (take (here .loop .count) (here .loop .kept)) _ _ inside one (here .loop .inv .4),
     )
 
 same-length : tie.Need-same-length Inv-loop μ-loop
@@ -79,7 +82,7 @@ returns : tie.Need-returns Inv-loop μ-loop
 returns c =
     let here = c .before in
     let args = here .before .before .before .before .before .args in
-    (omega arith, gathered-all _ _ _ (firsts-end (args .far .now) (here .loop .at) _ _ (omega arith)) (here .loop .inv .4))
+    (omega arith, gathered-all _ _ _ (firsts-end _ (args .far .now) (here .loop .at) _ (omega arith)) (here .loop .inv .4))
 
 pub fill-firsts-spec : {M : Type 1} → statement M
 fill-firsts-spec =

@@ -1,11 +1,13 @@
 -- The nodes gathered and those ahead are all that remain.
-use Rattle.topphatt.proofs.Gathering.{gathered, gathered-all, kept-start, kept-step, kept-end}
+use Rattle.lists.proofs.Joined.{gathered, gathered-all}
+use Rattle.lists.proofs.Ranges.{keep-on, keep-done}
 use Rattle.topphatt.specs.Nodes.{complete, remaining}
 use Rattle.tree.specs.Table.{nodes}
 use Rattle.lists.specs.Ranges.{listed}
 use Rattle.lists.specs.Members.{keep}
 use lib.ListN.{length, take}
 use lib.Dec.{eqb}
+use native.Mathlib.Nat.{sub-zero}
 use native.Mathlib.Omega.{arith}
 use Prim.Native.Nat.{_≤_, _-_}
 use mathlib.Core.List.{_++_}
@@ -23,7 +25,7 @@ abbrev μ-loop : tie.MeasureT-loop
 
 loop-holds : tie.Need-loop-holds Inv-loop μ-loop
 unfolding remaining nodes
-loop-holds c = (omega arith, omega arith, omega arith, kept-start _ _)
+loop-holds c = (omega arith, omega arith, omega arith, rw sub-zero)
 
 remains-requires : tie.Need-remains-requires Inv-loop μ-loop
 remains-requires c κs = search needs
@@ -50,7 +52,7 @@ loop-again c =
       omega arith,
       omega arith,
       omega arith,
-      gathered (take (here .loop .count) (here .loop .left)) _ _ _ _ _ one (kept-step _ (args .modes) (here .loop .node) (omega arith)) (here .loop .inv .3),
+      gathered (take (here .loop .count) (here .loop .left)) _ _ _ _ _ one (keep-on _ (λ v. v) (args .modes) (here .loop .node) (omega arith)) (here .loop .inv .3),
     )
 
 same-length : tie.Need-same-length Inv-loop μ-loop
@@ -59,7 +61,7 @@ same-length c = search needs
 returns : tie.Need-returns Inv-loop μ-loop
 returns c =
     let here = c .before in
-    (omega arith, gathered-all _ _ _ (kept-end _ _ _ (omega arith)) (here .loop .inv .3))
+    (omega arith, gathered-all _ _ _ (keep-done _ (λ v. v) _ _ (omega arith)) (here .loop .inv .3))
 
 pub fill-remaining-spec : {M : Type 1} → statement M
 fill-remaining-spec =

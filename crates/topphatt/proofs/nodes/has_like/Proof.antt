@@ -1,6 +1,7 @@
 -- Those ahead decide.
 use lib.Seq.{getD-take, length-take-le}
-use Rattle.topphatt.proofs.Gathering.{some-passes, some-stops, some-ends, below-at}
+use Rattle.lists.proofs.Every.{below-at}
+use Rattle.lists.proofs.Steps.{some-passes, some-stops, some-ends}
 use Rattle.topphatt.specs.Slots.{slots}
 use Rattle.lists.specs.Members.{some-of, alike}
 use lib.ListN.{drop, take}
@@ -33,7 +34,7 @@ alike-nodes-requires c κs =
     let at = here .loop .at in
     let kept = start .args .kept .now in
     let size = length-take-le (start .args .count) kept (start .pre .1 .0) in
-    let low = rw (getD-take (start .args .count) kept at 0 (c .before .loop-test .taken)) at (below-at (take (start .args .count) kept) at (start .args .modes) (omega arith) (start .pre .1 .1)) in
+    let low = rw (getD-take (start .args .count) kept at 0 (c .before .loop-test .taken)) at (below-at (start .args .modes) (take (start .args .count) kept) at 0 (omega arith) (start .pre .1 .1)) in
     (omega arith, omega arith, omega arith, omega arith, low)
 
 returns : tie.Need-returns Inv-loop μ-loop
@@ -45,7 +46,7 @@ returns c =
     let kept = args .kept .now in
     let size = length-take-le (args .count) kept (start .pre .1 .0) in
     let same = getD-take (args .count) kept at 0 (c .before .before .before .loop-test .taken) in
-    sym (here .loop .inv .1 ∙ some-stops (take (args .count) kept) at _ (omega arith) (rw same (sym (c .before .alike-nodes .ensures) ∙ c .if1 .taken)))
+    sym (here .loop .inv .1 ∙ some-stops _ (take (args .count) kept) at 0 (omega arith) (rw same (sym (c .before .alike-nodes .ensures) ∙ c .if1 .taken)))
 
 add-at : tie.Need-add-at Inv-loop μ-loop
 add-at c = search needs
@@ -63,7 +64,7 @@ loop-again c =
     let size = length-take-le (args .count) kept (start .pre .1 .0) in
     let same = getD-take (args .count) kept at 0 (c .before .before .before .loop-test .taken) in (
       omega arith,
-      here .loop .inv .1 ∙ some-passes (take (args .count) kept) at _ (omega arith) (rw same (sym (c .before .alike-nodes .ensures) ∙ c .if1 .left)),
+      here .loop .inv .1 ∙ some-passes _ (take (args .count) kept) at 0 (omega arith) (rw same (sym (c .before .alike-nodes .ensures) ∙ c .if1 .left)),
     )
 
 returns-2 : tie.Need-returns-2 Inv-loop μ-loop
@@ -72,7 +73,7 @@ returns-2 c =
     let start = here .before .before .before .before in
     let args = start .args in
     let size = length-take-le (args .count) (args .kept .now) (start .pre .1 .0) in
-    sym (here .loop .inv .1 ∙ some-ends (take (args .count) (args .kept .now)) (here .loop .at) _ (omega arith))
+    sym (here .loop .inv .1 ∙ some-ends _ (take (args .count) (args .kept .now)) (here .loop .at) (omega arith))
 
 pub has-like-spec : {M : Type 1} → statement M
 has-like-spec =

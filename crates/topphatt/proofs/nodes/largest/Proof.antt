@@ -1,5 +1,6 @@
 -- The largest so far and those ahead have the largest of all.
-use Rattle.topphatt.proofs.Gathering.{largest-step, largest-end, below-at}
+use Rattle.lists.proofs.Every.{below-at}
+use Rattle.topphatt.proofs.DistanceSteps.{largest-step, largest-end}
 use Rattle.topphatt.specs.Seeking.{Distances}
 use Rattle.topphatt.specs.Nodes.{distance, largest}
 use lib.ListN.{length, drop}
@@ -30,7 +31,7 @@ distance-at-requires : tie.Need-distance-at-requires Inv-loop μ-loop
 distance-at-requires c κs =
     let here = c .before .before in
     let start = here .before .before .before in
-    let low = below-at (start .args .left .now) (here .loop .at) (start .args .modes) (omega arith) (start .pre .1) in
+    let low = below-at (start .args .modes) (start .args .left .now) (here .loop .at) 0 (omega arith) (start .pre .1) in
     (start .pre .0, low)
 
 larger-requires : tie.Need-larger-requires Inv-loop μ-loop
@@ -50,7 +51,7 @@ loop-again c =
       λ table are.
           (let inv = here .loop .inv .1 table are in
           let far = c .before .distance-at .ensures table are in
-          let step = largest-step (args .left .now) (here .loop .at) (distance table (args .modes)) (omega arith) in
+          let step = largest-step (distance table (args .modes)) (args .left .now) (here .loop .at) (omega arith) in
           let e = c .larger .ensures in
           omega arith),
     )
@@ -61,7 +62,7 @@ returns c =
     let args = here .before .before .before .args in
     λ table are.
     (let inv = here .loop .inv .1 table are in
-    let done = largest-end (args .left .now) (here .loop .at) (distance table (args .modes)) (omega arith) in
+    let done = largest-end (distance table (args .modes)) (args .left .now) (here .loop .at) (omega arith) in
     omega arith)
 
 pub largest-spec : {M : Type 1} → statement M
