@@ -1,10 +1,11 @@
 -- The best that is sought over a round's nodes is the choice of the round.
-use mathlib.Core.Path.{_≡_, refl, _∙_, ap}
-use mathlib.Core.List.{List, [], _∷_, map, flatMap}
+use mathlib.Core.Path.{_≡_, refl, _∙_, ap, sym, fun-ext}
+use mathlib.Core.List.{List, [], _∷_, map, flatMap, map-map}
 use Prim.Native.Nat.{ℕ, _≤_}
 use native.Mathlib.Omega.{arith}
 use lib.ListN.{length}
 use Rattle.lists.specs.Least.{least, lighter}
+use Rattle.lists.proofs.Joined.{map-flatMap}
 use Rattle.lists.proofs.Least.{least-map}
 use Rattle.terms.specs.declared.row.Triple.{Triple}
 use Rattle.terms.proofs.WeightBound.{weight-at-most}
@@ -13,7 +14,7 @@ use Rattle.topphatt.specs.Nodes.{active}
 use Rattle.topphatt.specs.Choices.{choices-at}
 use Rattle.topphatt.specs.Choice.{Choice, candidates, least-of, rank, chosen}
 use Rattle.topphatt.specs.Seeking.{weighed, standing, worst, sought-over, choice-of}
-use Rattle.topphatt.proofs.SoughtSteps.{map-joined, by-weight}
+use Rattle.topphatt.proofs.SoughtSteps.{by-weight}
 
 module _ (rows : List (List ℕ)) where
   of : Choice → Selection
@@ -22,17 +23,13 @@ module _ (rows : List (List ℕ)) where
   at-node : ℕ → List Triple → List Choice
   at-node node triples = map (λ triple. record { node = node; triple = triple }) triples
 
-  weighed-at : (node : ℕ) (triples : List Triple) → map (weighed rows node) triples ≡ map of (at-node node triples)
-  unfolding of at-node
-  weighed-at node [] = refl
-  weighed-at node (triple ∷ rest) = ap (λ l. weighed rows node triple ∷ l) (weighed-at node rest)
-
   weighed-all : (f : ℕ → List Triple) (nodes : List ℕ)
       → flatMap (λ node. map (weighed rows node) (f node)) nodes ≡ map of (flatMap (λ node. at-node node (f node)) nodes)
-  unfolding flatMap
-  weighed-all f [] = refl
-  weighed-all f (node ∷ nodes) =
-      rw (map-joined of (at-node node (f node)) (flatMap (λ n. at-node n (f n)) nodes), weighed-at node (f node), weighed-all f nodes)
+  unfolding of at-node
+  weighed-all f nodes =
+      sym
+      (map-flatMap of (λ node. at-node node (f node)) nodes
+      ∙ ap (λ g. flatMap g nodes) (fun-ext (λ node. map-map of (λ triple. record { node = node; triple = triple }) (f node))))
 
   least-sought : (live : ℕ) (l : List Choice) → length rows ≤ live → choice-of (least standing (worst live) (map of l)) ≡ least-of (rank rows) l
   unfolding least-of least choice-of worst of weighed standing rank
