@@ -1,48 +1,22 @@
 -- The candidates one after the other: those of each a in turn, and of an a those with each z.
 use mathlib.Core.Path.{_≡_, refl, ap, _∙_, fun-ext}
 use mathlib.Core.Bool.{Bool, true, false, cond, _&&_}
-use mathlib.Core.List.{List, [], _∷_, _++_, map, flatMap, map-append}
-use Prim.Native.Nat.{ℕ, zero, suc, _+_, _-_, _<_, _≤_}
+use mathlib.Core.List.{List, [], _∷_, _++_, map, flatMap}
+use Prim.Native.Nat.{ℕ, _+_, _-_, _<_, _≤_}
 use native.Mathlib.Nat.{sub-zero}
 use Rattle.lists.specs.Members.{keep}
 use Rattle.lists.specs.Ranges.{listed}
 use Rattle.terms.specs.declared.row.Triple.{Triple}
-use Rattle.lists.proofs.Ranges.{listed-step, listed-end}
+use Rattle.lists.proofs.Listed.{map-listed}
+use Rattle.lists.proofs.Kept.{keep-map, keep-none}
+use Rattle.lists.proofs.Joined.{map-flatMap}
+use Rattle.lists.proofs.Ranges.{listed-step, listed-end, keep-on, keep-done, keep-same}
 use Rattle.merging.specs.declared.lawful.Couple.the-variants.{Of, Nothing}
 use Rattle.merging.specs.History.{next-parent}
 use Rattle.merging.specs.Lawful.{named, is-lawful, entities, pairs-with, lawful-pairs}
 use Rattle.merging.specs.Choice.{candidates}
 use Rattle.merging.specs.Couples.{x-of, y-of, coupled, couple, free, beside, beside-couple}
 use Rattle.merging.proofs.Couples.{named-parts, lawful-parts}
-
-map-listed : {A B : Type 0} (f : A → B) (rule : ℕ → A) (from count : ℕ) → map f (listed rule from count) ≡ listed (λ i. f (rule i)) from count
-unfolding listed
-map-listed f rule from zero = refl
-map-listed f rule from (suc count) = ap (λ l. f (rule from) ∷ l) (map-listed f rule (suc from) count)
-
--- Keeping before or after mapping is the same, where the tests are.
-keep-map : {A B : Type 0} (f : A → B) (test : A → Bool) (other : B → Bool) → ((a : A) → test a ≡ other (f a)) → (l : List A)
-    → map f (keep test l) ≡ keep other (map f l)
-unfolding keep
-keep-map f test other same [] = refl
-keep-map f test other same (a ∷ l) = rw (same a) (go (other (f a)) (keep-map f test other same l))
-  where
-    go : (b : Bool) → map f (keep test l) ≡ keep other (map f l)
-        → map f (cond b (a ∷ []) [] ++ keep test l) ≡ cond b (f a ∷ []) [] ++ keep other (map f l)
-    go true e = ap (λ m. f a ∷ m) e
-    go false e = e
-
-keep-none : {A : Type 0} (test : A → Bool) → ((a : A) → test a ≡ false) → (l : List A) → keep test l ≡ []
-unfolding keep
-keep-none test none [] = refl
-keep-none test none (a ∷ l) = rw (none a) (keep-none test none l)
-
--- Two tests that agree on what a rule lists keep the same of it.
-keep-same : {A : Type 0} (rule : ℕ → A) (test other : A → Bool) → ((i : ℕ) → test (rule i) ≡ other (rule i)) → (from count : ℕ)
-    → keep test (listed rule from count) ≡ keep other (listed rule from count)
-unfolding keep listed
-keep-same rule test other same from zero = refl
-keep-same rule test other same from (suc count) = rw (same from, keep-same rule test other same (suc from) count)
 
 module _ (modes : ℕ) (history : List Triple) where
   -- The triples that the lawful pairs with this a name.
@@ -85,12 +59,10 @@ module _ (modes : ℕ) (history : List Triple) where
   candidates-from a count = flatMap named-with (listed (λ entity. entity) a count)
 
   pub candidates-all : candidates modes history ≡ candidates-from 0 (next-parent modes history - 0)
-  unfolding candidates candidates-from lawful-pairs entities named-with flatMap
-  candidates-all = rw (sub-zero (next-parent modes history)) (map-joined (listed (λ entity. entity) 0 (next-parent modes history)))
-    where
-      map-joined : (l : List ℕ) → map (named modes history) (flatMap (pairs-with modes history) l) ≡ flatMap named-with l
-      map-joined [] = refl
-      map-joined (a ∷ l) = map-append (named modes history) (pairs-with modes history a) (flatMap (pairs-with modes history) l) ∙ ap (λ m. named-with a ++ m) (map-joined l)
+  unfolding candidates candidates-from lawful-pairs entities named-with
+  candidates-all =
+      rw (sub-zero (next-parent modes history))
+      (map-flatMap (named modes history) (pairs-with modes history) (listed (λ entity. entity) 0 (next-parent modes history)))
 
   pub candidates-step : (a count : ℕ) → a < count → candidates-from a (count - a) ≡ named-with a ++ candidates-from (a + 1) (count - (a + 1))
   unfolding candidates-from flatMap
@@ -105,9 +77,9 @@ module _ (modes : ℕ) (history : List Triple) where
       → beside modes history x y z (count - z)
       ≡ cond (free modes history (record { x = x; y = y; z = z })) (record { x = x; y = y; z = z } ∷ []) []
       ++ beside modes history x y (z + 1) (count - (z + 1))
-  unfolding beside keep
-  beside-step x y z count h = rw (listed-step {A = Triple} (λ w. record { x = x; y = y; z = w }) count z h)
+  unfolding beside
+  beside-step x y z count h = keep-on (free modes history) (λ w. record { x = x; y = y; z = w }) count z h
 
   pub beside-end : (x y z count : ℕ) → count ≤ z → beside modes history x y z (count - z) ≡ []
-  unfolding beside keep
-  beside-end x y z count h = rw (listed-end {A = Triple} (λ w. record { x = x; y = y; z = w }) count z h)
+  unfolding beside
+  beside-end x y z count h = keep-done (free modes history) (λ w. record { x = x; y = y; z = w }) count z h

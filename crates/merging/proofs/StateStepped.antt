@@ -15,7 +15,7 @@ use Rattle.merging.specs.declared.run.Run.{Run}
 use Rattle.merging.specs.History.{next-parent}
 use Rattle.merging.specs.Lawful.{named, lawful-pairs}
 use Rattle.merging.specs.Choice.{weight-in, candidates, least-of, chosen}
-use Rattle.merging.specs.Couples.{weight-here, nothing, seek}
+use Rattle.merging.specs.Couples.{weight-here, nothing, weighed, seek}
 use Rattle.merging.specs.Run.{greedy, finished}
 use Rattle.merging.specs.State.{history-of, Holds, Ready, Went}
 use Rattle.merging.proofs.StateMerged.{parent-is}
@@ -47,7 +47,7 @@ module _ (entities steps : ℕ) (terms : List (List ℕ)) (rows : List ℕ) (run
   module _ (left : run .step < run .modes) where
     found : (l : List Triple) → 0 < length l
         → seek (weight-here (run .live) rows) (nothing (run .live)) l
-        ≡ record { weight = weight-in (run .modes) terms (history-of run) (least-of (weight-in (run .modes) terms (history-of run)) l); triple = least-of (weight-in (run .modes) terms (history-of run)) l }
+        ≡ weighed (weight-in (run .modes) terms (history-of run)) (least-of (weight-in (run .modes) terms (history-of run)) l)
     found [] h = absurd (omega arith)
     found (first ∷ rest) h =
         sought (weight-here (run .live) rows) (nothing (run .live)) first rest (weight-low first) ∙ rw weighs-here
@@ -59,12 +59,13 @@ module _ (entities steps : ℕ) (terms : List (List ℕ)) (rows : List ℕ) (run
         (some-pair (run .modes) (history-of run) (holds .lawful) (run .modes - run .step) (omega (arith, merges-so-far)) (omega arith))
 
     pub best-is : seek (weight-here (run .live) rows) (nothing (run .live)) (candidates (run .modes) (history-of run))
-        ≡ record { weight = weight-in (run .modes) terms (history-of run) (chosen (run .modes) terms (history-of run)); triple = chosen (run .modes) terms (history-of run) }
+        ≡ weighed (weight-in (run .modes) terms (history-of run)) (chosen (run .modes) terms (history-of run))
     unfolding chosen
     best-is = found (candidates (run .modes) (history-of run)) candidates-some
 
     pub ready-chosen : (best : Best) → best ≡ seek (weight-here (run .live) rows) (nothing (run .live)) (candidates (run .modes) (history-of run))
         → Ready entities steps terms rows run (best .triple) (best .weight)
+    unfolding weighed
     ready-chosen best e =
         rw (e ∙ best-is)
         (record {

@@ -1,10 +1,11 @@
 -- How the code goes through the lawful pairs: each a with its x and y first, then every z that is free beside them.
 use mathlib.Core.Path.{_≡_}
 use mathlib.Core.Bool.{Bool, false, cond, not, _&&_}
-use mathlib.Core.List.{List, [], _∷_}
+use mathlib.Core.List.{List, [], map}
 use Prim.Native.Nat.{ℕ, _+_, _*_, _%_, _<_, _≤_}
 use lib.Dec.{eqb, ltb}
 use lib.ListN.{getD}
+use Rattle.lists.specs.Least.{least}
 use Rattle.lists.specs.Members.{keep}
 use Rattle.lists.specs.Ranges.{listed}
 use Rattle.terms.specs.declared.row.Triple.{Triple}
@@ -59,15 +60,13 @@ beside-couple modes history count Nothing = []
 unfoldable pub weight-here : ℕ → List ℕ → Triple → ℕ
 weight-here live rows triple = weight-of triple (terms-of 8 live rows)
 
--- The lighter of the best so far and a triple; on a tie the best so far.
-unfoldable pub better : (Triple → ℕ) → Best → Triple → Best
-better measure best triple =
-    cond (ltb (measure triple) (best .weight)) (record { weight = measure triple; triple = triple }) best
+-- A triple with its weight.
+unfoldable pub weighed : (Triple → ℕ) → Triple → Best
+weighed measure triple = record { weight = measure triple; triple = triple }
 
--- The best so far against the triples of a list, one after the other.
+-- The best so far against the triples of a list, one after the other; on a tie the first.
 unfoldable pub seek : (Triple → ℕ) → Best → List Triple → Best
-seek measure best [] = best
-seek measure best (triple ∷ rest) = seek measure (better measure best triple) rest
+seek measure best triples = least (λ b. b .weight) best (map (weighed measure) triples)
 
 -- Before the first triple: above every weight, since a row weighs at most 1.
 unfoldable pub nothing : ℕ → Best

@@ -17,7 +17,6 @@ ghost use Rattle.merging.specs.Couples.{
   «beside-couple»,
   «weight-here»,
   couple,
-  better,
   seek,
   nothing,
 };
@@ -34,7 +33,7 @@ pub struct Best {
 
 // The lighter of the best so far and a triple; on a tie the best so far.
 fn lighter(best: Best, triple: Triple, weight: usize) -> Best
-    ensures { λ r. ⌜ ((measure : Three → ℕ) → measure triple ≡ weight → r ≡ better measure best triple) ⌝ }
+    ensures { λ r. ⌜ ((measure : Three → ℕ) → measure triple ≡ weight → r ≡ seek measure best (triple ∷ [])) ⌝ }
 {
     if weight < best.weight {
         return Best {

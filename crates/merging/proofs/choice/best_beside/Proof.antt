@@ -2,23 +2,24 @@
 use mathlib.Core.Path.{sym, _∙_}
 use borrow.Author.Tests.{eq-eqb, ne-eqb, not-true, not-false}
 use borrow.Author.Needs.{needs}
+use Rattle.lists.specs.Least.{least}
 use Rattle.merging.specs.Couples.{free, seek, weight-here}
 use Rattle.merging.proofs.choice.best_beside.Statement.{statement}
 use Rattle.merging.proofs.choice.best_beside.Tie as tie
 
 returns : tie.Need-returns
-unfolding free seek
+unfolding free seek least
 returns c modes history within opens = rw (eq-eqb _ _ (c .if1 .taken))
 
 returns-2 : tie.Need-returns-2
-unfolding free seek
+unfolding free seek least
 returns-2 c modes history within opens = rw (ne-eqb _ _ (c .before .before .if1 .left), eq-eqb _ _ (c .if2 .taken))
 
 marked-requires : tie.Need-marked-requires
 marked-requires c κs = search needs
 
 returns-3 : tie.Need-returns-3
-unfolding free seek
+unfolding free seek least
 returns-3 c modes history within opens =
     rw (
       ne-eqb _ _ (c .before .before .before .before .if1 .left),
@@ -33,7 +34,7 @@ lighter-requires : tie.Need-lighter-requires
 lighter-requires c κs = search needs
 
 returns-4 : tie.Need-returns-4
-unfolding free seek weight-here
+unfolding free weight-here
 returns-4 c modes history within opens =
     rw (
       ne-eqb _ _ (c .before .before .before .before .before .before .if1 .left),

@@ -1,7 +1,8 @@
 -- An entity without a couple names nothing; one with a couple names the couple's triples.
 use mathlib.Core.Path.{sym, _∙_}
 use borrow.Author.Needs.{needs}
-use Rattle.merging.specs.Couples.{beside-couple, seek}
+use Rattle.merging.specs.Couples.{beside-couple}
+use Rattle.merging.proofs.Seeking.{seek-none}
 use Rattle.merging.proofs.choice.best_with.Statement.{statement}
 use Rattle.merging.proofs.choice.best_with.Tie as tie
 
@@ -15,9 +16,9 @@ enum-told : tie.Need-enum-told
 enum-told c = search needs
 
 returns : tie.Need-returns
-unfolding beside-couple seek
+unfolding beside-couple
 returns c history tied =
-    rw (sym (c .before .before .couple-of .ensures history tied) ∙ c .enum-told .given .1)
+    rw (sym (c .before .before .couple-of .ensures history tied) ∙ c .enum-told .given .1) (sym (seek-none _ _))
 
 best-of-couple-requires : tie.Need-best-of-couple-requires
 best-of-couple-requires c κs = search needs

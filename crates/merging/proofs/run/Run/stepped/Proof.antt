@@ -6,7 +6,7 @@ use native.Mathlib.Omega.{arith}
 use borrow.Author.Needs.{needs}
 use Rattle.merging.specs.declared.run.Run.{Run}
 use Rattle.merging.specs.Choice.{candidates, chosen}
-use Rattle.merging.specs.Couples.{weight-here, nothing, seek}
+use Rattle.merging.specs.Couples.{weight-here, nothing, weighed, seek}
 use Rattle.merging.specs.State.{history-of, Holds, Ready}
 use Rattle.merging.proofs.StateMerged.{parent-is}
 use Rattle.merging.proofs.StateStepped.{ends-low, best-is, ready-chosen}
@@ -60,6 +60,7 @@ same-length : tie.Need-same-length
 same-length c = search needs
 
 returns : tie.Need-returns
+unfolding weighed
 returns c terms holds =
     let start = c .before .before .before .before .before .before .before .before .before .before .before .before in
     let run = start .args .t1 in
