@@ -54,14 +54,20 @@ module _ {A : Type 0} where
       both : {a b c d : List A} → a ≡ b → c ≡ d → a ++ (q ++ c) ≡ b ++ (q ++ d)
       both e f = rw (e, f)
 
+  -- One element stored behind a part.
+  pub written-one : (place : ℕ) (part s : List A) (i : ℕ) (v : A) → i ≡ place + length part → i < length s
+      → set (written-at place part s) i v ≡ written-at place (part ++ (v ∷ [])) s
+  written-one place part s i v e h =
+      rw e
+      (set-written (written-at place part s) (place + length part) v (rw (length-written place part s (omega arith)) (omega arith))
+      ∙ written-behind place part (v ∷ []) s (omega arith))
+
   -- A part written over the front of what was lent from a place on, and one element stored behind it.
   pub written-and-one : (place : ℕ) (part : List A) (mark : A) (s : List A) → place + (length part + 1) ≤ length s
       → set (putMid place (length s - place) s (written-at 0 part (take (length s - place) (drop place s)))) (place + length part) mark
       ≡ written-at place (part ++ (mark ∷ [])) s
   written-and-one place part mark s h =
-      rw (rest-written place part s (omega arith))
-      (set-written (written-at place part s) (place + length part) mark (rw (length-written place part s (omega arith)) (omega arith))
-      ∙ written-behind place part (mark ∷ []) s (omega arith))
+      rw (rest-written place part s (omega arith)) (written-one place part s (place + length part) mark refl (omega arith))
 
   -- At the front there is always room.
   pub written-behind-front : (p q s : List A) → written-at (length p) q (written-at 0 p s) ≡ written-at 0 (p ++ q) s
@@ -76,6 +82,10 @@ module _ {A : Type 0} where
         length-append p q,
       )
       (sym (append-assoc p q (drop (length p + length q) s)))
+
+  -- A part written behind one of so many elements at the front.
+  pub front-behind : (p q s out : List A) (n : ℕ) → length p ≡ n → out ≡ written-at 0 p s → written-at n q out ≡ written-at 0 (p ++ q) s
+  front-behind p q s out n l e = rw (e, ← l) (written-behind-front p q s)
 
 -- A part was written at a place, and this is the place after it.
 pub record Wrote {A : Type 0} (at : ℕ) (part before after : List A) (end : ℕ) : Type 0 where

@@ -6,7 +6,7 @@ use Prim.Native.Nat.{ℕ, zero, suc, _<_, _≤_}
 use native.Mathlib.Omega.{arith}
 use borrow.Author.Tests.{ltb-true}
 use lib.Dec.{ltb}
-use lib.ListN.{length, getD}
+use lib.ListN.{length, getD, take, drop}
 use Rattle.lists.specs.Members.{every, keep, leading, some-of, firsts-after}
 
 module _ {A : Type 0} (test : A → Bool) where
@@ -49,6 +49,20 @@ module _ {A : Type 0} (test : A → Bool) where
   every-chosen : (b : Bool) (l m : List A) → every test l ≡ true → every test m ≡ true → every test (cond b l m) ≡ true
   every-chosen true l m e f = e
   every-chosen false l m e f = f
+
+  pub every-taken : (count : ℕ) (l : List A) → every test l ≡ true → every test (take count l) ≡ true
+  unfolding every
+  every-taken zero l e = refl
+  every-taken (suc count) [] e = refl
+  every-taken (suc count) (a ∷ l) e =
+      let p = every-uncons a l e in
+      every-cons a (take count l) (p .0) (every-taken count l (p .1))
+
+  pub every-dropped : (count : ℕ) (l : List A) → every test l ≡ true → every test (drop count l) ≡ true
+  unfolding every
+  every-dropped zero l e = e
+  every-dropped (suc count) [] e = refl
+  every-dropped (suc count) (a ∷ l) e = every-dropped count l (every-uncons a l e .1)
 
   -- One more, where it stays.
   pub every-more : (front : List A) (a : A) (stays : Bool) → every test front ≡ true → test a ≡ true

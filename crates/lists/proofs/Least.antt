@@ -8,6 +8,8 @@ use native.Mathlib.Omega.{arith}
 use borrow.Author.Tests.{ltb-true, ltb-false, lt-ltb, le-ltb}
 use lib.Dec.{ltb}
 use Rattle.lists.specs.Least.{least, lighter}
+use Rattle.lists.specs.Members.{every}
+use Rattle.lists.proofs.Every.{every-uncons}
 use Rattle.lists.proofs.Ordered.{Ascending}
 
 pub record FirstLeast {A : Type 0} (measure : A → ℕ) (before : A → A → Type 0) (l : List A) (result : A) : Type 0 where
@@ -51,6 +53,17 @@ module _ {A : Type 0} (measure : A → ℕ) where
       ⊎-elim
       (λ second. absurd (omega (arith, least-at-most a l, ap measure (ap (λ b. least measure b l) (second .1)))))
       (λ stays. rw (stays .1) (least-ties best l (rw (stays .1) at e)))
+      (lighter-cases best a)
+
+  -- What holds of all holds of the least.
+  pub least-passes : (test : A → Bool) (best : A) (l : List A) → test best ≡ true → every test l ≡ true → test (least measure best l) ≡ true
+  unfolding least
+  least-passes test best [] h e = h
+  least-passes test best (a ∷ l) h e =
+      let p = every-uncons test a l e in
+      ⊎-elim
+      (λ second. rw (second .1) (least-passes test a l (p .0) (p .1)))
+      (λ stays. rw (stays .1) (least-passes test best l h (p .1)))
       (lighter-cases best a)
 
   -- The least of two lists joined, and of what they are mapped to, is sought in one after the other.

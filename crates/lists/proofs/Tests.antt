@@ -1,10 +1,10 @@
 -- What tests tell: two of them joined, and the one for the same number.
-use mathlib.Core.Path.{_≡_, refl}
+use mathlib.Core.Path.{_≡_, refl, _∙_, sym}
 use mathlib.Core.Bool.{Bool, true, false, _&&_, _||_, and-eq-true-iff}
-use mathlib.Core.Logic.{_⊎_, inl, inr}
+use mathlib.Core.Logic.{_⊎_, inl, inr, ⊎-elim}
 use Prim.Native.Nat.{ℕ}
 use native.Mathlib.Omega.{arith}
-use borrow.Author.Tests.{eqb-true, eqb-false}
+use borrow.Author.Tests.{eqb-true, eqb-false, eq-eqb, ne-eqb}
 use lib.Dec.{eqb}
 
 pub both : (p q : Bool) → (p && q) ≡ true → (p ≡ true) × (q ≡ true)
@@ -28,3 +28,7 @@ same-or-not m n = go (eqb m n) refl
     go : (b : Bool) → eqb m n ≡ b → (m ≡ n) ⊎ (m ≡ n → ⊥)
     go true e = inl (eqb-true m n e)
     go false e = inr (eqb-false m n e)
+
+pub eqb-either : (m n : ℕ) → eqb m n ≡ eqb n m
+eqb-either m n =
+    ⊎-elim (λ e. eq-eqb m n e ∙ sym (eq-eqb n m (sym e))) (λ e. ne-eqb m n e ∙ sym (ne-eqb n m (λ f. e (sym f)))) (same-or-not m n)

@@ -1,12 +1,17 @@
 -- One write of a loop that fills a list from its front.
-use mathlib.Core.Path.{_≡_, _∙_, sym}
+use mathlib.Core.Path.{_≡_, ap, _∙_, sym}
+use mathlib.Core.Bool.{cond}
 use mathlib.Core.List.{List, [], _∷_, _++_}
+use mathlib.Core.Logic.{⊎-elim}
 use Prim.Native.Nat.{ℕ, _+_, _<_, _≤_}
 use native.Mathlib.Numerals.{add-one}
 use native.Mathlib.Omega.{arith}
 use borrow.Author.Count.{below-more}
+use borrow.Author.Tests.{eq-eqb, ne-eqb}
+use lib.Dec.{eqb}
 use lib.ListN.{length, getD, take, set, replicate, replicate-append-replicate}
 use lib.Seq.{take-suc, take-suc-set, take-all, getD-set-same, getD-set-other}
+use Rattle.lists.proofs.Tests.{same-or-not}
 
 module _ {A : Type 0} where
   pub written-next : (s : List A) (i : ℕ) (v : A) → i < length s → take (i + 1) (set s i v) ≡ take i s ++ (v ∷ [])
@@ -19,6 +24,13 @@ module _ {A : Type 0} where
   pub filled-next : (s : List A) (i : ℕ) (v : A) → i < length s → take i s ≡ replicate i v
       → take (i + 1) (set s i v) ≡ replicate (i + 1) v
   filled-next s i v h e = rw (written-next s i v h, e, ← replicate-append-replicate i 1 v)
+
+  -- A write at one place, seen from any other.
+  pub after-write : (s : List A) (i : ℕ) (v d : A) → i < length s → (k : ℕ) → getD (set s i v) k d ≡ cond (eqb k i) v (getD s k d)
+  after-write s i v d h k =
+      ⊎-elim
+      (λ e. rw (eq-eqb k i e) (ap (λ n. getD (set s i v) n d) e ∙ getD-set-same s i v d h))
+      (λ e. rw (ne-eqb k i e) (getD-set-other s i k v d e)) (same-or-not k i)
 
   -- A list that agrees with a rule at the places before one agrees at that one too once it is written.
   pub agrees-next : (rule : ℕ → A) (s : List A) (i : ℕ) (v d : A) → i < length s → v ≡ rule i → ((k : ℕ) → k < i → getD s k d ≡ rule k)

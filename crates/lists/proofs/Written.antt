@@ -26,6 +26,13 @@ module _ {A : Type 0} (place : ℕ) (part s : List A) where
     unfolding written-at
     take-written = take-at (take place s) (part ++ drop (place + length part) s) place front-length
 
+    pub front-written : take (place + length part) (written-at place part s) ≡ take place s ++ part
+    unfolding written-at
+    front-written =
+        rw (← append-assoc (take place s) part (drop (place + length part) s))
+        (take-at (take place s ++ part) (drop (place + length part) s) (place + length part)
+        (omega (arith, length-append (take place s) part, front-length)))
+
     pub from-written : drop place (written-at place part s) ≡ part ++ drop (place + length part) s
     unfolding written-at
     from-written = drop-at (take place s) (part ++ drop (place + length part) s) place front-length
