@@ -1,6 +1,6 @@
 -- The flatpack has a row of four for each node, and among its children each entity but the root once: the absent one too.
 use mathlib.Core.Path.{_≡_, refl, ap, _∙_}
-use mathlib.Core.List.{List, [], _∷_, flatMap}
+use mathlib.Core.List.{List, [], _∷_, flatMap, flatMap}
 use Prim.Native.Nat.{ℕ, _+_, _*_, _<_, _≤_}
 use native.Mathlib.Nat.{add-zero}
 use native.Mathlib.Omega.{arith}
@@ -46,7 +46,7 @@ merges-total weight (merge ∷ history) =
     omega arith
 
 pub length-rows : (modes : ℕ) (history : List Triple) (labels : List ℕ) → length (rows-for modes history labels) ≡ 4 * length labels
-unfolding rows-for children
+unfolding rows-for flatMap children
 length-rows modes history [] = refl
 length-rows modes history (label ∷ labels) = let rest = length-rows modes history labels in omega arith
 

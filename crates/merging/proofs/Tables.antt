@@ -1,19 +1,17 @@
 -- The entities' tables: at the start, and after a merge.
-use mathlib.Core.Path.{_≡_, refl, ap, _∙_, sym}
+use mathlib.Core.Path.{_≡_, refl, _∙_, sym}
 use mathlib.Core.Bool.{Bool, true, false, cond, not, _&&_, _||_, and-true, and-false}
 use mathlib.Core.List.{List, [], _∷_}
-use mathlib.Core.Logic.{⊎-elim}
 use Prim.Native.Nat.{ℕ, _+_, _*_, _<_, _≤_}
 use native.Mathlib.Nat.{zero-add}
 use native.Mathlib.Omega.{arith}
-use borrow.Author.Tests.{eq-eqb, ne-eqb}
 use lib.Dec.{eqb}
 use lib.ListN.{length, getD, set, length-set}
-use lib.Seq.{getD-set-same, getD-set-other}
 use Rattle.lists.specs.Ranges.{listed}
 use Rattle.terms.specs.declared.row.Triple.{Triple}
 use Rattle.lists.proofs.Listed.{listed-at}
-use Rattle.lists.proofs.Tests.{same-or-not}
+use Rattle.lists.proofs.Tests.{eqb-either}
+use Rattle.lists.proofs.Writes.{after-write}
 use Rattle.merging.specs.History.{next-parent, among, is-open, z-end, holder}
 use Rattle.merging.specs.Couples.{OpensAre, EndsAre, HoldersAre, Tied}
 
@@ -28,18 +26,6 @@ tied-start room modes h =
       ends-are = λ entity inside. rw (listed-at (λ e. e) 0 room entity 0 inside, zero-add entity);
       holders-are = λ leaf inside. rw (listed-at (λ e. e) 0 room leaf 0 inside, zero-add leaf);
     }
-
--- A write at one place, seen from any other.
-module _ {A : Type 0} (table : List A) (place : ℕ) (value other : A) (inside : place < length table) where
-  pub after-write : (at : ℕ) → getD (set table place value) at other ≡ cond (eqb at place) value (getD table at other)
-  after-write at =
-      ⊎-elim
-      (λ e. rw (eq-eqb at place e) (ap (λ n. getD (set table place value) n other) e ∙ getD-set-same table place value other inside))
-      (λ e. rw (ne-eqb at place e) (getD-set-other table place at value other e)) (same-or-not at place)
-
-eqb-either : (m n : ℕ) → eqb m n ≡ eqb n m
-eqb-either m n =
-    ⊎-elim (λ e. eq-eqb m n e ∙ sym (eq-eqb n m (sym e))) (λ e. ne-eqb m n e ∙ sym (ne-eqb n m (λ f. e (sym f)))) (same-or-not m n)
 
 -- Closed by any of three writes is closed.
 none-of : (x y z b : Bool) → cond z false (cond y false (cond x false b)) ≡ (b && not (x || (y || z)))

@@ -1,7 +1,7 @@
 -- The walk while a loop makes it: the rows of the nodes passed are written, and what the others still give completes the walk.
 use mathlib.Core.Path.{_≡_, refl, ap, _∙_, sym}
 use mathlib.Core.Bool.{Bool, true, false}
-use mathlib.Core.List.{List, [], _∷_, _++_, append-nil, append-assoc}
+use mathlib.Core.List.{List, [], _∷_, _++_, flatMap, append-nil, append-assoc}
 use Prim.Native.Nat.{ℕ, zero, suc, _+_, _-_, _*_, _<_, _≤_}
 use native.Mathlib.Nat.{sub-zero}
 use native.Mathlib.Numerals.{add-one}
@@ -12,6 +12,7 @@ use lib.ListN.{length, getD, take, drop, length-append, drop-of-length-le}
 use lib.Seq.{take-suc, take-append-le, drop-append-le, length-take-le}
 use Rattle.lists.specs.Members.{every, keep}
 use Rattle.lists.specs.Written.{written-at}
+use Rattle.lists.proofs.Joined.{flatMap-joined}
 use Rattle.lists.proofs.Steps.{drop-step}
 use Rattle.lists.proofs.Every.{every-at, every-append, keeps-passing}
 use Rattle.lists.proofs.Written.{length-written}
@@ -36,14 +37,8 @@ module _ (modes : ℕ) (history : List Triple) where
   walk-none zero = refl
   walk-none (suc count) = refl
 
-  rows-append : (first second : List ℕ) → rows-for modes history (first ++ second) ≡ rows-for modes history first ++ rows-for modes history second
-  unfolding rows-for
-  rows-append [] second = refl
-  rows-append (label ∷ first) second =
-      rw (rows-append first second) (sym (append-assoc (label ∷ children modes history label) (rows-for modes history first) (rows-for modes history second)))
-
   pub walking-starts : (before : List ℕ) → 1 ≤ modes → Walking modes history before before ((modes - 1) ∷ []) 0
-  unfolding every rows-for written-at
+  unfolding every rows-for flatMap written-at
   walking-starts before some-modes =
       record {
         inside = omega arith;
@@ -113,11 +108,11 @@ module _ (modes : ℕ) (history : List Triple) where
             ∙ rw walk-on at (w .gives))
 
         written-on : after ≡ written-at 0 (rows-for modes history (take (head + 1) queued)) before
-        unfolding rows-for children
+        unfolding rows-for flatMap children
         written-on =
             let passed = rows-for modes history (take head labels) in
             put
-            ∙ rw (w .written, ← passed-rows, coded, passed-on, rows-append (take head labels) (label ∷ []))
+            ∙ rw (w .written, ← passed-rows, coded, passed-on, flatMap-joined (λ node. node ∷ children modes history node) (take head labels) (label ∷ []))
             (written-behind-front passed (label ∷ children modes history label) before)
 
         pub walking-on : Walking modes history before after queued (head + 1)

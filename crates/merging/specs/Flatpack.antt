@@ -1,6 +1,6 @@
 -- "Rows are (label, X, Y, Z), label = step, breadth first from the root, children queued X, Y, Z."
 use mathlib.Core.Bool.{cond}
-use mathlib.Core.List.{List, [], _∷_, _++_}
+use mathlib.Core.List.{List, [], _∷_, _++_, flatMap}
 use Prim.Native.Nat.{ℕ, zero, suc, _+_, _-_, _*_}
 use lib.Dec.{eqb, ltb}
 use lib.ListN.{length, getD}
@@ -37,8 +37,7 @@ walk modes history (suc count) (label ∷ queue) =
 
 -- The numbers of these nodes' rows.
 unfoldable pub rows-for : ℕ → List Triple → List ℕ → List ℕ
-rows-for modes history [] = []
-rows-for modes history (label ∷ labels) = (label ∷ children modes history label) ++ rows-for modes history labels
+rows-for modes history labels = flatMap (λ label. label ∷ children modes history label) labels
 
 -- The flatpack of a finished history.
 unfoldable pub flatpack : ℕ → List Triple → List ℕ
