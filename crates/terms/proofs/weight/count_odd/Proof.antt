@@ -1,11 +1,10 @@
 -- Each row's count is written once and stays.
-use mathlib.Core.Path.{_≡_, _∙_}
+use mathlib.Core.Path.{_≡_}
 use Prim.Native.Nat.{_≤_, _-_}
 use native.Mathlib.Omega.{arith}
-use borrow.Author.Count.{below-more}
 use borrow.Author.Needs.{needs}
-use lib.ListN.{length, getD, set, length-set}
-use lib.Seq.{getD-set-same, getD-set-other}
+use lib.ListN.{length, length-set}
+use Rattle.lists.proofs.Writes.{agrees-next}
 use Rattle.terms.specs.Weight.{OddOf}
 use Rattle.terms.proofs.weight.count_odd.Statement.{statement}
 use Rattle.terms.proofs.weight.count_odd.Tie as tie
@@ -55,9 +54,7 @@ loop-again c =
     let place = here .loop .place in (
       omega arith,
       simp length-set (omega arith),
-      below-more (λ p. getD (set odd place _) p 0 ≡ _) place
-          (λ p h. getD-set-other odd place p _ 0 (omega arith) ∙ here .loop .inv .2 p h)
-          (getD-set-same odd place _ 0 (omega arith) ∙ rw (c .before .odd-in .ensures .0, c .odd-in2 .ensures .0, term-is)),
+      agrees-next _ odd place _ 0 (omega arith) (rw (c .before .odd-in .ensures .0, c .odd-in2 .ensures .0, term-is)) (here .loop .inv .2),
     )
 
 same-length : tie.Need-same-length Inv-loop μ-loop
