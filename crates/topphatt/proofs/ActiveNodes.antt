@@ -6,7 +6,7 @@ use Prim.Native.Nat.{ℕ, _-_, _<_, _≤_, max}
 use native.Mathlib.Omega.{arith}
 use borrow.Author.Tests.{eqb-true, eq-eqb, leb-true, leb-false}
 use lib.Dec.{eqb, leb}
-use lib.ListN.{length, take, drop, length-drop}
+use lib.ListN.{length, take, drop, length-take, length-drop}
 use Rattle.lists.specs.Members.{firsts}
 use Rattle.lists.specs.Ranges.{listed}
 use Rattle.lists.proofs.Membership.{kept, of-kept, counted, counted-below}
@@ -39,13 +39,9 @@ module _ (heuristic : ℕ) (like : ℕ → ℕ → Bool) (far : List ℕ) where
   unfolding narrowed
   some-narrowed h = go (eqb heuristic 0) (eqb heuristic 1)
     where
-      one : (l : List ℕ) → 0 < length l → 0 < length (take 1 l)
-      one [] k = absurd (omega arith)
-      one (a ∷ l) k = omega arith
-
       go : (a b : Bool) → 0 < length {A = ℕ} (cond a (firsts like far) (cond b (take 1 far) (drop (length far - 1) far)))
       go true b = some-first like far h
-      go false true = one far h
+      go false true = omega (arith, length-take 1 far)
       go false false = omega (arith, length-drop (length far - 1) far)
 
 -- The largest of a list is at least each of it, and one of it.

@@ -22,7 +22,7 @@ use Rattle.tree.proofs.AcceptedParts.{accepted-parts, parts-accepted}
 use Rattle.tree.proofs.Standing.{place-mapped}
 use Rattle.tree.proofs.OneTreeSays.{OneTreeSays, says-one-tree, parent-below}
 use Rattle.tree.proofs.AcceptedTree.{accepted-says, pairs-lead}
-use Rattle.tree.proofs.AbsentEnds.{code-good}
+use Rattle.tree.proofs.TableSteps.{code-good}
 use Rattle.tree.proofs.EachHosts.{host, host-pair}
 use Rattle.topphatt.specs.Slots.{parity-of}
 use Rattle.topphatt.specs.Answer.{answer-table}
@@ -102,11 +102,6 @@ module _ (modes : ℕ) (table assigned : List ℕ) (all : AllAssigned modes tabl
       omega (arith, leaf-relabelled modes table assigned all fits (modes + 2 * k + 1) (omega arith) (omega arith), odd-parity modes k)
 
   module _ (most : ℕ) (accepted : tree-checked most modes table ≡ Accepted) where
-    known : (place : ℕ) → place < length table → (ltb (getD table place absent) (3 * modes) || eqb (getD table place absent) absent) ≡ true
-    known place h =
-        let parts = accepted-parts most modes table accepted in
-        code-good modes table (parts .whole) (parts .good) (root-of modes table) (accepted-says most modes table accepted) place h
-
     same-climb : (steps node : ℕ) → node < modes → climb answer steps node ≡ climb table steps node
     unfolding climb
     same-climb zero node h = refl
@@ -159,7 +154,7 @@ module _ (modes : ℕ) (table assigned : List ℕ) (all : AllAssigned modes tabl
         occurrences-map (relabelled modes assigned) absent absent table
         (λ given m.
         let at = place-of-member given table absent m in
-        absent-same given (rw (at .2) at (known (at .0) (at .1))))
+        absent-same given (rw (at .2) at (code-good modes table (accepted-parts most modes table accepted .good) (at .0) (at .1))))
 
     answer-says : OneTreeSays modes answer (root-of modes table)
     unfolding answer
@@ -202,7 +197,7 @@ module _ (modes : ℕ) (table assigned : List ℕ) (all : AllAssigned modes tabl
               omega (
                 arith,
                 leading-all (λ given. ltb given (3 * modes) || eqb given absent) (answer-table modes assigned table) absent
-                    (λ i h. rw (answer-at modes table assigned all fits i) (known-still (getD table i absent) (known i (omega (arith, answer-long))))),
+                    (λ i h. rw (answer-at modes table assigned all fits i) (known-still (getD table i absent) (code-good modes table (parts .good) i (omega (arith, answer-long))))),
               );
           one = says-one-tree modes answer (root-of modes table) answer-says;
           right = omega (arith, pairs-lead modes answer answer-pairs);

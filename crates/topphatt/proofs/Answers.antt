@@ -1,12 +1,9 @@
 -- Each return is one case of the answer.
 use mathlib.Core.Path.{_≡_, refl, ap}
-use mathlib.Core.List.{List, _∷_, _++_}
-use Prim.Native.Nat.{ℕ, zero, suc, _*_, _<_, _≤_}
-use native.Mathlib.Nat.{zero-add}
-use native.Mathlib.Omega.{arith}
+use mathlib.Core.List.{List}
+use Prim.Native.Nat.{ℕ, _*_, _<_, _≤_}
 use borrow.Author.Tests.{le-leb, lt-leb}
-use lib.ListN.{length, take, drop, replicate, length-replicate}
-use lib.Seq.{length-take-le, take-at}
+use lib.ListN.{replicate}
 use Rattle.lists.specs.Written.{written-at}
 use Rattle.refusal.specs.declared.Refusal.{Refusal}
 use Rattle.refusal.specs.declared.Refusal.the-variants.{Room}
@@ -41,8 +38,3 @@ pub done-so : (count weight : ℕ) (codes work table now-work now-table : List �
     → Assigns (done count weight codes) work table now-work now-table (Weight r)
 unfolding returned work-after table-after
 done-so count weight codes work table now-work now-table r e f g = record { answer = ap Weight e; work-is = f; table-is = g }
-
-pub take-replicate : (n m a : ℕ) → n ≤ m → take n (replicate m a) ≡ replicate n a
-take-replicate zero m a h = refl
-take-replicate (suc n) zero a h = absurd (omega arith)
-take-replicate (suc n) (suc m) a h = ap (λ l. a ∷ l) (take-replicate n m a (omega arith))

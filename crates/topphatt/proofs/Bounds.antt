@@ -2,15 +2,15 @@
 use mathlib.Core.Path.{_≡_, refl, ap}
 use mathlib.Core.Bool.{Bool, true, false, cond}
 use mathlib.Core.List.{List, [], _∷_, map, flatMap}
-use Prim.Native.Nat.{ℕ, zero, suc, _-_, _<_, _≤_}
+use Prim.Native.Nat.{ℕ, _-_, _<_, _≤_}
 use native.Mathlib.Omega.{arith}
 use borrow.Author.Tests.{ltb-true, lt-ltb, ne-eqb}
 use lib.Dec.{ltb, eqb}
 use lib.ListN.{length, take, drop}
 use Rattle.lists.specs.Members.{keep, every, firsts}
-use Rattle.lists.specs.Least.{least, lighter}
 use Rattle.lists.specs.Ranges.{listed}
-use Rattle.lists.proofs.Every.{every-kept, every-first, every-cons, every-uncons, every-append}
+use Rattle.lists.proofs.Every.{every-kept, every-first, every-uncons, every-append, every-taken, every-dropped}
+use Rattle.lists.proofs.Least.{least-passes}
 use Rattle.lists.proofs.Ranges.{every-from}
 use Rattle.tree.specs.Table.{nodes}
 use Rattle.terms.specs.declared.row.Triple.{Triple}
@@ -36,28 +36,14 @@ pub farthest-below : (modes : ℕ) (table left : List ℕ) → Below modes left 
 unfolding farthest
 farthest-below modes table left e = every-kept (λ v. ltb v modes) _ left e
 
-front-below : (modes count : ℕ) (l : List ℕ) → Below modes l → Below modes (take count l)
-unfolding every
-front-below modes zero l e = refl
-front-below modes (suc count) [] e = refl
-front-below modes (suc count) (v ∷ l) e =
-    let p = every-uncons (λ u. ltb u modes) v l e in
-    every-cons (λ u. ltb u modes) v (take count l) (p .0) (front-below modes count l (p .1))
-
-back-below : (modes count : ℕ) (l : List ℕ) → Below modes l → Below modes (drop count l)
-unfolding every
-back-below modes zero l e = e
-back-below modes (suc count) [] e = refl
-back-below modes (suc count) (v ∷ l) e = back-below modes count l (every-uncons (λ u. ltb u modes) v l e .1)
-
 narrowed-below : (modes heuristic : ℕ) (like : ℕ → ℕ → Bool) (far : List ℕ) → Below modes far → Below modes (narrowed heuristic like far)
 unfolding narrowed firsts
 narrowed-below modes heuristic like far e = go (eqb heuristic 0) (eqb heuristic 1)
   where
     go : (a b : Bool) → Below modes (cond a (firsts like far) (cond b (take 1 far) (drop (length far - 1) far)))
     go true b = every-first (λ v. ltb v modes) like [] far e
-    go false true = front-below modes 1 far e
-    go false false = back-below modes (length far - 1) far e
+    go false true = every-taken (λ v. ltb v modes) 1 far e
+    go false false = every-dropped (λ v. ltb v modes) (length far - 1) far e
 
 pub active-below : (modes : ℕ) (table : List ℕ) (heuristic round : ℕ) (assigned : List ℕ)
     → Below modes (active modes table heuristic round assigned)
@@ -91,19 +77,6 @@ candidates-below modes table assigned (node ∷ l) e =
     mine low [] = refl
     mine low (triple ∷ rest) = rw low (mine low rest)
 
--- What holds of all holds of the least.
-least-passes : {A : Type 0} (test : A → Bool) (measure : A → ℕ) (best : A) (l : List A) → test best ≡ true → every test l ≡ true
-    → test (least measure best l) ≡ true
-unfolding least lighter
-least-passes test measure best [] h e = h
-least-passes test measure best (a ∷ l) h e =
-    let p = every-uncons test a l e in
-    least-passes test measure (lighter measure best a) l (either (ltb (measure a) (measure best)) (p .0)) (p .1)
-  where
-    either : (b : Bool) → test a ≡ true → test (cond b a best) ≡ true
-    either true f = f
-    either false f = h
-
 pub chosen-below : (modes : ℕ) (table : List ℕ) (heuristic round : ℕ) (assigned : List ℕ) (rows : List (List ℕ)) → 1 ≤ modes
     → chosen modes table heuristic round assigned rows .node < modes
 unfolding chosen candidates least-of
@@ -115,4 +88,4 @@ chosen-below modes table heuristic round assigned rows h =
     of-least [] e = h
     of-least (first ∷ rest) e =
         let p = every-uncons (λ choice. ltb (choice .node) modes) first rest e in
-        ltb-true _ modes (least-passes (λ choice. ltb (choice .node) modes) (rank rows) first rest (p .0) (p .1))
+        ltb-true _ modes (least-passes (rank rows) (λ choice. ltb (choice .node) modes) first rest (p .0) (p .1))

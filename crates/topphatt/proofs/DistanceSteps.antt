@@ -14,12 +14,16 @@ unfolding distance
 distance-none table zero node h = refl
 distance-none table (suc left) node h = rw (le-ltb (place-of table node) (length table) h)
 
+pub distance-up : (table : List ℕ) (left node : ℕ) → place-of table node < length table
+    → distance table (suc left) node ≡ suc (distance table left (place-of table node / 3))
+unfolding distance
+distance-up table left node h = rw (lt-ltb (place-of table node) (length table) h)
+
 pub distance-above : (table : List ℕ) (steps up node place : ℕ) → up < steps → place ≡ place-of table node → place < length table
     → distance table (steps - up) node ≡ distance table (steps - (up + 1)) (place / 3) + 1
-unfolding distance
 distance-above table steps up node place h e k =
     let more : steps - up ≡ suc (steps - (up + 1)) = omega arith in
-    rw (more, e) (rw (lt-ltb (place-of table node) (length table) (rw e at k)) (omega arith))
+    rw (more, e) (omega (arith, distance-up table (steps - (up + 1)) node (rw e at k)))
 
 pub distance-end : (table : List ℕ) (steps up node : ℕ) → steps ≤ up → distance table (steps - up) node ≡ 0
 unfolding distance

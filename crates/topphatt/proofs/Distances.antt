@@ -5,7 +5,7 @@ use mathlib.Core.Bool.{Bool, true, false}
 use mathlib.Core.List.{List}
 use Prim.Native.Nat.{ℕ, zero, suc, _+_, _*_, _/_, _<_, _≤_}
 use native.Mathlib.Omega.{arith}
-use borrow.Author.Tests.{lt-ltb, le-ltb, ltb-true, ltb-false}
+use borrow.Author.Tests.{ltb-true, ltb-false}
 use lib.Dec.{ltb}
 use lib.ListN.{length}
 use Rattle.tree.specs.declared.TreeChecked.the-variants.{Accepted}
@@ -19,22 +19,13 @@ use Rattle.tree.proofs.Standing.{place-nowhere}
 use Rattle.tree.proofs.AcceptedTree.{accepted-says}
 use Rattle.tree.proofs.EachHosts.{child-stands}
 use Rattle.topphatt.specs.Nodes.{distance}
-
-module _ (table : List ℕ) (node : ℕ) where
-  distance-up : (steps : ℕ) → place-of table node < length table → distance table (suc steps) node ≡ suc (distance table steps (place-of table node / 3))
-  unfolding distance
-  distance-up steps h = rw (lt-ltb (place-of table node) (length table) h)
-
-  distance-top : (steps : ℕ) → length table ≤ place-of table node → distance table steps node ≡ 0
-  unfolding distance
-  distance-top zero h = refl
-  distance-top (suc steps) h = rw (le-ltb (place-of table node) (length table) h)
+use Rattle.topphatt.proofs.DistanceSteps.{distance-none, distance-up}
 
 -- Steps that arrive at the root count all there are.
 distance-enough : (table : List ℕ) (root : ℕ) → length table ≤ place-of table root → (steps node : ℕ) → climb table steps node ≡ root
     → distance table (suc steps) node ≡ distance table steps node
 unfolding climb parent-of
-distance-enough table root top zero node e = distance-top table node 1 (rw e top) ∙ sym (distance-top table node 0 (rw e top))
+distance-enough table root top zero node e = distance-none table 1 node (rw e top) ∙ sym (distance-none table 0 node (rw e top))
 distance-enough table root top (suc steps) node e = go (ltb (place-of table node) (length table)) refl (distance-enough table root top steps)
   where
     go : (b : Bool) → ltb (place-of table node) (length table) ≡ b
@@ -42,10 +33,10 @@ distance-enough table root top (suc steps) node e = go (ltb (place-of table node
         → distance table (suc (suc steps)) node ≡ distance table (suc steps) node
     go true q on =
         let h = ltb-true (place-of table node) (length table) q in
-        distance-up table node (suc steps) h ∙ ap suc (on (place-of table node / 3) (rw q at e)) ∙ sym (distance-up table node steps h)
+        distance-up table (suc steps) node h ∙ ap suc (on (place-of table node / 3) (rw q at e)) ∙ sym (distance-up table steps node h)
     go false q on =
         let h = ltb-false (place-of table node) (length table) q in
-        distance-top table node (suc (suc steps)) h ∙ sym (distance-top table node (suc steps) h)
+        distance-none table (suc (suc steps)) node h ∙ sym (distance-none table (suc steps) node h)
 
 module _ (most modes : ℕ) (table : List ℕ) (accepted : tree-checked most modes table ≡ Accepted) where
   pub deeper : (node edge : ℕ) → node < modes → edge < 3 → child table node edge < modes
@@ -58,7 +49,7 @@ module _ (most modes : ℕ) (table : List ℕ) (accepted : tree-checked most mod
       let above : place-of table code / 3 ≡ node = omega arith in
       let top : length table ≤ place-of table (root-of modes table) = omega (arith, place-nowhere (root-of modes table) table (says .top)) in
       sym (distance-enough table (root-of modes table) top modes code (says .reached code low))
-      ∙ distance-up table code modes (omega (arith, parts .whole))
+      ∙ distance-up table modes code (omega (arith, parts .whole))
       ∙ ap (λ v. suc (distance table modes v)) above
 
   -- The node under whose Z a z-chain ends.

@@ -2,16 +2,15 @@
 use mathlib.Core.Path.{_≡_, refl, _∙_, sym, ap}
 use mathlib.Core.Bool.{true, false}
 use mathlib.Core.List.{List, [], _∷_, _++_, map, map-append}
-use Prim.Native.Nat.{ℕ, suc, _+_, _-_, _/_, _<_, _≤_}
+use Prim.Native.Nat.{ℕ, _+_, _-_, _/_, _<_, _≤_}
 use native.Mathlib.Numerals.{add-one}
 use native.Mathlib.Omega.{arith}
 use borrow.Author.Tests.{eq-eqb, ne-eqb}
-use lib.ListN.{length, getD, set, take, length-take}
+use lib.ListN.{length, getD, set, take, length-take, length-map}
 use lib.Seq.{take-suc}
 use Rattle.lists.specs.Members.{keep}
 use Rattle.lists.specs.Written.{written-at}
-use Rattle.lists.proofs.Behind.{set-written, written-behind-front}
-use Rattle.lists.proofs.Written.{length-written}
+use Rattle.lists.proofs.Behind.{written-one}
 use Rattle.tree.specs.Table.{child}
 use Rattle.topphatt.specs.Slots.{slot, slot-of, unfixed, pair-of}
 use Rattle.topphatt.specs.Choices.{without}
@@ -43,22 +42,11 @@ module _ (rule : ℕ → ℕ) (s t : List ℕ) where
   unfolding written-at
   mapped-start = refl
 
-  mapped-length : (i : ℕ) → i ≤ length s → length (map rule (take i s)) ≡ i
-  mapped-length i h = map-length (take i s) ∙ simp length-take (omega arith)
-    where
-      map-length : (l : List ℕ) → length (map rule l) ≡ length l
-      map-length [] = refl
-      map-length (a ∷ l) = ap suc (map-length l)
-
   pub mapped-next : (i : ℕ) → i < length s → length s ≤ length t
       → set (written-at 0 (map rule (take i s)) t) i (rule (getD s i 0)) ≡ written-at 0 (map rule (take (i + 1) s)) t
   mapped-next i h k =
       let part = map rule (take i s) in
-      let size : length part ≡ i = mapped-length i (omega arith) in
+      let size : i ≡ 0 + length part = simp (length-map, length-take) (omega arith) in
       let more : map rule (take (i + 1) s) ≡ part ++ (rule (getD s i 0) ∷ []) =
       rw (add-one i, take-suc s i 0 h) (map-append rule (take i s) (getD s i 0 ∷ [])) in
-      let room : i < length (written-at 0 part t) = rw (length-written 0 part t (omega arith)) (omega arith) in
-      set-written (written-at 0 part t) i (rule (getD s i 0)) room
-      ∙ ap (λ n. written-at n (rule (getD s i 0) ∷ []) (written-at 0 part t)) (sym size)
-      ∙ written-behind-front part (rule (getD s i 0) ∷ []) t
-      ∙ ap (λ p. written-at 0 p t) (sym more)
+      written-one 0 part t i (rule (getD s i 0)) size (omega arith) ∙ ap (λ p. written-at 0 p t) (sym more)

@@ -1,7 +1,7 @@
 -- The round list: a slot that isn't unfixed stays as it is, so a complete node stays complete, and after a round the nodes that remain are
 -- those that remained before it but the complete ones.
 use mathlib.Core.Path.{_≡_, refl, _∙_, sym}
-use mathlib.Core.Bool.{Bool, true, false, not, _&&_, _||_}
+use mathlib.Core.Bool.{Bool, true, false, not, _&&_, _||_, and-false}
 use mathlib.Core.List.{List}
 use Prim.Native.Nat.{ℕ, suc, _*_}
 use native.Mathlib.Omega.{arith}
@@ -63,11 +63,7 @@ module _ (modes : ℕ) (table assigned now : List ℕ) (given : Given modes assi
   leaves-by node = rw (ne-eqb (suc round) 0 (λ e. absurd (omega arith))) (go (complete modes table assigned node) refl (complete modes table now node) refl (eqb round 0))
     where
       go : (a : Bool) → complete modes table assigned node ≡ a → (c : Bool) → complete modes table now node ≡ c → (b : Bool) → not c ≡ ((b || not a) && not c)
-      go true e true f b = none (b || false)
-        where
-          none : (b : Bool) → false ≡ (b && false)
-          none true = refl
-          none false = refl
+      go true e true f b = sym (and-false (b || false))
       go true e false f b =
           let g = complete-stays modes assigned now given table node e in
           let z : _≡_ {A = ℕ} 0 1 = cc in absurd (omega arith)

@@ -1,12 +1,12 @@
 -- A leaf's slot as the code reads it, and a node's slots as a list.
-use mathlib.Core.Path.{_≡_, refl, ap, _∙_}
-use mathlib.Core.Bool.{Bool, true, false, _&&_}
+use mathlib.Core.Path.{_≡_, ap, _∙_}
+use mathlib.Core.Bool.{true}
 use mathlib.Core.List.{List, [], _∷_}
 use Prim.Native.Nat.{ℕ, _-_, _*_, _/_, _%_, _<_, _≤_}
 use native.Mathlib.Omega.{arith}
 use borrow.Author.Tests.{ltb-true}
 use lib.ListN.{length, getD}
-use Rattle.tree.proofs.TableSteps.{read-within}
+use Rattle.lists.proofs.Parts.{read-within}
 use Rattle.terms.specs.declared.row.Triple.{Triple}
 use Rattle.topphatt.specs.Slots.{slot-of, leaf-slot, slots, unfixed, pair-of, parity-of}
 use Rattle.topphatt.specs.Seeking.{SlotsAre}
@@ -24,10 +24,6 @@ pub slots-listed : (modes : ℕ) (table assigned : List ℕ) (node : ℕ) (r : T
     → r .x ∷ (r .y ∷ (r .z ∷ [])) ≡ slots modes table assigned node
 unfolding slots
 slots-listed modes table assigned node r are = rw (are .x-is, are .y-is, are .z-is)
-
-pub with-true : (b : Bool) → b ≡ (b && true)
-with-true true = refl
-with-true false = refl
 
 pub unfixed-above : (modes slot : ℕ) → unfixed modes slot ≡ true → 3 * modes < slot
 unfolding unfixed

@@ -11,7 +11,6 @@ use lib.ListN.{length, getD}
 use Rattle.lists.specs.Counting.{occurrences}
 use Rattle.lists.specs.Members.{every}
 use Rattle.lists.proofs.Every.{every-cons}
-use Rattle.lists.proofs.Leading.{leads}
 use Rattle.lists.proofs.Occurring.{occurs-at}
 use Rattle.lists.proofs.Pigeonholes.{at-most-holes}
 use Rattle.tree.specs.declared.TreeChecked.the-variants.{Accepted}
@@ -22,7 +21,7 @@ use Rattle.tree.specs.Check.{codes-good, tree-checked}
 use Rattle.tree.specs.Accepted.{PairUnder}
 use Rattle.tree.proofs.AcceptedParts.{accepted-parts}
 use Rattle.tree.proofs.OneTreeSays.{OneTreeSays}
-use Rattle.tree.proofs.TableSteps.{chain-rests}
+use Rattle.tree.proofs.TableSteps.{code-good, chain-rests}
 use Rattle.tree.proofs.Standing.{only-there, place-nowhere}
 use Rattle.tree.proofs.Under.{met, met-node}
 use Rattle.tree.proofs.AcceptedTree.{accepted-says, accepted-tree}
@@ -96,14 +95,10 @@ module _ (modes : ℕ) (table : List ℕ) where
 
 module _ (modes : ℕ) (table : List ℕ) (whole : length table ≡ 3 * modes) (good : length table ≤ codes-good modes table) (root : ℕ)
     (says : OneTreeSays modes table root) where
-  -- Every code of the table is below 3n or absent, and stands there alone.
-  pub code-good : (i : ℕ) → i < length table → (ltb (getD table i absent) (3 * modes) || eqb (getD table i absent) absent) ≡ true
-  unfolding codes-good
-  code-good i h = leads (λ code. ltb code (3 * modes) || eqb code absent) table i absent (omega arith)
-
+  -- Every code of the table stands there alone.
   pub stands-once : (i : ℕ) → i < length table → occurrences (getD table i absent) table ≡ 1
   stands-once i h =
-      go (getD table i absent) (occurs-at (getD table i absent) table i absent h refl) (code-good i h)
+      go (getD table i absent) (occurs-at (getD table i absent) table i absent h refl) (code-good modes table good i h)
       (ltb (getD table i absent) modes) refl (ltb (getD table i absent) (3 * modes)) refl (eqb (getD table i absent) root) refl
     where
       go : (code : ℕ) → 1 ≤ occurrences code table → (ltb code (3 * modes) || eqb code absent) ≡ true → (n : Bool) → ltb code modes ≡ n
@@ -162,7 +157,7 @@ module _ (modes : ℕ) (table : List ℕ) (whole : length table ≡ 3 * modes) (
           → (ltb (chain-end modes table (suc steps) root) (3 * modes) || eqb (chain-end modes table (suc steps) root) absent) ≡ true
       go true q on =
           let h = ltb-true (chain-end modes table steps root) modes q in
-          rw (chain-last modes table steps root, q) (code-good (3 * chain-end modes table steps root + 2) (omega arith))
+          rw (chain-last modes table steps root, q) (code-good modes table good (3 * chain-end modes table steps root + 2) (omega arith))
       go false q on = rw (chain-last modes table steps root, q) on
 
   -- No X or Y child's chain ends where the root's does.

@@ -15,9 +15,9 @@ use Rattle.tree.specs.Pairs.{chain-end}
 use Rattle.tree.specs.Check.{tree-checked}
 use Rattle.tree.specs.Accepted.{PairUnder}
 use Rattle.tree.proofs.AcceptedParts.{accepted-parts}
-use Rattle.tree.proofs.TableSteps.{chain-rests}
+use Rattle.tree.proofs.TableSteps.{code-good, chain-rests}
 use Rattle.tree.proofs.AcceptedTree.{accepted-says, accepted-tree}
-use Rattle.tree.proofs.AbsentEnds.{chain-top, code-good, child-place, child-begins, end-to-top}
+use Rattle.tree.proofs.AbsentEnds.{chain-top, child-place, child-begins, end-to-top}
 
 -- The node of pair k: that under whose X the way back from leaf 2k arrives.
 unfoldable pub host : ℕ → List ℕ → ℕ → ℕ
@@ -55,7 +55,7 @@ module _ (most modes : ℕ) (table : List ℕ) (accepted : tree-checked most mod
   unfolding child
   child-known node edge h k =
       let parts = accepted-parts most modes table accepted in
-      code-good modes table (parts .whole) (parts .good) (root-of modes table) (accepted-says most modes table accepted) (3 * node + edge) (omega arith)
+      code-good modes table (parts .good) (3 * node + edge) (omega (arith, parts .whole))
 
   pub child-stands : (node edge : ℕ) → node < modes → edge < 3 → place-of table (child table node edge) ≡ 3 * node + edge
   child-stands node edge h k =

@@ -1,7 +1,7 @@
 -- One step along the table, up from a node, and along a z-chain: what the table's readers have still to see.
 use mathlib.Core.Path.{_≡_, refl}
 use mathlib.Core.Bool.{true, false, _||_}
-use mathlib.Core.List.{List, [], _∷_}
+use mathlib.Core.List.{List}
 use Prim.Native.Nat.{ℕ, zero, suc, _+_, _-_, _*_, _/_, _%_, _<_, _≤_}
 use native.Mathlib.Omega.{arith}
 use borrow.Author.Tests.{eq-eqb, ne-eqb, lt-ltb, le-ltb}
@@ -11,18 +11,13 @@ use Rattle.lists.specs.Counting.{occurrences}
 use Rattle.lists.specs.Members.{every}
 use Rattle.lists.specs.Ranges.{listed}
 use Rattle.lists.proofs.Ranges.{listed-start}
-use Rattle.lists.proofs.Leading.{leading-passes, leading-stops, leading-ends}
+use Rattle.lists.proofs.Parts.{read-within}
+use Rattle.lists.proofs.Leading.{leading-passes, leading-stops, leading-ends, leads}
 use Rattle.tree.specs.Table.{absent, nodes, child, place-of, parent-of, climb}
 use Rattle.tree.specs.OneTree.{leaves-once}
 use Rattle.tree.specs.Pairs.{chain-end}
 use Rattle.tree.specs.Check.{codes-good}
 use Rattle.tree.specs.Weight.{edge-under}
-
--- A place within a list reads the same whatever stands for the places beyond it.
-pub read-within : (s : List ℕ) (i d e : ℕ) → i < length s → getD s i d ≡ getD s i e
-read-within [] i d e h = absurd (omega arith)
-read-within (a ∷ s) zero d e h = refl
-read-within (a ∷ s) (suc i) d e h = read-within s i d e (omega arith)
 
 pub child-read : (table : List ℕ) (node edge : ℕ) → 3 * node + edge < length table → getD table (3 * node + edge) 0 ≡ child table node edge
 unfolding child
@@ -43,6 +38,12 @@ module _ (modes : ℕ) (table : List ℕ) (at : ℕ) where
   pub codes-end : length table ≤ at → codes-good modes (drop at table) ≡ 0
   unfolding codes-good
   codes-end h = leading-ends _ table at h
+
+-- Where all lead, each code is below 3n or absent.
+pub code-good : (modes : ℕ) (table : List ℕ) → length table ≤ codes-good modes table → (i : ℕ) → i < length table
+    → (ltb (getD table i absent) (3 * modes) || eqb (getD table i absent) absent) ≡ true
+unfolding codes-good
+code-good modes table good i h = leads (λ code. ltb code (3 * modes) || eqb code absent) table i absent (omega arith)
 
 -- Along the table: the other codes passed and the place of this one from here on are its place.
 module _ (table : List ℕ) (code at : ℕ) where

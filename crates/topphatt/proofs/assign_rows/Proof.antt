@@ -1,5 +1,5 @@
 -- No pair has a mode at first.
-use Rattle.topphatt.proofs.Answers.{take-replicate}
+use Rattle.lists.proofs.Parts.{take-replicate}
 use lib.ListN.{length, length-replicate}
 use Prim.Native.Nat.{ℕ}
 use mathlib.Core.Path.{sym, _∙_, ap}

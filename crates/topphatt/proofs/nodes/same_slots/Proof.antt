@@ -1,5 +1,6 @@
 -- Number by number.
-use Rattle.topphatt.proofs.SlotKinds.{with-true}
+use mathlib.Core.Path.{sym}
+use mathlib.Core.Bool.{and-true}
 use Rattle.lists.specs.Members.{alike}
 use borrow.Author.Tests.{eq-eqb, ne-eqb}
 use Rattle.topphatt.proofs.nodes.same_slots.Statement.{statement}
@@ -15,7 +16,7 @@ returns-2 c = rw (eq-eqb _ _ (c .before .before .before .if1 .left), ne-eqb _ _ 
 
 returns-3 : tie.Need-returns-3
 unfolding alike
-returns-3 c = rw (eq-eqb _ _ (c .before .before .before .before .before .if1 .left), eq-eqb _ _ (c .before .before .if2 .left)) (with-true _)
+returns-3 c = rw (eq-eqb _ _ (c .before .before .before .before .before .if1 .left), eq-eqb _ _ (c .before .before .if2 .left)) (sym (and-true _))
 
 pub same-slots-spec : {M : Type 1} → statement M
 same-slots-spec = tie.close (tie.spec returns returns-2 returns-3)
