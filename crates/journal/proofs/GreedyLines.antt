@@ -9,6 +9,7 @@ use borrow.Author.Tests.{ne-eqb}
 use lib.ListN.{length, take, length-append}
 use Rattle.lists.specs.Members.{every}
 use Rattle.lists.proofs.Every.{every-cons}
+use Rattle.lists.proofs.Joined.{flatMap-joined}
 use Rattle.terms.specs.declared.row.Triple.{Triple}
 use Rattle.merging.specs.Choice.{weight-in, chosen}
 use Rattle.merging.specs.Run.{greedy}
@@ -18,13 +19,6 @@ use Rattle.journal.specs.Fields.{header-text}
 use Rattle.journal.specs.Writing.{line-of, greedy-lines, new-text, unbroken}
 use Rattle.journal.proofs.Texts.{length-header}
 use Rattle.journal.proofs.TextLines.{header-is-line, merge-is-line}
-
--- Texts one behind the other.
-pub joined-texts : (p q : List (List ℕ)) → flatMap (λ line. line) (p ++ q) ≡ flatMap (λ line. line) p ++ flatMap (λ line. line) q
-unfolding flatMap
-joined-texts [] q = refl
-joined-texts (text ∷ p) q =
-    ap (λ l. text ++ l) (joined-texts p q) ∙ sym (append-assoc text (flatMap (λ line. line) p) (flatMap (λ line. line) q))
 
 module _ (modes : ℕ) (terms : List (List ℕ)) where
   pub greedy-on : (j more : ℕ) (history : List Triple)
@@ -118,7 +112,7 @@ module _ (modes count : ℕ) (terms : List (List ℕ)) where
       ap (λ l. (header ++ first) ++ l)
       (no-header (length (header ++ first)) reached some ∙ ap (λ n. flatMap (λ line. line) (greedy-lines modes terms n reached)) left)
       ∙ append-assoc header first (flatMap (λ line. line) rest)
-      ∙ ap (λ l. header ++ l) (sym (joined-texts (take j all) rest) ∙ ap (flatMap (λ line. line)) (lines-on modes terms j modes [] h))
+      ∙ ap (λ l. header ++ l) (sym (flatMap-joined (λ line. line) (take j all) rest) ∙ ap (flatMap (λ line. line)) (lines-on modes terms j modes [] h))
       ∙ sym unbroken-joined
 
   -- So many lines kept, the header among them if there are any.

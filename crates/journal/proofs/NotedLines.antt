@@ -2,23 +2,23 @@
 use mathlib.Core.Path.{_≡_, refl, ap, _∙_, sym}
 use mathlib.Core.List.{List, [], _∷_, _++_, flatMap, append-nil}
 use Prim.Native.Nat.{ℕ, zero, suc, _+_, _-_, _<_, _≤_}
-use native.Mathlib.Nat.{zero-add}
 use native.Mathlib.Omega.{arith}
 use borrow.Author.Tests.{eq-eqb, ne-eqb}
 use lib.ListN.{length, getD, drop}
 use Rattle.lists.specs.Ranges.{listed}
+use Rattle.lists.proofs.Joined.{flatMap-joined}
 use Rattle.lists.proofs.Listed.{listed-more}
 use Rattle.terms.specs.declared.row.Triple.{Triple}
 use Rattle.merging.specs.declared.run.Run.{Run}
-use Rattle.merging.specs.Choice.{weight-in, chosen}
+use Rattle.merging.specs.Choice.{chosen}
 use Rattle.merging.specs.Recorded.{merge-at, recorded}
 use Rattle.merging.specs.Run.{greedy, finished}
 use Rattle.merging.specs.State.{history-of, Holds}
 use Rattle.merging.proofs.Recording.{length-recorded}
-use Rattle.journal.specs.Fields.{header-text, merge-text}
+use Rattle.journal.specs.Fields.{header-text}
 use Rattle.journal.specs.Writing.{line-of, greedy-lines, new-text}
 use Rattle.journal.specs.NewLines.{noted-line, noted-text, first-text, all-noted}
-use Rattle.journal.proofs.GreedyLines.{joined-texts, greedy-more, greedy-lines-more}
+use Rattle.journal.proofs.GreedyLines.{greedy-more, greedy-lines-more}
 
 pub no-header : (modes count kept : ℕ) → (kept ≡ 0 → ⊥) → first-text modes count kept ≡ []
 unfolding first-text
@@ -36,7 +36,7 @@ pub noted-more : (run : Run) (from count : ℕ) → noted-text run from (count +
 unfolding noted-text flatMap
 noted-more run from count =
     ap (flatMap (λ line. line)) (listed-more (noted-line run) from count)
-    ∙ joined-texts (listed (noted-line run) from count) (noted-line run (from + count) ∷ [])
+    ∙ flatMap-joined (λ line. line) (listed (noted-line run) from count) (noted-line run (from + count) ∷ [])
     ∙ ap (λ l. noted-text run from count ++ l) (append-nil (noted-line run (from + count)))
 
 -- The tables hold the merges of a run that went on from a history by the greedy rule.

@@ -8,6 +8,7 @@ use lib.ListN.{length, getD, take, drop}
 use Rattle.lists.specs.Written.{written-at}
 use Rattle.lists.proofs.Written.{part-written}
 use Rattle.lists.proofs.Behind.{Wrote, wrote-none, then-wrote}
+use Rattle.lists.proofs.Joined.{flatMap-joined}
 use Rattle.refusal.specs.declared.Refusal.{Refusal}
 use Rattle.refusal.specs.Numbers.{numberOf, placeOf}
 use Rattle.terms.specs.Rows.{rows-of}
@@ -68,11 +69,6 @@ pub done-parts : (weight trials : ℕ) (rows : List ℕ)
 unfolding done-text line-of tabbed
 done-parts weight trials rows = simp append-assoc
 
-flat-more : (l : List (List ℕ)) (row : List ℕ) → flatMap node-line (l ++ (row ∷ [])) ≡ flatMap node-line l ++ node-line row
-unfolding flatMap
-flat-more [] row = append-nil (node-line row)
-flat-more (a ∷ l) row = ap (λ rest. node-line a ++ rest) (flat-more l row) ∙ sym (append-assoc (node-line a) (flatMap node-line l) (node-line row))
-
 -- The lines of so many rows are written.
 pub record PuttingRows (start count : ℕ) (rows before after : List ℕ) (at done : ℕ) : Type 0 where
   pub some : done ≤ count
@@ -89,9 +85,11 @@ module _ (start : ℕ) (rows before : List ℕ) (room : start + 29 * (length row
     pub rows-go : (next : List ℕ) (end : ℕ) → done < length rows / 4
         → Wrote at (node-line (take (4 * done + 4 - 4 * done) (drop (4 * done) rows))) after next end → end ≤ at + 29 → length next ≡ length after
         → PuttingRows start (length rows / 4) rows before next end (done + 1)
+    unfolding flatMap
     rows-go next end h w near same =
         let all : flatMap node-line (rows-of 4 (done + 1) rows) ≡ flatMap node-line (rows-of 4 done rows) ++ node-line (take 4 (drop (4 * done) rows)) =
-        ap (flatMap node-line) (rows-more 4 done rows) ∙ flat-more (rows-of 4 done rows) (take 4 (drop (4 * done) rows)) in
+        ap (flatMap node-line) (rows-more 4 done rows) ∙ flatMap-joined node-line (rows-of 4 done rows) (take 4 (drop (4 * done) rows) ∷ [])
+        ∙ ap (λ l. flatMap node-line (rows-of 4 done rows) ++ l) (append-nil (node-line (take 4 (drop (4 * done) rows)))) in
         let width : 4 * done + 4 - 4 * done ≡ 4 = omega arith in
         record {
           some = omega arith;

@@ -1,40 +1,26 @@
 -- Lines read as terms one after the other: those passed and those ahead give the answer.
 use mathlib.Core.Path.{_≡_, refl, ap, _∙_, sym}
-use mathlib.Core.Bool.{Bool, true, false, cond, _&&_, and-false, true≢false}
+use mathlib.Core.Bool.{Bool, true, false, _&&_, and-false, true≢false}
 use mathlib.Core.List.{List, [], _∷_, _++_, map, flatMap, append-assoc, append-nil}
-use Prim.Native.Nat.{ℕ, zero, suc, _+_, _-_, _*_, _<_, _≤_}
-use native.Mathlib.Nat.{sub-zero}
+use Prim.Native.Nat.{ℕ, suc, _+_, _-_, _*_, _<_, _≤_}
 use native.Mathlib.Omega.{arith}
 use borrow.Author.Tests.{eq-eqb, ne-eqb, le-leb, lt-leb, leb-true}
 use borrow.Rule.Slice.PartMut.{putMid}
 use lib.Dec.{eqb, leb}
 use lib.ListN.{length, getD, take, drop, replicate, length-append, length-drop, length-map, length-replicate}
-use lib.Seq.{take-at, length-take-le}
+use lib.Seq.{length-take-le}
 use Rattle.lists.specs.Members.{every, alike}
 use Rattle.lists.specs.Written.{written-at}
 use Rattle.lists.proofs.Tests.{both}
-use Rattle.lists.proofs.Written.{length-written, put-written}
+use Rattle.lists.proofs.Parts.{drop-replicate}
+use Rattle.lists.proofs.Written.{length-written, put-written, front-written}
 use Rattle.journal.specs.Decimal.{is-number, value}
 use Rattle.journal.specs.Lines.{lines, kept-of, first-line}
 use Rattle.journal.specs.Fields.{fields}
 use Rattle.journal.specs.Reading.{numbers-good, NumbersRead}
 use Rattle.journal.proofs.LineSteps.{lines-none, lines-next, kept-none, kept-more}
-use Rattle.text.specs.declared.input.Terms.{Terms}
 use Rattle.text.specs.Input.{term-word, term-line, well-formed, formed-from, term-row}
 use Rattle.text.specs.Reading.{all-terms, IndicesRead, TermRead, TermPut, TermsRead}
-
-zeros-left : (n k : ℕ) → drop k (replicate {A = ℕ} n 0) ≡ replicate (n - k) 0
-zeros-left n zero = rw (sub-zero n)
-zeros-left zero (suc k) = let e : 0 - suc k ≡ 0 = omega arith in rw e
-zeros-left (suc n) (suc k) = let e : suc n - suc k ≡ n - k = omega arith in rw e (zeros-left n k)
-
--- What stands before a part and the part itself.
-front-with : (place : ℕ) (part s : List ℕ) → place + length part ≤ length s → take (place + length part) (written-at place part s) ≡ take place s ++ part
-unfolding written-at
-front-with place part s h =
-    rw (← append-assoc (take place s) part (drop (place + length part) s))
-    (take-at (take place s ++ part) (drop (place + length part) s) (place + length part)
-    (omega (arith, length-append (take place s) part, length-take-le place s (omega arith))))
 
 -- Indices read between their count and the zeros.
 pub indices-read : (parts : List (List ℕ)) (count : ℕ) → count ≤ 7 → (row part : List ℕ) (k : ℕ) (r : Bool)
@@ -45,7 +31,7 @@ indices-read parts count few row part k r shape size n =
     rw (shape, size) (length-take-le count (replicate 7 0) (omega arith)) in
     record {
       good = n .good ∙ ap (λ c. numbers-good c parts) wide;
-      row = λ e. rw (shape, size, n .values e, zeros-left 7 count);
+      row = λ e. rw (shape, size, n .values e, drop-replicate {A = ℕ} count 7 0);
     }
 
 -- A term's row has eight numbers.
@@ -150,7 +136,7 @@ module _ (most : ℕ) (text numbers : List ℕ) (at count end : ℕ) (p : Passin
         let n : suc count ≡ count + 1 = omega arith in
         let place : 8 * (count + 1) ≡ 8 * count + length (term-row line) = omega arith in
         let front : take (8 * (count + 1)) after ≡ take (8 * count) numbers ++ term-row line =
-        rw (row, place) (front-with (8 * count) (term-row line) numbers room) in
+        rw (row, place) (front-written (8 * count) (term-row line) numbers room) in
         record {
           within = within;
           few = omega arith;
