@@ -8,7 +8,7 @@ use lib.ListN.{length}
 use Rattle.lists.specs.Members.{every, keep, leading, some-of, alike, firsts, firsts-after}
 use Rattle.lists.specs.Counting.{sum, same, occurrences}
 use Rattle.lists.specs.Ranges.{listed, ascends, ascends-from}
-use Rattle.lists.specs.Least.{least, lighter}
+use Rattle.lists.specs.Least.{least, lighter, least-of}
 use Rattle.lists.specs.Written.{written-at}
 use Rattle.terms.specs.Rows.{rows-of, term, terms-of}
 use Rattle.terms.specs.Good.{modes-good, good-indices, good-row, good-rows, checked}
@@ -16,7 +16,7 @@ use Rattle.terms.specs.Weight.{weight-of, term-weight, odd-ones}
 use Rattle.terms.specs.Reduction.{reduction, rewriting, sorted, put-in, replacement, dropped}
 use Rattle.merging.specs.History.{next-parent, among, is-open, z-end, holder, rows-after}
 use Rattle.merging.specs.Lawful.{is-lawful, three-open, paired, named, entities, pairs-with, lawful-pairs}
-use Rattle.merging.specs.Choice.{weight-in, candidates, least-of, chosen}
+use Rattle.merging.specs.Choice.{weight-in, candidates, chosen}
 use Rattle.merging.specs.Run.{greedy, finished, run-weight, trials}
 use Rattle.merging.specs.Flatpack.{merge-of, code, absent-leaf, children, walk, rows-for, flatpack}
 use Rattle.journal.specs.Decimal.{digits, decimal}

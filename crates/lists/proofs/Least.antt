@@ -1,5 +1,5 @@
 -- The least of a list stands in it, measures no more than any other, and comes first among those that measure the same; and it is sought part by part.
-use mathlib.Core.Path.{_≡_, refl, ap}
+use mathlib.Core.Path.{_≡_, refl, ap, _∙_}
 use mathlib.Core.Bool.{Bool, true, false, cond}
 use mathlib.Core.List.{List, [], _∷_, _++_, map, map-append, List·Memᴰ, List·Memᴰ·head, List·Memᴰ·tail, List·Memᴰ·cases-cons, List·Memᴰ·eq-of-singleton}
 use mathlib.Core.Logic.{_⊎_, inl, inr, ⊎-elim}
@@ -7,7 +7,8 @@ use Prim.Native.Nat.{ℕ, _<_, _≤_}
 use native.Mathlib.Omega.{arith}
 use borrow.Author.Tests.{ltb-true, ltb-false, lt-ltb, le-ltb}
 use lib.Dec.{ltb}
-use Rattle.lists.specs.Least.{least, lighter}
+use lib.ListN.{length}
+use Rattle.lists.specs.Least.{least, lighter, least-of}
 use Rattle.lists.specs.Members.{every}
 use Rattle.lists.proofs.Every.{every-uncons}
 use Rattle.lists.proofs.Ordered.{Ascending}
@@ -87,6 +88,12 @@ module _ {A : Type 0} (measure : A → ℕ) where
       go true rest = rest b
       go false rest = rest best
 
+  -- From a start that measures more than the first, the least is found.
+  pub least-found : {B : Type 0} (f : B → A) (start : A) (first : B) (rest : List B) → measure (f first) < measure start
+      → least measure start (map f (first ∷ rest)) ≡ f (least (λ b. measure (f b)) first rest)
+  unfolding least
+  least-found f start first rest h = ap (λ best. least measure best (map f rest)) (ahead start (f first) h) ∙ least-map f first rest
+
   module _ (before : A → A → Type 0) (best a : A) (l : List A) (result : A) where
     -- The second is lighter: the first is out.
     least-leaves : measure a < measure best → FirstLeast measure before (a ∷ l) result → FirstLeast measure before (best ∷ (a ∷ l)) result
@@ -138,3 +145,8 @@ module _ {A : Type 0} (measure : A → ℕ) where
         (least-stays before best a l _ (stays .0) (up .0 a (List·Memᴰ·head refl)) (least-ties best l)
         (least-first best l (λ b m. up .0 b (List·Memᴰ·tail m), up .1 .1))))
         (lighter-cases best a)
+
+    pub least-of-first : (none : A) (l : List A) → 0 < length l → Ascending before l → FirstLeast measure before l (least-of measure none l)
+    unfolding least-of
+    least-of-first none [] h up = absurd (omega arith)
+    least-of-first none (a ∷ l) h up = least-first a l up

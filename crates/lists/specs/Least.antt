@@ -12,3 +12,8 @@ lighter measure best a = cond (ltb (measure a) (measure best)) a best
 unfoldable pub least : {A : Type 0} → (A → ℕ) → A → List A → A
 least measure best [] = best
 least measure best (a ∷ l) = least measure (lighter measure best a) l
+
+-- The least of a list, the first of several; where the list is empty, `none`.
+unfoldable pub least-of : {A : Type 0} → (A → ℕ) → A → List A → A
+least-of measure none [] = none
+least-of measure none (a ∷ l) = least measure a l

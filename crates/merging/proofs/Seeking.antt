@@ -1,12 +1,11 @@
 -- Seeking the best of a list, one triple after the other, finds its least, the first of several.
-use mathlib.Core.Path.{_≡_, refl, ap, _∙_}
-use mathlib.Core.List.{List, [], _∷_, _++_, map}
+use mathlib.Core.Path.{_≡_, refl}
+use mathlib.Core.List.{List, [], _∷_, _++_}
 use Prim.Native.Nat.{ℕ, _<_}
 use Rattle.lists.specs.Least.{least}
-use Rattle.lists.proofs.Least.{ahead, least-map, least-map-joined}
+use Rattle.lists.proofs.Least.{least-map-joined, least-found}
 use Rattle.terms.specs.declared.row.Triple.{Triple}
 use Rattle.merging.specs.declared.choice.Best.{Best}
-use Rattle.merging.specs.Choice.{least-of}
 use Rattle.merging.specs.Couples.{weighed, seek}
 
 module _ (measure : Triple → ℕ) where
@@ -20,8 +19,6 @@ module _ (measure : Triple → ℕ) where
 
   -- From a start above the first triple's weight the least is found, with its weight.
   pub sought : (start : Best) (first : Triple) (rest : List Triple) → measure first < start .weight
-      → seek measure start (first ∷ rest) ≡ weighed measure (least-of measure (first ∷ rest))
-  unfolding seek least weighed least-of
-  sought start first rest h =
-      ap (λ best. least (λ b. b .weight) best (map (weighed measure) rest)) (ahead (λ b. b .weight) start (weighed measure first) h)
-      ∙ least-map (λ b. b .weight) (weighed measure) first rest
+      → seek measure start (first ∷ rest) ≡ weighed measure (least measure first rest)
+  unfolding seek weighed
+  sought start first rest h = least-found (λ b. b .weight) (weighed measure) start first rest h

@@ -5,6 +5,7 @@ use Prim.Native.Nat.{ℕ, suc, _+_, _-_, _*_, _<_, _≤_}
 use native.Mathlib.Nat.{sub-self}
 use native.Mathlib.Omega.{arith}
 use lib.ListN.{length, getD, replicate, length-map, replicate-append-replicate}
+use Rattle.lists.specs.Least.{least-of}
 use Rattle.terms.specs.declared.row.Triple.{Triple}
 use Rattle.terms.specs.Rows.{terms-of}
 use Rattle.terms.specs.Weight.{weight-of}
@@ -14,7 +15,7 @@ use Rattle.merging.specs.declared.choice.Best.{Best}
 use Rattle.merging.specs.declared.run.Run.{Run}
 use Rattle.merging.specs.History.{next-parent}
 use Rattle.merging.specs.Lawful.{named, lawful-pairs}
-use Rattle.merging.specs.Choice.{weight-in, candidates, least-of, chosen}
+use Rattle.merging.specs.Choice.{weight-in, candidates, chosen}
 use Rattle.merging.specs.Couples.{weight-here, nothing, weighed, seek}
 use Rattle.merging.specs.Run.{greedy, finished}
 use Rattle.merging.specs.State.{history-of, Holds, Ready, Went}
@@ -47,7 +48,8 @@ module _ (entities steps : ℕ) (terms : List (List ℕ)) (rows : List ℕ) (run
   module _ (left : run .step < run .modes) where
     found : (l : List Triple) → 0 < length l
         → seek (weight-here (run .live) rows) (nothing (run .live)) l
-        ≡ weighed (weight-in (run .modes) terms (history-of run)) (least-of (weight-in (run .modes) terms (history-of run)) l)
+        ≡ weighed (weight-in (run .modes) terms (history-of run)) (least-of (weight-in (run .modes) terms (history-of run)) (record { x = 0; y = 0; z = 0 }) l)
+    unfolding least-of
     found [] h = absurd (omega arith)
     found (first ∷ rest) h =
         sought (weight-here (run .live) rows) (nothing (run .live)) first rest (weight-low first) ∙ rw weighs-here

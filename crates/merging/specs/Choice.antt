@@ -1,9 +1,9 @@
 -- "Step i takes the least; on a tie, the triple named first by (a, z) in ascending a, then z."
 use mathlib.Core.Path.{_≡_}
-use mathlib.Core.List.{List, [], _∷_, map}
+use mathlib.Core.List.{List, map}
 use mathlib.Core.Logic.{_⊎_}
 use Prim.Native.Nat.{ℕ, _≤_, _<_, min}
-use Rattle.lists.specs.Least.{least}
+use Rattle.lists.specs.Least.{least-of}
 use Rattle.terms.specs.declared.row.Triple.{Triple}
 use Rattle.terms.specs.Weight.{weight-of}
 use Rattle.merging.specs.History.{rows-after}
@@ -17,14 +17,9 @@ weight-in modes terms history triple = weight-of triple (rows-after modes terms 
 unfoldable pub candidates : ℕ → List Triple → List Triple
 candidates modes history = map (named modes history) (lawful-pairs modes history)
 
--- The least of a list, the first of several; where the list is empty, three zeros.
-unfoldable pub least-of : (Triple → ℕ) → List Triple → Triple
-least-of measure [] = record { x = 0; y = 0; z = 0 }
-least-of measure (first ∷ rest) = least measure first rest
-
--- The choice of a step, as a computation.
+-- The choice of a step, as a computation; where there is no lawful pair, three zeros.
 unfoldable pub chosen : ℕ → List (List ℕ) → List Triple → Triple
-chosen modes terms history = least-of (weight-in modes terms history) (candidates modes history)
+chosen modes terms history = least-of (weight-in modes terms history) (record { x = 0; y = 0; z = 0 }) (candidates modes history)
 
 -- "in ascending a, then z".
 abbrev pub Before : Pair → Pair → Type 0

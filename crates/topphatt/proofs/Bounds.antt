@@ -8,6 +8,7 @@ use borrow.Author.Tests.{ltb-true, lt-ltb, ne-eqb}
 use lib.Dec.{ltb, eqb}
 use lib.ListN.{length, take, drop}
 use Rattle.lists.specs.Members.{keep, every, firsts}
+use Rattle.lists.specs.Least.{least-of}
 use Rattle.lists.specs.Ranges.{listed}
 use Rattle.lists.proofs.Every.{every-kept, every-first, every-uncons, every-append, every-taken, every-dropped}
 use Rattle.lists.proofs.Least.{least-passes}
@@ -16,7 +17,7 @@ use Rattle.tree.specs.Table.{nodes}
 use Rattle.terms.specs.declared.row.Triple.{Triple}
 use Rattle.topphatt.specs.Nodes.{remaining, farthest, narrowed, active}
 use Rattle.topphatt.specs.Choices.{unassigned, without, choices-at}
-use Rattle.topphatt.specs.Choice.{Choice, candidates, least-of, rank, chosen}
+use Rattle.topphatt.specs.Choice.{Choice, candidates, rank, chosen}
 
 abbrev pub Below : ℕ → List ℕ → Type 0
 Below modes l = every (λ v. ltb v modes) l ≡ true
@@ -84,7 +85,7 @@ chosen-below modes table heuristic round assigned rows h =
     of-least (flatMap (λ node. map {B = Choice} (λ triple. record { node = node; triple = triple }) (choices-at modes table assigned node)) (active modes table heuristic round assigned))
     (candidates-below modes table assigned (active modes table heuristic round assigned) (active-below modes table heuristic round assigned))
   where
-    of-least : (l : List Choice) → every (λ choice. ltb (choice .node) modes) l ≡ true → least-of (rank rows) l .node < modes
+    of-least : (l : List Choice) → every (λ choice. ltb (choice .node) modes) l ≡ true → least-of (rank rows) (record { node = 0; triple = record { x = 0; y = 0; z = 0 } }) l .node < modes
     of-least [] e = h
     of-least (first ∷ rest) e =
         let p = every-uncons (λ choice. ltb (choice .node) modes) first rest e in

@@ -1,6 +1,6 @@
 -- While there is a candidate, the computed choice of a round is the one that document 01 describes.
 use mathlib.Core.Path.{_≡_, ap}
-use mathlib.Core.List.{List, [], _∷_, map, List·Memᴰ, Memᴰ·of-map}
+use mathlib.Core.List.{List, map, List·Memᴰ, Memᴰ·of-map}
 use mathlib.Core.Logic.{_⊎_, inl, inr, ⊎-elim}
 use Prim.Native.Nat.{ℕ, _+_, _-_, _*_, _<_, _≤_}
 use native.Mathlib.Omega.{arith}
@@ -10,12 +10,12 @@ use Rattle.lists.proofs.Tests.{same-or-not}
 use Rattle.lists.proofs.Membership.{of-joined}
 use Rattle.lists.proofs.Ordered.{Ascending, map-ascends, joined-ascends}
 use Rattle.lists.proofs.Narrowing.{any-ascends}
-use Rattle.lists.proofs.Least.{FirstLeast, least-first}
+use Rattle.lists.proofs.Least.{FirstLeast, least-of-first}
 use Rattle.terms.specs.declared.row.Triple.{Triple}
 use Rattle.terms.specs.Weight.{weight-of}
 use Rattle.topphatt.specs.Nodes.{active}
 use Rattle.topphatt.specs.Choices.{choices-at}
-use Rattle.topphatt.specs.Choice.{Choice, candidates, packed, rank, least-of, chosen, Larger, Chosen}
+use Rattle.topphatt.specs.Choice.{Choice, candidates, packed, rank, chosen, Larger, Chosen}
 use Rattle.topphatt.proofs.ActiveNodes.{active-ascends}
 use Rattle.topphatt.proofs.NumberBounds.{choices-small}
 
@@ -83,12 +83,8 @@ module _ (modes : ℕ) (table : List ℕ) (heuristic round : ℕ) (assigned : Li
   module _ (rows : List (List ℕ)) where
     pub chosen-first : 0 < length (candidates modes table heuristic round assigned)
         → FirstLeast (rank rows) Lower (candidates modes table heuristic round assigned) (chosen modes table heuristic round assigned rows)
-    unfolding chosen least-of
-    chosen-first some = go (candidates modes table heuristic round assigned) some candidates-ascend
-      where
-        go : (l : List Choice) → 0 < length l → Ascending Lower l → FirstLeast (rank rows) Lower l (least-of (rank rows) l)
-        go [] h up = absurd (omega arith)
-        go (first ∷ rest) h up = least-first (rank rows) Lower first rest up
+    unfolding chosen
+    chosen-first some = least-of-first (rank rows) Lower _ (candidates modes table heuristic round assigned) some candidates-ascend
 
     module _ (few : 3 * modes + 2 < 65536) (some : 0 < length (candidates modes table heuristic round assigned)) where
       fits : {choice : Choice} → List·Memᴰ choice (candidates modes table heuristic round assigned) → Fits (choice .triple)

@@ -4,17 +4,16 @@ use mathlib.Core.List.{List, [], _∷_, map, flatMap, map-map}
 use Prim.Native.Nat.{ℕ, _≤_}
 use native.Mathlib.Omega.{arith}
 use lib.ListN.{length}
-use Rattle.lists.specs.Least.{least, lighter}
+use Rattle.lists.specs.Least.{least, least-of}
 use Rattle.lists.proofs.Joined.{map-flatMap}
-use Rattle.lists.proofs.Least.{least-map}
+use Rattle.lists.proofs.Least.{least-found}
 use Rattle.terms.specs.declared.row.Triple.{Triple}
 use Rattle.terms.proofs.WeightBound.{weight-at-most}
 use Rattle.topphatt.specs.declared.choice.Selection.{Selection}
 use Rattle.topphatt.specs.Nodes.{active}
 use Rattle.topphatt.specs.Choices.{choices-at}
-use Rattle.topphatt.specs.Choice.{Choice, candidates, least-of, rank, chosen}
+use Rattle.topphatt.specs.Choice.{Choice, candidates, rank, chosen}
 use Rattle.topphatt.specs.Seeking.{weighed, standing, worst, sought-over, choice-of}
-use Rattle.topphatt.proofs.SoughtSteps.{by-weight}
 
 module _ (rows : List (List ℕ)) where
   of : Choice → Selection
@@ -31,18 +30,18 @@ module _ (rows : List (List ℕ)) where
       (map-flatMap of (λ node. at-node node (f node)) nodes
       ∙ ap (λ g. flatMap g nodes) (fun-ext (λ node. map-map of (λ triple. record { node = node; triple = triple }) (f node))))
 
-  least-sought : (live : ℕ) (l : List Choice) → length rows ≤ live → choice-of (least standing (worst live) (map of l)) ≡ least-of (rank rows) l
+  least-sought : (live : ℕ) (l : List Choice) → length rows ≤ live
+      → choice-of (least standing (worst live) (map of l)) ≡ least-of (rank rows) (choice-of (worst live)) l
   unfolding least-of least choice-of worst of weighed standing rank
   least-sought live [] h = refl
   least-sought live (first ∷ rest) h =
       let light = weight-at-most (first .triple) rows in
-      let ahead : lighter standing (worst live) (of first) ≡ of first = by-weight (worst live) (of first) (omega arith) in
-      ap (λ best. choice-of (least standing best (map of rest))) ahead ∙ ap choice-of (least-map standing of first rest)
+      ap choice-of (least-found standing of (worst live) first rest (omega arith))
 
   pub over-chosen : (modes : ℕ) (table : List ℕ) (heuristic round : ℕ) (assigned : List ℕ) (live : ℕ) → length rows ≤ live
       → choice-of (sought-over modes table assigned rows (worst live) (active modes table heuristic round assigned))
       ≡ chosen modes table heuristic round assigned rows
-  unfolding sought-over chosen candidates at-node
+  unfolding sought-over chosen candidates at-node choice-of worst
   over-chosen modes table heuristic round assigned live h =
       rw (weighed-all (choices-at modes table assigned) (active modes table heuristic round assigned))
       (least-sought live (flatMap (λ node. at-node node (choices-at modes table assigned node)) (active modes table heuristic round assigned)) h)

@@ -7,7 +7,7 @@ use lib.ListN.{length}
 use Rattle.lists.specs.Counting.{sum, same, occurrences}
 use Rattle.lists.specs.Members.{every, keep, leading, some-of, alike, firsts, firsts-after}
 use Rattle.lists.specs.Ranges.{listed, ascends, ascends-from}
-use Rattle.lists.specs.Least.{least, lighter}
+use Rattle.lists.specs.Least.{least, lighter, least-of}
 use Rattle.lists.specs.Written.{written-at}
 use Rattle.terms.specs.Rows.{rows-of, term, terms-of}
 use Rattle.terms.specs.Good.{modes-good, good-indices, good-row, good-rows, checked}
@@ -21,7 +21,7 @@ use Rattle.tree.specs.Check.{codes-good, tree-checked}
 use Rattle.topphatt.specs.Slots.{pair-of, parity-of, leaf-slot, slot-of, slot, slots, unfixed, leaf-of}
 use Rattle.topphatt.specs.Nodes.{distance, is-fixed, complete, remaining, largest, farthest, narrowed, active}
 use Rattle.topphatt.specs.Choices.{unassigned, without, numbers, with-z, choices, choices-at}
-use Rattle.topphatt.specs.Choice.{candidates, packed, rank, least-of, chosen}
+use Rattle.topphatt.specs.Choice.{candidates, packed, rank, chosen}
 use Rattle.topphatt.specs.Rounds.{before, fixed, fixed-by, after, next, rounds, ended}
 use Rattle.topphatt.specs.Answer.{answer-table, with-room, with-terms, with-tree, outcome}
 use Rattle.topphatt.specs.Promises.{numbers-of, returned, table-after}

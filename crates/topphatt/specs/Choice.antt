@@ -1,9 +1,9 @@
 -- "Least weight, then largest z, y, x, then lowest node."
 use mathlib.Core.Path.{_≡_}
-use mathlib.Core.List.{List, [], _∷_, map, flatMap, List·Memᴰ}
+use mathlib.Core.List.{List, map, flatMap, List·Memᴰ}
 use mathlib.Core.Logic.{_⊎_}
 use Prim.Native.Nat.{ℕ, _+_, _-_, _*_, _≤_, _<_}
-use Rattle.lists.specs.Least.{least}
+use Rattle.lists.specs.Least.{least-of}
 use Rattle.terms.specs.declared.row.Triple.{Triple}
 use Rattle.terms.specs.Weight.{weight-of}
 use Rattle.topphatt.specs.Nodes.{active}
@@ -29,15 +29,10 @@ unfoldable pub rank : List (List ℕ) → Choice → ℕ
 rank rows choice =
     weight-of (choice .triple) rows * 281474976710656 + (281474976710655 - packed (choice .triple))
 
--- The least of a list, the first of several; where the list is empty, node 0 and three zeros.
-unfoldable pub least-of : (Choice → ℕ) → List Choice → Choice
-least-of measure [] = record { node = 0; triple = record { x = 0; y = 0; z = 0 } }
-least-of measure (first ∷ rest) = least measure first rest
-
--- The choice of a round, as a computation.
+-- The choice of a round, as a computation; where there is no candidate, node 0 and three zeros.
 unfoldable pub chosen : ℕ → List ℕ → ℕ → ℕ → List ℕ → List (List ℕ) → Choice
 chosen modes table heuristic round assigned rows =
-    least-of (rank rows) (candidates modes table heuristic round assigned)
+    least-of (rank rows) (record { node = 0; triple = record { x = 0; y = 0; z = 0 } }) (candidates modes table heuristic round assigned)
 
 -- "then largest z, y, x".
 abbrev pub Larger : Triple → Triple → Type 0
