@@ -1,6 +1,6 @@
 -- A field read byte by byte: as long as digits come that may follow, what was read and what is left say whether the field is a number.
 use mathlib.Core.Path.{_≡_, refl, _∙_, sym}
-use mathlib.Core.Bool.{Bool, true, false, cond, _&&_, _||_, and-false, true≢false}
+use mathlib.Core.Bool.{Bool, true, false, cond, _&&_, _||_, true≢false}
 use mathlib.Core.Logic.{⊎-elim}
 use mathlib.Core.List.{List, [], _∷_, _++_, append-assoc, append-nil}
 use Prim.Native.Nat.{ℕ, zero, suc, _+_, _-_, _*_, _<_, _≤_}
@@ -13,7 +13,7 @@ use lib.ListN.{length, getD, drop, drop-of-length-le, length-append}
 use Rattle.lists.specs.Members.{every}
 use Rattle.lists.proofs.Steps.{drop-step}
 use Rattle.lists.proofs.Tests.{both, either, neither, same-or-not}
-use Rattle.lists.proofs.Every.{every-append, every-cons, every-uncons}
+use Rattle.lists.proofs.Every.{every-append, every-cons, every-uncons, every-fails}
 use Rattle.journal.specs.declared.numbers.Field.{Field}
 use Rattle.journal.specs.declared.numbers.Field.the-variants.{Broken}
 use Rattle.journal.specs.Decimal.{is-digit, value-after, value, leads-well, is-number}
@@ -129,11 +129,6 @@ module _ (begun : List ℕ) (b : Begun begun) where
         leads = leads-more begun byte (b .leads) above;
         size = rw (length-more begun byte, value-more begun byte) (least-more (length begun) (value begun) (byte - 48) (b .size) above);
       }
-
-every-fails : {A : Type 0} (test : A → Bool) (l : List A) (a : A) (m : List A) → test a ≡ false → every test (l ++ (a ∷ m)) ≡ false
-unfolding every
-every-fails test [] a m e = rw e
-every-fails test (c ∷ l) a m e = rw (every-fails test l a m e) (and-false (test c))
 
 -- What can't be a number, whatever follows.
 module _ (begun : List ℕ) (byte : ℕ) (rest : List ℕ) where

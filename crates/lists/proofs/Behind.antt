@@ -1,13 +1,13 @@
--- Parts written one behind the other are one part.
+-- Parts written one behind the other are one part, and so are elements.
 use mathlib.Core.Path.{_≡_, refl, ap, _∙_, sym}
-use mathlib.Core.List.{List, [], _∷_, _++_, append-assoc, append-nil}
+use mathlib.Core.List.{List, [], _∷_, _++_, map, append-assoc, append-nil, map-append}
 use Prim.Native.Nat.{ℕ, _+_, _-_, _<_, _≤_}
 use native.Mathlib.Nat.{zero-add, add-zero}
 use native.Mathlib.Numerals.{add-one}
 use native.Mathlib.Omega.{arith}
 use borrow.Rule.Slice.PartMut.{putMid}
-use lib.ListN.{length, set, take, drop, length-append, length-drop, drop-of-length-le, take-append-drop}
-use lib.Seq.{set-split, drop-drop, drop-append-add, take-at, length-take-le}
+use lib.ListN.{length, getD, set, take, drop, length-append, length-take, length-drop, length-map, drop-of-length-le, take-append-drop}
+use lib.Seq.{set-split, sets, sets-eq, drop-drop, drop-append-add, take-at, take-suc, length-take-le}
 use Rattle.lists.specs.Written.{written-at}
 use Rattle.lists.proofs.Written.{length-written, drop-written}
 use Rattle.lists.proofs.Steps.{part-to-end}
@@ -113,3 +113,18 @@ module _ {A : Type 0} where
   pub field-wrote : (field : List A) (mark : A) {at end : ℕ} {before after : List A} → end ≡ at + (length field + 1)
       → after ≡ written-at at (field ++ (mark ∷ [])) before → Wrote at (field ++ (mark ∷ [])) before after end
   field-wrote field mark e w = record { behind = omega (arith, e, length-append field (mark ∷ [])); written = w }
+
+-- A rule's values of a list, written one after the other over the front.
+module _ {A B : Type 0} (rule : A → B) (s : List A) (t : List B) where
+  pub mapped-start : t ≡ written-at 0 (map rule (take 0 s)) t
+  unfolding written-at
+  mapped-start = refl
+
+  pub mapped-next : (i : ℕ) (d : A) → i < length s → length s ≤ length t
+      → set (written-at 0 (map rule (take i s)) t) i (rule (getD s i d)) ≡ written-at 0 (map rule (take (i + 1) s)) t
+  mapped-next i d h k =
+      let part = map rule (take i s) in
+      let size : i ≡ 0 + length part = simp (length-map, length-take) (omega arith) in
+      let more : map rule (take (i + 1) s) ≡ part ++ (rule (getD s i d) ∷ []) =
+      rw (add-one i, take-suc s i d h) (map-append rule (take i s) (getD s i d ∷ [])) in
+      written-one 0 part t i (rule (getD s i d)) size (omega arith) ∙ ap (λ p. written-at 0 p t) (sym more)

@@ -1,6 +1,6 @@
 -- What holds of every element holds at each place, and of the elements that are mapped, kept or the first of equals.
 use mathlib.Core.Path.{_≡_, refl}
-use mathlib.Core.Bool.{Bool, true, false, cond, and-eq-true-iff}
+use mathlib.Core.Bool.{Bool, true, false, cond, and-eq-true-iff, and-false}
 use mathlib.Core.List.{List, [], _∷_, _++_, map}
 use Prim.Native.Nat.{ℕ, zero, suc, _<_, _≤_}
 use native.Mathlib.Omega.{arith}
@@ -45,6 +45,11 @@ module _ {A : Type 0} (test : A → Bool) where
   unfolding some-of
   none-beside other never [] e = refl
   none-beside other never (a ∷ l) e = let p = every-uncons a l e in rw (never a (p .0)) (none-beside other never l (p .1))
+
+  pub every-fails : (l : List A) (a : A) (m : List A) → test a ≡ false → every test (l ++ (a ∷ m)) ≡ false
+  unfolding every
+  every-fails [] a m e = rw e
+  every-fails (c ∷ l) a m e = rw (every-fails l a m e) (and-false (test c))
 
   every-chosen : (b : Bool) (l m : List A) → every test l ≡ true → every test m ≡ true → every test (cond b l m) ≡ true
   every-chosen true l m e f = e

@@ -81,8 +81,7 @@ module _ {A : Type 0} (like : A → A → Bool) where
         → more ≡ kept ++ cond (not (some-of (like (getD s i d)) kept)) (getD s i d ∷ []) [] → kept ++ firsts-after like kept (drop i s) ≡ all
         → more ++ firsts-after like more (drop (i + 1) s) ≡ all
     firsts-next d kept more all h e g =
-        let a = getD s i d in
-        go (some-of (like a) kept) refl e (rw (drop-step s i d h) at g)
+        go (some-of (like (getD s i d)) kept) refl e (rw (drop-step s i d h) at g)
       where
         go : (b : Bool) → some-of (like (getD s i d)) kept ≡ b → more ≡ kept ++ cond (not b) (getD s i d ∷ []) []
             → kept ++ firsts-after like kept (getD s i d ∷ drop (i + 1) s) ≡ all → more ++ firsts-after like more (drop (i + 1) s) ≡ all

@@ -1,6 +1,6 @@
--- Where a number occurs: at a place, or nowhere.
+-- Where a number occurs: at a place, or nowhere; and whether it does.
 use mathlib.Core.Path.{_≡_, refl, ap, sym}
-use mathlib.Core.Bool.{Bool, true, false}
+use mathlib.Core.Bool.{Bool, true, false, not}
 use mathlib.Core.List.{List, [], _∷_}
 use Prim.Native.Nat.{ℕ, zero, suc, _+_, _<_, _≤_}
 use native.Mathlib.Omega.{arith}
@@ -10,7 +10,7 @@ use lib.ListN.{length, getD}
 use Rattle.lists.specs.Counting.{same, occurrences}
 use Rattle.lists.specs.Members.{some-of}
 use Rattle.lists.proofs.Tests.{neither}
-use Rattle.lists.proofs.Sums.{same-one, same-none}
+use Rattle.lists.proofs.Sums.{one-if, same-one, same-none}
 
 pub occurs-at : (x : ℕ) (l : List ℕ) (i d : ℕ) → i < length l → getD l i d ≡ x → 1 ≤ occurrences x l
 unfolding occurrences
@@ -48,3 +48,10 @@ some-occurs v (a ∷ l) e = go (eqb v a) refl (some-occurs v l)
     go : (b : Bool) → eqb v a ≡ b → (some-of (eqb v) l ≡ true → 1 ≤ occurrences v l) → 1 ≤ same a v + occurrences v l
     go true q on = omega (arith, same-one a v (sym (eqb-true v a q)))
     go false q on = omega (arith, on (rw q at e))
+
+pub one-or-none : (v : ℕ) (l : List ℕ) → occurrences v l ≤ 1 → occurrences v l + one-if (not (some-of (eqb v) l)) ≡ 1
+one-or-none v l h = go (some-of (eqb v) l) refl
+  where
+    go : (b : Bool) → some-of (eqb v) l ≡ b → occurrences v l + one-if (not b) ≡ 1
+    go true q = omega (arith, some-occurs v l q)
+    go false q = omega (arith, none-occurs v l q)

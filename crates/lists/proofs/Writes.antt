@@ -1,4 +1,4 @@
--- One write of a loop that fills a list from its front.
+-- One write: of a loop that fills a list from its front, and as any place sees it.
 use mathlib.Core.Path.{_≡_, ap, _∙_, sym}
 use mathlib.Core.Bool.{cond}
 use mathlib.Core.List.{List, [], _∷_, _++_}

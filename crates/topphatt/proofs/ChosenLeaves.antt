@@ -1,6 +1,6 @@
 -- The node of a round's choice is complete after the round: fixing a slot fixes it, and unfixes no other.
 use mathlib.Core.Path.{_≡_, refl, ap, _∙_, sym}
-use mathlib.Core.Bool.{Bool, true, false, cond}
+use mathlib.Core.Bool.{Bool, true, false, cond, true≢false}
 use mathlib.Core.List.{List, List·Memᴰ}
 use mathlib.Core.Logic.{⊎-elim}
 use Prim.Native.Nat.{ℕ, _*_, _/_, _<_, _≤_}
@@ -25,9 +25,6 @@ use Rattle.topphatt.proofs.ChosenRight.{of-candidates}
 use Rattle.topphatt.proofs.SlotCases.{Without, without-unfixed, unfixed-without, pair-below, low-fixed}
 use Rattle.topphatt.proofs.RoundGives.{slots-together}
 
-never-both : (b : Bool) → b ≡ true → b ≡ false → ⊥
-never-both b e f = let z : _≡_ {A = ℕ} 0 1 = cc in omega arith
-
 module _ (modes : ℕ) (assigned : List ℕ) (whole : length assigned ≡ modes) (k mode : ℕ) (low : mode < modes) (code : ℕ) where
   -- Where the leaf's pair has no mode after pair k is given one, it is another pair and had none before.
   had-none : Without modes (set assigned k mode) code → (pair-of modes code ≡ k → ⊥) × Without modes assigned code
@@ -40,7 +37,7 @@ module _ (modes : ℕ) (assigned : List ℕ) (whole : length assigned ≡ modes)
   unfixes-none : unfixed modes (slot-of modes assigned code) ≡ false → unfixed modes (slot-of modes (set assigned k mode) code) ≡ false
   unfixes-none e =
       not-so (unfixed modes (slot-of modes (set assigned k mode) code))
-      (λ f. never-both _ (without-unfixed modes assigned code (had-none (unfixed-without modes (set assigned k mode) code f) .1)) e)
+      (λ f. true≢false (sym (without-unfixed modes assigned code (had-none (unfixed-without modes (set assigned k mode) code f) .1)) ∙ e))
 
   fixes-own : pair-of modes code ≡ k → unfixed modes (slot-of modes (set assigned k mode) code) ≡ false
   fixes-own e =
@@ -83,7 +80,7 @@ module _ (modes : ℕ) (table : List ℕ) (node edge number : ℕ) (assigned : L
     where
       go : (b : Bool) → unfixed modes (slot modes table assigned node other) ≡ b → unfixed modes (slot modes table assigned node other) ≡ true
       go true q = q
-      go false q = absurd (never-both _ e (fixed-keeps other q))
+      go false q = absurd (true≢false (sym e ∙ fixed-keeps other q))
 
 -- Numbers of a choice: each is of a mode where its slot is unfixed.
 module _ (modes : ℕ) (table assigned : List ℕ) (whole : length assigned ≡ modes) (choice : Choice)
@@ -125,7 +122,7 @@ module _ (most modes : ℕ) (table : List ℕ) (accepted : tree-checked most mod
   number-half code number free from m e =
       ⊎-elim
       (λ leaf. rw (leaf .1 .2) (free-half code (leaf .1 .0) (from (leaf .1 .0) (leaf .1 .1))))
-      (λ same. absurd (never-both _ e (same .0)))
+      (λ same. absurd (true≢false (sym e ∙ same .0)))
       (of-numbers modes (slot-of modes assigned code) free m)
 
   all-fixed : (unfixed modes (slot modes table (fixed-by modes table choice assigned) (choice .node) 0) ≡ false)
@@ -148,7 +145,7 @@ module _ (most modes : ℕ) (table : List ℕ) (accepted : tree-checked most mod
       (λ e. rw (c .y-is) (free-half (child table node 1) (c .mode) (c .member)))
       (number-half (child table node 2) (choice .triple .z) (without (c .mode) free) (λ mode m. of-without modes (c .mode) free m .0) (c .z-is)))
       (λ (c : Singly modes free x y z (choice .triple)).
-      let both : unfixed modes x ≡ true → ⊥ = λ e. never-both true refl (rw (e, sym together ∙ e) at (c .not-both)) in
+      let both : unfixed modes x ≡ true → ⊥ = λ e. true≢false (rw (e, sym together ∙ e) at (c .not-both)) in
       none-unfixed modes table assigned (fair .whole) choice
       (λ e. absurd (both e))
       (λ e. absurd (both (together ∙ e)))

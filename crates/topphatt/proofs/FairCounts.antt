@@ -1,7 +1,7 @@
 -- Where each pair has a mode or none and no two the same, as many pairs have none as modes are unassigned; and giving a pair that has none
 -- a mode that is unassigned leaves it so.
-use mathlib.Core.Path.{_≡_, refl, ap, _∙_, sym}
-use mathlib.Core.Bool.{Bool, true, false, not}
+use mathlib.Core.Path.{_≡_, ap, _∙_, sym}
+use mathlib.Core.Bool.{true, not}
 use mathlib.Core.List.{List}
 use mathlib.Core.Logic.{_⊎_, inl, inr, ⊎-elim}
 use Prim.Native.Nat.{ℕ, suc, _+_, _<_, _≤_}
@@ -15,7 +15,7 @@ use Rattle.lists.specs.Members.{every, some-of}
 use Rattle.lists.specs.Ranges.{listed}
 use Rattle.lists.proofs.Tests.{same-or-not}
 use Rattle.lists.proofs.Every.{every-by-place}
-use Rattle.lists.proofs.Occurring.{occurs-at, occurs-twice, none-occurs, some-occurs}
+use Rattle.lists.proofs.Occurring.{occurs-twice, one-or-none}
 use Rattle.lists.proofs.Replaced.{occurrences-set, occurrences-replicate}
 use Rattle.lists.proofs.Pigeonholes.{counted-all, values-same}
 use Rattle.lists.proofs.Totals.{total, total-add, total-same, total-ones}
@@ -24,13 +24,6 @@ use Rattle.tree.specs.Table.{place-of}
 use Rattle.tree.proofs.Standing.{place-within, stands-there}
 use Rattle.topphatt.specs.Choices.{unassigned}
 use Rattle.topphatt.specs.Assignment.{Fair, Given}
-
-one-or-none : (v : ℕ) (l : List ℕ) → occurrences v l ≤ 1 → occurrences v l + one-if (not (some-of (eqb v) l)) ≡ 1
-one-or-none v l h = go (some-of (eqb v) l) refl
-  where
-    go : (b : Bool) → some-of (eqb v) l ≡ b → occurrences v l + one-if (not b) ≡ 1
-    go true q = omega (arith, some-occurs v l q)
-    go false q = omega (arith, none-occurs v l q)
 
 -- Before the first round no pair has a mode.
 pub fair-before : (modes : ℕ) → Fair modes (replicate modes modes)

@@ -1,7 +1,7 @@
 -- The codes written so far.
 use lib.ListN.{getD, length, take, set, length-set}
 use Prim.Native.Nat.{ℕ, _≤_, _-_, _*_}
-use Rattle.topphatt.proofs.FixedSteps.{mapped-start, mapped-next}
+use Rattle.lists.proofs.Behind.{mapped-start, mapped-next}
 use Rattle.topphatt.specs.Answer.{answer-table}
 use Rattle.topphatt.specs.Slots.{slot-of}
 use Rattle.merging.specs.Flatpack.{code}
@@ -53,7 +53,7 @@ loop-again c =
     let rule : ℕ → ℕ = λ given. code (args .modes) (2 * args .modes) (slot-of (args .modes) (args .assigned .now) given) in (
       omega arith,
       simp length-set (omega arith),
-      rw (c .answer-code .ensures) (ap (λ t. set t (here .loop .at) (rule (getD (args .tree .now) (here .loop .at) 0))) (here .loop .inv .2) ∙ mapped-next rule (args .tree .now) (args .table .now) (here .loop .at) (omega arith) (omega arith)),
+      rw (c .answer-code .ensures) (ap (λ t. set t (here .loop .at) (rule (getD (args .tree .now) (here .loop .at) 0))) (here .loop .inv .2) ∙ mapped-next rule (args .tree .now) (args .table .now) (here .loop .at) 0 (omega arith) (omega arith)),
     )
 
 same-length : tie.Need-same-length Inv-loop μ-loop
