@@ -11,8 +11,8 @@ use Rattle.lists.specs.Ranges.{listed}
 use Rattle.lists.specs.Written.{written-at}
 use Rattle.lists.proofs.Listed.{length-listed, listed-more}
 use Rattle.lists.proofs.Writes.{written-next}
-use Rattle.lists.proofs.Written.{length-written}
-use Rattle.lists.proofs.Behind.{set-written, written-behind, written-behind-front}
+use Rattle.lists.proofs.Joined.{flatMap-joined}
+use Rattle.lists.proofs.Behind.{set-written, written-one, front-behind}
 use Rattle.daemon.specs.Bytes.{word-at, two-bytes, eight-bytes}
 
 pub word-next : (bytes s : List ℕ) (i : ℕ) → i < length s → take i s ≡ listed (word-at bytes) 0 i
@@ -25,17 +25,9 @@ unfolding two-bytes flatMap
 length-two-bytes [] = refl
 length-two-bytes (v ∷ l) = let e = length-two-bytes l in omega arith
 
-two-bytes-joined : (l m : List ℕ) → two-bytes (l ++ m) ≡ two-bytes l ++ two-bytes m
-unfolding two-bytes flatMap
-two-bytes-joined [] m = refl
-two-bytes-joined (v ∷ l) m = ap (λ r. v % 256 ∷ (v / 256 ∷ r)) (two-bytes-joined l m)
-
 -- Two bytes stored one behind the other.
 pub two-written : (s : List ℕ) (at a b : ℕ) → at + 2 ≤ length s → set (set s at a) (at + 1) b ≡ written-at at (a ∷ (b ∷ [])) s
-two-written s at a b h =
-    ap (λ l. set l (at + 1) b) (set-written s at a (omega arith))
-    ∙ set-written (written-at at (a ∷ []) s) (at + 1) b (rw (length-written at (a ∷ []) s (omega arith)) (omega arith))
-    ∙ written-behind at (a ∷ []) (b ∷ []) s (omega arith)
+two-written s at a b h = rw (set-written s at a (omega arith)) (written-one at (a ∷ []) s (at + 1) b refl (omega arith))
 
 pub two-next : (numbers s out : List ℕ) (i : ℕ) → i < length numbers → out ≡ written-at 0 (two-bytes (take i numbers)) s
     → written-at (2 * i) (getD numbers i 0 % 256 ∷ (getD numbers i 0 / 256 ∷ [])) out
@@ -47,8 +39,8 @@ two-next numbers s out i h e =
     let before = two-bytes (take i numbers) in
     let l : length before ≡ 2 * i = length-two-bytes (take i numbers) ∙ ap (λ n. 2 * n) (length-take-le i numbers (omega arith)) in
     let grown : two-bytes (take (i + 1) numbers) ≡ before ++ part =
-    ap two-bytes (ap (λ n. take n numbers) (add-one i) ∙ take-suc numbers i 0 h) ∙ two-bytes-joined (take i numbers) (v ∷ []) in
-    ap (λ l. written-at (2 * i) part l) e ∙ ap (λ n. written-at n part (written-at 0 before s)) (sym l) ∙ written-behind-front before part s ∙ ap (λ p. written-at 0 p s) (sym grown)
+    ap two-bytes (ap (λ n. take n numbers) (add-one i) ∙ take-suc numbers i 0 h) ∙ flatMap-joined (λ number. number % 256 ∷ (number / 256 ∷ [])) (take i numbers) (v ∷ []) in
+    front-behind before part s out (2 * i) l e ∙ ap (λ p. written-at 0 p s) (sym grown)
 
 -- The bytes of a number, before their last.
 abbrev pub bytes-before : ℕ → ℕ → List ℕ
@@ -63,23 +55,15 @@ pub eight-next : (number left at place : ℕ) (s : List ℕ) → at + (place + 1
 eight-next number left at place s h e =
     let rule : ℕ → ℕ = λ place. number / 256 ^ place % 256 in
     let before = bytes-before number place in
-    let l : length before ≡ place = length-listed rule 0 place in
-    let fits : at + length before ≤ length s = omega arith in
     let byte : left % 256 ≡ rule (0 + place) = ap (λ n. n % 256) e ∙ ap rule (sym (zero-add place)) in
     ap (λ v. set (written-at at before s) (at + place) v) byte
-    ∙ set-written (written-at at before s) (at + place) (rule (0 + place)) (rw (length-written at before s fits) (omega arith))
-    ∙ ap (λ n. written-at (at + n) (rule (0 + place) ∷ []) (written-at at before s)) (sym l)
-    ∙ written-behind at before (rule (0 + place) ∷ []) s fits
+    ∙ written-one at before s (at + place) (rule (0 + place)) (ap (λ n. at + n) (sym (length-listed rule 0 place))) (omega arith)
     ∙ ap (λ p. written-at at p s) (sym (listed-more rule 0 place))
 
 pub left-next : (number left place : ℕ) → left ≡ number / 256 ^ place → left / 256 ≡ number / 256 ^ (place + 1)
 left-next number left place e =
     ap (λ n. n / 256) e ∙ div-div-eq-div-mul number (256 ^ place) 256
     ∙ ap (λ n. number / n) (sym (pow-suc 256 place) ∙ ap (λ n. 256 ^ n) (sym (add-one place)))
-
--- A part written behind one of so many bytes at the front.
-behind : (p q s out : List ℕ) (n : ℕ) → length p ≡ n → out ≡ written-at 0 p s → written-at n q out ≡ written-at 0 (p ++ q) s
-behind p q s out n l e = ap (λ o. written-at n q o) e ∙ ap (λ k. written-at k q (written-at 0 p s)) (sym l) ∙ written-behind-front p q s
 
 -- Four numbers of eight bytes, one behind the other.
 pub four-written : (a b c d : ℕ) (s one two three : List ℕ) → one ≡ written-at 0 (eight-bytes a) s → two ≡ written-at 8 (eight-bytes b) one
@@ -92,7 +76,7 @@ four-written a b c d s one two three e f g =
     let t = eight-bytes d in
     let pq : length (p ++ q) ≡ 16 = omega (arith, length-append p q, length-eight a, length-eight b) in
     let pqr : length ((p ++ q) ++ r) ≡ 24 = omega (arith, length-append (p ++ q) r, pq, length-eight c) in
-    let second = f ∙ behind p q s one 8 (length-eight a) e in
-    let third = g ∙ behind (p ++ q) r s two 16 pq second in
-    behind ((p ++ q) ++ r) t s three 24 pqr third
+    let second = f ∙ front-behind p q s one 8 (length-eight a) e in
+    let third = g ∙ front-behind (p ++ q) r s two 16 pq second in
+    front-behind ((p ++ q) ++ r) t s three 24 pqr third
     ∙ ap (λ l. written-at 0 l s) (append-assoc (p ++ q) r t ∙ append-assoc p q (r ++ t))
