@@ -117,14 +117,6 @@ pub lines-are-lines : (bytes : List ℕ) → every is-line (lines bytes) ≡ tru
 unfolding lines no-feed every
 lines-are-lines bytes = line-found [] bytes refl
 
-pub lines-of-lines : (texts : List (List ℕ)) → every is-line texts ≡ true → lines (flatMap (λ line. line) texts) ≡ texts
-unfolding lines lines-after flatMap
-lines-of-lines [] good = refl
-lines-of-lines (text ∷ rest) good =
-    let parts = every-uncons is-line text rest good in
-    lines-joined text (flatMap (λ line. line) rest) (kept-line text (parts .0))
-    ∙ rw (lines-one text (parts .0)) (ap (λ l. text ∷ l) (lines-of-lines rest (parts .1)))
-
 -- A line that is cut is none.
 cut-after : (begun line : List ℕ) (k : ℕ) → is-line line ≡ true → k < length line → lines-after begun (take k line) ≡ []
 unfolding is-line lines-after
