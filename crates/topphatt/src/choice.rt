@@ -1,14 +1,14 @@
 // The choice of a round: the least weight over the choices of its nodes, on a tie the largest z, y, x.
 ghost use mathlib.Core.Path.{_≡_};
 ghost use mathlib.Core.Bool.{true};
-ghost use mathlib.Core.List.{[], _∷_, map, flatMap};
-ghost use Prim.Native.Nat.{_+_, _*_, _≤_, _<_};
+ghost use mathlib.Core.List.{List, [], _∷_, map, flatMap};
+ghost use Prim.Native.Nat.{ℕ, _+_, _*_, _≤_, _<_};
 ghost use lib.Dec.{eqb, ltb};
 ghost use lib.ListN.{length, take};
 ghost use Rattle.lists.specs.Members.{every, «some-of»};
 ghost use Rattle.lists.specs.Least.{lighter};
 ghost use Rattle.terms.specs.Rows.{Held, «terms-of»};
-ghost use Rattle.terms.specs.Weight.{OddOf};
+ghost use Rattle.terms.specs.Weight.{OddOf, «weight-of»};
 ghost use Rattle.topphatt.specs.Slots.{«leaf-of»};
 ghost use Rattle.topphatt.specs.Choices.{unassigned, without, numbers, «with-z», choices};
 ghost use Rattle.topphatt.specs.Choice.{packed as «packed-number»};
@@ -85,6 +85,20 @@ fn combine(best: Selection, candidate: Selection) -> Selection
     best
 }
 
+// The best so far against one choice of this weight.
+fn against(node: u16, triple: Triple, weight: usize, best: Selection) -> Selection
+    ensures { λ r. ⌜ ((rows : List (List ℕ)) → weight ≡ weight-of triple rows → r ≡ sought rows node best (triple ∷ [])) ⌝ }
+{
+    combine(
+        best,
+        Selection {
+            min_weight: weight,
+            min_parent: node,
+            leaf_indices: triple,
+        },
+    )
+}
+
 // The best so far against one choice, given how many of its x and y are odd in each row.
 fn best_beside<'a>(
     rows: &'a [u16],
@@ -100,14 +114,7 @@ fn best_beside<'a>(
     ensures { λ r. ⌜ r ≡ sought (terms-of 8 live (now (rows .entry))) node best (triple ∷ []) ⌝ }
 {
     let weight = weight::weight_beside(rows, live, odd, triple);
-    combine(
-        best,
-        Selection {
-            min_weight: weight,
-            min_parent: node,
-            leaf_indices: triple,
-        },
-    )
+    against(node, triple, weight, best)
 }
 
 // The best so far against the choice whose Z leaf takes this mode, unless it is the pair's.
@@ -167,32 +174,7 @@ fn best_of_modes<'a>(
     best
 }
 
-// The best so far against x and y with each number that the Z slot may stand as.
-fn best_of_z<'a>(
-    rows: &'a [u16],
-    live: usize,
-    odd: &'a [u8],
-    free: &'a [u16],
-    modes: usize,
-    node: u16,
-    slots: Triple,
-    pair: u16,
-    start: Selection,
-) -> Selection
-    requires { ⌜ Held 8 live (now rows) ⌝ }
-    requires { ⌜ live ≤ length (now odd) ⌝ }
-    requires { ⌜ OddOf (now rows) live (slots .x) (slots .y) (now odd) ⌝ }
-    requires { ⌜ (modes ≤ 256) × (slots .z ≤ 3 * modes + 2) ⌝ }
-    requires { ⌜ every (λ mode. ltb mode modes) (now free) ≡ true ⌝ }
-    ensures { λ r. ⌜ r ≡ sought (terms-of 8 live (now (rows .entry))) node start (with-z (slots .x) (slots .y) (numbers modes (slots .z) (without pair (now (free .entry))))) ⌝ }
-{
-    if slots::unfixed(modes, slots.z) {
-        return best_of_modes(rows, live, odd, free, modes, node, slots, pair, start);
-    }
-    best_beside(rows, live, odd, node, slots, start)
-}
-
-// The same, with x and y counted in the rows once.
+// The best so far against x and y with each number that the Z slot may stand as; where these are many, x and y are counted in the rows once.
 fn best_of_pair<'a>(
     rows: &'a [u16],
     live: usize,
@@ -208,9 +190,12 @@ fn best_of_pair<'a>(
     requires { ⌜ every (λ mode. ltb mode modes) (now free) ≡ true ⌝ }
     ensures { λ r. ⌜ r ≡ sought (terms-of 8 live (now (rows .entry))) node start (with-z (slots .x) (slots .y) (numbers modes (slots .z) (without pair (now (free .entry))))) ⌝ }
 {
+    if !slots::unfixed(modes, slots.z) {
+        return against(node, slots, weight::weight(rows, live, slots), start);
+    }
     let mut odd = [0u8; 2048];
     weight::count_odd(rows, live, slots.x, slots.y, &mut odd);
-    best_of_z(rows, live, &odd, free, modes, node, slots, pair, start)
+    best_of_modes(rows, live, &odd, free, modes, node, slots, pair, start)
 }
 
 // The best so far against the choices in which the X and Y leaves take this mode.
