@@ -1,13 +1,13 @@
 -- The place of a refused assignment is below 65536.
-use mathlib.Core.Path.{_≡_, refl}
+use mathlib.Core.Path.{_≡_}
 use mathlib.Core.Bool.{Bool, true, false, cond, _&&_}
 use mathlib.Core.List.{List}
-use Prim.Native.Nat.{ℕ, _*_, _<_, _≤_}
+use Prim.Native.Nat.{ℕ, _*_, _≤_}
 use native.Mathlib.Omega.{arith}
 use borrow.Author.Tests.{eqb-true, ltb-true, leb-true}
 use lib.Dec.{eqb, ltb, leb}
 use lib.ListN.{length}
-use Rattle.lists.proofs.Tests.{both}
+use Rattle.lists.proofs.Tests.{both, whichever}
 use Rattle.refusal.specs.declared.Refusal.{Refusal}
 use Rattle.refusal.specs.declared.Refusal.the-variants.{Modes, TreeLength, ChildCode, NotOneTree, WrongPair, Heuristic, Room}
 use Rattle.refusal.specs.Numbers.{placeOf}
@@ -33,26 +33,20 @@ unfoldable assign-place : Outcome → ℕ
 assign-place (done count weight codes) = 0
 assign-place (refused refusal) = placeOf refusal
 
--- Of two, whichever a test takes.
-either : {A : Type 0} (place : A → ℕ) (most : ℕ) (test : Bool) (on off : A) → (test ≡ true → place on ≤ most) → place off ≤ most
-    → place (cond test on off) ≤ most
-either place most true on off h k = h refl
-either place most false on off h k = k
-
 tree-small : (modes : ℕ) (table : List ℕ) → tree-place (tree-checked 256 modes table) ≤ 768
 unfolding tree-checked modes-good tree-place
 tree-small modes table =
-    either tree-place 768 (modes-good 256 modes) _ (BadTree Modes)
+    whichever tree-place 768 (modes-good 256 modes) _ (BadTree Modes)
     (λ m.
     let few = leb-true modes 256 (both (leb 1 modes) (leb modes 256) m .1) in
-    either tree-place 768 (eqb (length table) (3 * modes)) _ (BadTree TreeLength)
+    whichever tree-place 768 (eqb (length table) (3 * modes)) _ (BadTree TreeLength)
     (λ l.
     let long = eqb-true (length table) (3 * modes) l in
-    either tree-place 768 (ltb (codes-good modes table) (length table)) (BadTree (ChildCode (codes-good modes table))) _
+    whichever tree-place 768 (ltb (codes-good modes table) (length table)) (BadTree (ChildCode (codes-good modes table))) _
     (λ g. omega (arith, ltb-true (codes-good modes table) (length table) g))
-    (either tree-place 768 (one-tree modes table) _ (BadTree NotOneTree)
+    (whichever tree-place 768 (one-tree modes table) _ (BadTree NotOneTree)
     (λ o.
-    either tree-place 768 (ltb (pairs-right modes table) modes) (BadTree (WrongPair (pairs-right modes table))) Accepted
+    whichever tree-place 768 (ltb (pairs-right modes table) modes) (BadTree (WrongPair (pairs-right modes table))) Accepted
     (λ p. omega (arith, ltb-true (pairs-right modes table) modes p))
     (omega arith))
     (omega arith)))
@@ -75,7 +69,7 @@ module _ (modes : ℕ) (table : List ℕ) (heuristic : ℕ) (numbers : List ℕ)
   rest-small : (found : TreeChecked) → tree-place found ≤ 768 → assign-place (with-tree modes table heuristic numbers work room found) ≤ 65535
   unfolding with-tree tree-place assign-place
   rest-small Accepted h =
-      either assign-place 65535 (leb heuristic 2) _ (refused Heuristic) (λ good. terms-small (checked modes numbers) (bad-row-place modes numbers)) (omega arith)
+      whichever assign-place 65535 (leb heuristic 2) _ (refused Heuristic) (λ good. terms-small (checked modes numbers) (bad-row-place modes numbers)) (omega arith)
   rest-small (BadTree refusal) h = omega (arith, h)
 
   pub assign-refused-place : (refusal : Refusal) → outcome 256 modes table heuristic numbers work room ≡ refused refusal → placeOf refusal ≤ 65535

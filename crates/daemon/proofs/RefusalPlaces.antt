@@ -29,7 +29,7 @@ use Rattle.refusal.specs.declared.Refusal.the-variants.{
   Malformed,
 }
 use Rattle.refusal.specs.Numbers.{numberOf, placeOf}
-use Rattle.lists.proofs.Tests.{both}
+use Rattle.lists.proofs.Tests.{both, whichever}
 use Rattle.terms.specs.Rows.{terms-of}
 use Rattle.terms.specs.Good.{modes-good, good-rows, checked}
 use Rattle.terms.specs.declared.row.Triple.{Triple}
@@ -149,23 +149,15 @@ unfoldable pub bad-place : Checked → ℕ
 bad-place (Good count) = 0
 bad-place (BadTerms refusal) = placeOf refusal
 
-either-place : (most : ℕ) (test : Bool) (on off : Outcome) → (test ≡ true → place-of on ≤ most) → place-of off ≤ most → place-of (cond test on off) ≤ most
-either-place most true on off f g = f refl
-either-place most false on off f g = g
-
-either-bad : (most : ℕ) (test : Bool) (on off : Checked) → (test ≡ true → bad-place on ≤ most) → bad-place off ≤ most → bad-place (cond test on off) ≤ most
-either-bad most true on off f g = f refl
-either-bad most false on off f g = g
-
 module _ (modes : ℕ) (numbers : List ℕ) where
   pub bad-row-place : bad-place (checked modes numbers) ≤ 2048
   unfolding checked bad-place
   bad-row-place =
       let count = length numbers / 8 in
       let good = good-rows (2 * modes) count numbers in
-      either-bad 2048 (eqb (length numbers % 8) 0) _ (BadTerms TermNumbers)
-      (λ f. either-bad 2048 (leb count 2048) _ (BadTerms TooManyTerms)
-      (λ few. either-bad 2048 (ltb good count) (BadTerms (BadRow good)) (Good count)
+      whichever bad-place 2048 (eqb (length numbers % 8) 0) _ (BadTerms TermNumbers)
+      (λ f. whichever bad-place 2048 (leb count 2048) _ (BadTerms TooManyTerms)
+      (λ few. whichever bad-place 2048 (ltb good count) (BadTerms (BadRow good)) (Good count)
       (λ less. omega (arith, ltb-true good count less, leb-true count 2048 few))
       (omega arith))
       (omega arith))
@@ -182,7 +174,7 @@ module _ (modes : ℕ) (numbers : List ℕ) where
     terms-place (Good count) small bad =
         let terms = terms-of 8 count numbers in
         let obey = obeyed modes count terms bytes in
-        either-place 65535 (roomy modes count work rows journal) (with-journal modes count terms bytes obey) (refuses Room)
+        whichever place-of 65535 (roomy modes count work rows journal) (with-journal modes count terms bytes obey) (refuses Room)
         (λ f. omega (arith, journal-place count terms obey, journal-reached modes terms count bytes, small))
         (omega arith)
     terms-place (BadTerms refusal) small bad = omega (arith, bad)
@@ -190,7 +182,7 @@ module _ (modes : ℕ) (numbers : List ℕ) where
     resumed-place : place-of (resumed 256 modes numbers bytes work rows journal) ≤ 65535
     unfolding resumed modes-good place-of
     resumed-place =
-        either-place 65535 (modes-good 256 modes) (with-terms modes numbers bytes work rows journal (checked modes numbers)) (refuses Modes)
+        whichever place-of 65535 (modes-good 256 modes) (with-terms modes numbers bytes work rows journal (checked modes numbers)) (refuses Modes)
         (λ f. terms-place (checked modes numbers) (leb-true modes 256 (both (leb 1 modes) (leb modes 256) f .1)) bad-row-place)
         (omega arith)
 

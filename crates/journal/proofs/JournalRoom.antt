@@ -1,10 +1,11 @@
 -- "journal bytes 16 + 21n": what a run writes fits, whatever it began from.
-use mathlib.Core.Bool.{Bool, true, false, cond}
+use mathlib.Core.Bool.{cond}
 use mathlib.Core.List.{List, [], _∷_, flatMap}
 use Prim.Native.Nat.{ℕ, zero, suc, _+_, _-_, _*_, _<_, _≤_}
 use native.Mathlib.Omega.{arith}
 use lib.Dec.{eqb}
 use lib.ListN.{length, length-append}
+use Rattle.lists.proofs.Tests.{whichever}
 use Rattle.terms.specs.declared.row.Triple.{Triple}
 use Rattle.merging.specs.Lawful.{LawfulHistory}
 use Rattle.merging.specs.Choice.{weight-in, chosen}
@@ -44,10 +45,6 @@ module _ (modes count : ℕ) (terms : List (List ℕ)) (few : 3 * modes < 1000) 
         steps-fit steps (merge ∷ history) (chosen-lawful modes terms history lawful left, lawful) (omega arith),
       )
 
-  header-fits : (b : Bool) → length (cond b (header-text modes count) []) ≤ 16
-  header-fits true = header-short modes count (omega arith) counted
-  header-fits false = omega arith
-
   pub new-fits : (kept : ℕ) (history : List Triple) → LawfulHistory modes history → length history ≤ modes
       → length (new-text modes count terms kept history) ≤ 16 + 21 * (modes - length history)
   unfolding new-text
@@ -57,6 +54,6 @@ module _ (modes count : ℕ) (terms : List (List ℕ)) (few : 3 * modes < 1000) 
       omega (
         arith,
         length-append header rest,
-        header-fits (eqb kept 0),
+        whichever length 16 (eqb kept 0) (header-text modes count) [] (λ e. header-short modes count (omega arith) counted) (omega arith),
         steps-fit (modes - length history) history lawful (omega arith),
       )

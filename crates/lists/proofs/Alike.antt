@@ -1,6 +1,6 @@
 -- Two lists are alike where they are the same list, and only there.
 use mathlib.Core.Path.{_≡_, refl, ap}
-use mathlib.Core.Bool.{Bool, true, false, and-eq-true-iff}
+use mathlib.Core.Bool.{true, false, and-eq-true-iff}
 use mathlib.Core.List.{List, [], _∷_}
 use Prim.Native.Nat.{ℕ}
 use native.Mathlib.Omega.{arith}
@@ -8,6 +8,7 @@ use borrow.Author.Tests.{eq-eqb, eqb-true}
 use lib.Dec.{eqb}
 use lib.ListN.{length}
 use Rattle.lists.specs.Members.{alike}
+use Rattle.lists.proofs.Tests.{not-so}
 
 pub alike-self : (l : List ℕ) → alike l l ≡ true
 unfolding alike
@@ -26,8 +27,4 @@ alike-same (a ∷ l) (b ∷ m) e =
     cc
 
 pub alike-lengths : (l m : List ℕ) → (length l ≡ length m → ⊥) → alike l m ≡ false
-alike-lengths l m h = go (alike l m) refl
-  where
-    go : (b : Bool) → alike l m ≡ b → b ≡ false
-    go true e = absurd (h (ap length (alike-same l m e)))
-    go false e = refl
+alike-lengths l m h = not-so (alike l m) (λ e. h (ap length (alike-same l m e)))

@@ -7,7 +7,7 @@ use native.Mathlib.Omega.{arith}
 use lib.ListN.{length, getD, take, drop, length-append, drop-of-length-le}
 use lib.Seq.{getD-take, length-take-le}
 use Rattle.lists.specs.Members.{keep, some-of, firsts-after, firsts}
-use Rattle.lists.proofs.Tests.{neither}
+use Rattle.lists.proofs.Tests.{neither, whichever}
 use Rattle.lists.proofs.Steps.{drop-step}
 
 module _ {A : Type 0} where
@@ -17,14 +17,12 @@ module _ {A : Type 0} where
   none-at test (a ∷ l) zero d h e = neither (test a) (some-of test l) e .0
   none-at test (a ∷ l) (suc i) d h e = none-at test l i d (omega arith) (neither (test a) (some-of test l) e .1)
 
-  at-most-one : (b : Bool) (a : A) → length {A = A} (cond b (a ∷ []) []) ≤ 1
-  at-most-one true a = omega arith
-  at-most-one false a = omega arith
-
   pub fewer-kept : (test : A → Bool) (l : List A) → length (keep test l) ≤ length l
   unfolding keep
   fewer-kept test [] = omega arith
-  fewer-kept test (a ∷ l) = simp length-append (omega (arith, at-most-one (test a) a, fewer-kept test l))
+  fewer-kept test (a ∷ l) =
+      simp length-append
+      (omega (arith, whichever length 1 (test a) (a ∷ []) [] (λ e. omega arith) (omega arith), fewer-kept test l))
 
 module _ {A : Type 0} (like : A → A → Bool) where
   -- An element that is like one kept adds nothing; any other is the next of the firsts.

@@ -1,8 +1,8 @@
 -- What tests tell: two of them joined, and the one for the same number.
 use mathlib.Core.Path.{_≡_, refl, _∙_, sym}
-use mathlib.Core.Bool.{Bool, true, false, _&&_, _||_, and-eq-true-iff}
+use mathlib.Core.Bool.{Bool, true, false, cond, _&&_, _||_, and-eq-true-iff}
 use mathlib.Core.Logic.{_⊎_, inl, inr, ⊎-elim}
-use Prim.Native.Nat.{ℕ}
+use Prim.Native.Nat.{ℕ, _≤_}
 use native.Mathlib.Omega.{arith}
 use borrow.Author.Tests.{eqb-true, eqb-false, eq-eqb, ne-eqb}
 use lib.Dec.{eqb}
@@ -21,6 +21,12 @@ neither false q e = (refl, e)
 pub not-so : (b : Bool) → (b ≡ true → ⊥) → b ≡ false
 not-so true never = absurd (never refl)
 not-so false never = refl
+
+-- Of two, whichever a test takes.
+pub whichever : {A : Type 0} (measure : A → ℕ) (most : ℕ) (test : Bool) (on off : A) → (test ≡ true → measure on ≤ most) → measure off ≤ most
+    → measure (cond test on off) ≤ most
+whichever measure most true on off h k = h refl
+whichever measure most false on off h k = k
 
 pub same-or-not : (m n : ℕ) → (m ≡ n) ⊎ (m ≡ n → ⊥)
 same-or-not m n = go (eqb m n) refl
