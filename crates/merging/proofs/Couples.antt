@@ -6,6 +6,7 @@ use Prim.Native.Nat.{ℕ, _+_, _-_, _≤_, _%_}
 use native.Mathlib.Omega.{arith}
 use borrow.Author.Tests.{eq-eqb, ne-eqb}
 use lib.Dec.{eqb}
+use Rattle.lists.proofs.Tests.{not-so}
 use Rattle.terms.specs.declared.row.Triple.{Triple}
 use Rattle.merging.specs.History.{next-parent, is-open, z-end, holder}
 use Rattle.merging.specs.Lawful.{Pair, named, is-lawful, three-open, paired}
@@ -14,11 +15,7 @@ use Rattle.merging.proofs.Holders.{open-below}
 
 -- No number beyond the entities is open.
 pub closed-beyond : (modes : ℕ) (history : List Triple) (entity : ℕ) → next-parent modes history ≤ entity → is-open modes history entity ≡ false
-closed-beyond modes history entity h = go (is-open modes history entity) refl
-  where
-    go : (b : Bool) → is-open modes history entity ≡ b → b ≡ false
-    go true e = absurd (omega (arith, open-below modes history entity e))
-    go false e = refl
+closed-beyond modes history entity h = not-so (is-open modes history entity) (λ e. omega (arith, open-below modes history entity e))
 
 module _ (modes : ℕ) (history : List Triple) where
   pub named-parts : (pair : Pair) → named modes history pair ≡ record { x = x-of modes history (pair .a); y = y-of modes history (pair .a); z = pair .z }

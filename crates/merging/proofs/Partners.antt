@@ -1,12 +1,12 @@
 -- An open entity whose z-end is below 2n has a partner, and is in a lawful pair with every other open entity.
-use mathlib.Core.Path.{_≡_, refl, ap, sym}
-use mathlib.Core.Bool.{Bool, true, false}
+use mathlib.Core.Path.{_≡_, ap, sym}
+use mathlib.Core.Bool.{true, false}
 use mathlib.Core.List.{List}
 use mathlib.Core.Logic.{⊎-elim}
 use Prim.Native.Nat.{ℕ, _+_, _-_, _*_, _%_, _<_}
 use native.Mathlib.Omega.{arith}
 use borrow.Author.Tests.{eq-eqb, ne-eqb}
-use Rattle.lists.proofs.Tests.{same-or-not}
+use Rattle.lists.proofs.Tests.{same-or-not, not-so}
 use Rattle.terms.specs.declared.row.Triple.{Triple}
 use Rattle.merging.specs.History.{is-open, z-end, holder}
 use Rattle.merging.specs.Lawful.{Lawful, LawfulHistory, is-lawful, Pair, named}
@@ -15,11 +15,7 @@ use Rattle.merging.proofs.Holders.{mate-of-open}
 use Rattle.merging.proofs.Names.{names-named}
 
 pub unlawful-test : (modes : ℕ) (history : List Triple) (triple : Triple) → (Lawful modes history triple → ⊥) → is-lawful modes history triple ≡ false
-unlawful-test modes history triple unlawful = go (is-lawful modes history triple) refl
-  where
-    go : (b : Bool) → is-lawful modes history triple ≡ b → b ≡ false
-    go true e = absurd (unlawful (test-lawful modes history triple e))
-    go false e = refl
+unlawful-test modes history triple unlawful = not-so (is-lawful modes history triple) (λ e. unlawful (test-lawful modes history triple e))
 
 -- The first of a lawful pair is open, with a z-end that has a mate.
 pub first-fits : (modes : ℕ) (history : List Triple) (pair : Pair) → Lawful modes history (named modes history pair)

@@ -1,24 +1,24 @@
 -- What a text says, told by its first line and the lines behind it.
 use mathlib.Core.Path.{_≡_, refl, ap, _∙_, sym}
-use mathlib.Core.Bool.{Bool, true, false, cond, _&&_, true≢false}
-use mathlib.Core.List.{List, [], _∷_, _++_, flatMap}
+use mathlib.Core.Bool.{Bool, true, false, true≢false}
+use mathlib.Core.List.{List, [], _∷_}
 use mathlib.Core.Logic.{⊎-elim}
-use Prim.Native.Nat.{ℕ, zero, suc, _+_, _-_, _*_, _<_, _≤_}
+use Prim.Native.Nat.{ℕ, zero, suc, _+_, _*_, _<_, _≤_}
 use native.Mathlib.Omega.{arith}
-use borrow.Author.Tests.{eq-eqb, ne-eqb, le-leb, eqb-true}
-use lib.Dec.{eqb, leb, eqb·suc-suc}
+use borrow.Author.Tests.{eq-eqb, ne-eqb, le-leb}
+use lib.Dec.{eqb, eqb·suc-suc}
 use lib.ListN.{length, getD, take, drop, length-drop}
 use Rattle.lists.proofs.Parts.{nothing-in}
-use Rattle.lists.proofs.Tests.{same-or-not}
+use Rattle.lists.proofs.Tests.{same-or-not, not-so}
 use Rattle.journal.specs.Decimal.{value}
-use Rattle.journal.specs.Lines.{lines, lines-after, kept-of, first-line}
+use Rattle.journal.specs.Lines.{lines, kept-of, first-line}
 use Rattle.journal.specs.Fields.{fields, fields-after}
 use Rattle.journal.proofs.LineSteps.{first-line-stands, next-line, no-next-line, kept-more}
 use Rattle.text.specs.declared.input.Modes.the-variants.{Are, Broken}
 use Rattle.text.specs.declared.input.Said.{Said}
 use Rattle.text.specs.declared.input.Said.the-variants.{Given, Malformed}
 use Rattle.text.specs.declared.input.Terms.{Terms}
-use Rattle.text.specs.Input.{modes-line, well-formed, formed-from, formed, term-row, whole, said, given, malformed}
+use Rattle.text.specs.Input.{modes-line, well-formed, formed-from, formed, whole, said, given, malformed}
 use Rattle.refusal.specs.declared.Refusal.the-variants.{Malformed as Badly}
 use Rattle.journal.specs.Resuming.{hatt-run}
 use Rattle.text.specs.Output.{refusal-text, printed, answered, answer-text}
@@ -46,14 +46,12 @@ modes-read line n e = go (modes-line (fields line)) refl
 
 modes-unread : (line : List ℕ) → modes-said line ≡ Broken → modes-line (fields line) ≡ false
 unfolding modes-said
-modes-unread line e = go (modes-line (fields line)) refl
-  where
-    go : (b : Bool) → modes-line (fields line) ≡ b → b ≡ false
-    go true f =
-        let g : Are (value (getD (fields line) 1 [])) ≡ Broken = rw f at e in
-        let z : _≡_ {A = ℕ} 0 1 = cc in
-        absurd (omega arith)
-    go false f = refl
+modes-unread line e =
+    not-so (modes-line (fields line))
+    (λ f.
+    let g : Are (value (getD (fields line) 1 [])) ≡ Broken = rw f at e in
+    let z : _≡_ {A = ℕ} 0 1 = cc in
+    omega arith)
 
 module _ (most : ℕ) (text : List ℕ) (start : ℕ) (is-start : start ≡ length (first-line text)) where
   pub first-part : take start text ≡ first-line text
