@@ -1,6 +1,5 @@
 -- Assigning called from C answers what the assignment comes to: nothing is written where it refuses, and all that is known where it is done.
 use mathlib.Core.Path.{_≡_, refl, ap, _∙_, sym}
-use mathlib.Core.Bool.{Bool, true, false, _&&_}
 use mathlib.Core.List.{List}
 use Prim.Native.Nat.{ℕ, _+_, _*_, _≤_}
 use native.Mathlib.Omega.{arith}
@@ -13,17 +12,12 @@ use Rattle.lists.proofs.Tests.{both}
 use Rattle.lists.proofs.Written.{part-written}
 use Rattle.refusal.specs.declared.Refusal.{Refusal}
 use Rattle.refusal.specs.Numbers.{numberOf, placeOf}
-use Rattle.terms.specs.Good.{checked}
-use Rattle.terms.specs.declared.given.Checked.{Checked}
-use Rattle.terms.specs.declared.given.Checked.the-variants.{Good, Refused as BadTerms}
-use Rattle.tree.specs.Check.{tree-checked}
-use Rattle.tree.specs.declared.TreeChecked.{TreeChecked}
-use Rattle.tree.specs.declared.TreeChecked.the-variants.{Accepted, Refused as BadTree}
 use Rattle.tree.proofs.AcceptedParts.{accepted-parts}
 use Rattle.topphatt.specs.declared.Assigned.{Assigned}
 use Rattle.topphatt.specs.declared.Assigned.the-variants.{Weight, Unassigned}
-use Rattle.topphatt.specs.Answer.{Outcome, done, refused, with-room, with-terms, with-tree, outcome}
+use Rattle.topphatt.specs.Answer.{Outcome, done, refused, outcome}
 use Rattle.topphatt.specs.Promises.{returned, table-after}
+use Rattle.topphatt.proofs.AssignDone.{assign-done}
 use Rattle.topphatt.proofs.OutcomeRight.{outcome-right}
 use Rattle.daemon.specs.Bytes.{two-bytes, eight-bytes}
 use Rattle.daemon.specs.Calls.{room-of, assign-called, term-numbers}
@@ -56,39 +50,17 @@ pub record TableFits (modes room : ℕ) (codes : List ℕ) : Type 0 where
   pub has-room : 3 * modes ≤ room
   pub exact : length codes ≡ 3 * modes
 
-module _ (modes : ℕ) (table : List ℕ) (heuristic : ℕ) (numbers : List ℕ) (work room : ℕ) where
-  not-done : {A : Type 0} (refusal : Refusal) (count weight : ℕ) (codes : List ℕ) → refused refusal ≡ done count weight codes → A
-  not-done refusal count weight codes e = let z : _≡_ {A = ℕ} 0 1 = cc in absurd (omega arith)
-
-  module _ (count weight : ℕ) (codes : List ℕ) where
-    room-known : (n : ℕ) → with-room modes table heuristic numbers work room n ≡ done count weight codes → 3 * modes ≤ room
-    unfolding with-room
-    room-known n says = go (leb (8 * n) work && leb (3 * modes) room) refl
-      where
-        go : (b : Bool) → (leb (8 * n) work && leb (3 * modes) room) ≡ b → 3 * modes ≤ room
-        go true e = leb-true (3 * modes) room (both (leb (8 * n) work) (leb (3 * modes) room) e .1)
-        go false e = not-done _ count weight codes (rw e at says)
-
-    terms-known : (found : Checked) → with-terms modes table heuristic numbers work room found ≡ done count weight codes → 3 * modes ≤ room
-    unfolding with-terms
-    terms-known (Good n) says = room-known n says
-    terms-known (BadTerms refusal) says = not-done refusal count weight codes says
-
-    tree-known : (found : TreeChecked) → with-tree modes table heuristic numbers work room found ≡ done count weight codes → 3 * modes ≤ room
-    unfolding with-tree
-    tree-known Accepted says = go (leb heuristic 2) refl
-      where
-        go : (b : Bool) → leb heuristic 2 ≡ b → 3 * modes ≤ room
-        go true e = terms-known (checked modes numbers) (rw e at says)
-        go false e = not-done _ count weight codes (rw e at says)
-    tree-known (BadTree refusal) says = not-done refusal count weight codes says
-
-    pub table-fits : outcome 256 modes table heuristic numbers work room ≡ done count weight codes → TableFits modes room codes
-    unfolding outcome
-    table-fits says =
-        let right = outcome-right 256 modes table heuristic (omega arith) numbers work room count weight codes says in
-        let parts = accepted-parts 256 modes codes (right .accepted) in
-        record { some-modes = parts .some; has-room = tree-known (tree-checked 256 modes table) says; exact = parts .whole }
+pub table-fits : (modes : ℕ) (table : List ℕ) (heuristic : ℕ) (numbers : List ℕ) (work room count weight : ℕ) (codes : List ℕ)
+    → outcome 256 modes table heuristic numbers work room ≡ done count weight codes → TableFits modes room codes
+table-fits modes table heuristic numbers work room count weight codes says =
+    let known = assign-done 256 modes table heuristic numbers work room count weight codes says in
+    let right = outcome-right 256 modes table heuristic (omega arith) numbers work room count weight codes says in
+    let parts = accepted-parts 256 modes codes (right .accepted) in
+    record {
+      some-modes = parts .some;
+      has-room = leb-true (3 * modes) room (both (leb (8 * count) work) (leb (3 * modes) room) (known .rooms-are) .1);
+      exact = parts .whole;
+    }
 
 module _ (meant : Outcome) (table answer : List ℕ) where
   pub assign-refused : (why : Refusal) (r : ℕ) → meant ≡ refused why → r ≡ numberOf why * 65536 + placeOf why
@@ -96,12 +68,12 @@ module _ (meant : Outcome) (table answer : List ℕ) where
   unfolding assign-result-of table-bytes-then weight-then
   assign-refused why r e f = record { result = rw e f; table-is = rw e; answer-is = rw e }
 
-  pub assign-done : (modes weight : ℕ) (own now-own now-table now-answer : List ℕ) (finish : Finished meant weight)
+  pub assign-written : (modes weight : ℕ) (own now-own now-table now-answer : List ℕ) (finish : Finished meant weight)
       → TableFits modes (length own) (finish .codes) → now-own ≡ table-after meant own
       → now-table ≡ written-at 0 (two-bytes (take (3 * modes) now-own)) table → now-answer ≡ written-at 0 (eight-bytes weight) answer
       → AssignCalled meant table answer now-table now-answer 0
   unfolding assign-result-of table-bytes-then weight-then table-after
-  assign-done modes weight own now-own now-table now-answer finish fit own-is table-is answer-is =
+  assign-written modes weight own now-own now-table now-answer finish fit own-is table-is answer-is =
       let codes = finish .codes in
       let e = finish .is in
       let written : now-own ≡ written-at 0 codes own = rw e at own-is in

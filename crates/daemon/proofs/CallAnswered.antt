@@ -13,18 +13,12 @@ use Rattle.lists.proofs.Tests.{both}
 use Rattle.lists.proofs.Written.{part-written}
 use Rattle.refusal.specs.declared.Refusal.{Refusal}
 use Rattle.refusal.specs.Numbers.{numberOf, placeOf}
-use Rattle.terms.specs.Rows.{terms-of}
-use Rattle.terms.specs.Good.{modes-good}
-use Rattle.merging.specs.Run.{finished}
-use Rattle.merging.proofs.RunLawful.{finished-lawful, finished-length}
-use Rattle.merging.proofs.FlatpackRows.{length-flatpack}
 use Rattle.journal.specs.declared.resuming.Numbers.{Numbers}
 use Rattle.journal.specs.declared.resuming.Answer.{Answer}
 use Rattle.journal.specs.declared.resuming.Answer.the-variants.{Done, Refused}
-use Rattle.journal.specs.Resuming.{Ending, Outcome, done, refuses, ending, roomy, resumed}
+use Rattle.journal.specs.Resuming.{Ending, Outcome, done, refuses, resumed}
 use Rattle.journal.specs.Promises.{returned, rows-then, journal-then}
-use Rattle.journal.proofs.Obedience.{obedient}
-use Rattle.journal.proofs.CallDone.{call-done}
+use Rattle.journal.proofs.RowsFit.{RowsFit}
 use Rattle.daemon.specs.Bytes.{two-bytes, eight-bytes}
 use Rattle.daemon.specs.Calls.{room-of, resume-called}
 use Rattle.daemon.specs.Reading.{TermsRead}
@@ -50,35 +44,6 @@ unfolding returned
 done-meant (done part) numbers r e f = record { part = part; is = refl; weight = cc; trials = cc; kept = cc; new = cc }
 done-meant (refuses refusal) numbers r e f = let z : _≡_ {A = ℕ} 0 1 = cc in absurd (omega arith)
 
--- What is known of the rows of a run that is done: four numbers a mode, and there was room for them.
-pub record RowsFit (modes rows : ℕ) (part : Ending) : Type 0 where
-  pub some-modes : 1 ≤ modes
-  pub room : 4 * modes ≤ rows
-  pub exact : length (part .rows) ≡ 4 * modes
-
-module _ (modes : ℕ) (numbers bytes : List ℕ) (work rows journal : ℕ) where
-  pub rows-fit : (part : Ending) → resumed 256 modes numbers bytes work rows journal ≡ done part → RowsFit modes rows part
-  unfolding modes-good roomy ending
-  rows-fit part says =
-      let known = call-done 256 modes numbers bytes work rows journal part says in
-      let count = known .count in
-      let terms = terms-of 8 count numbers in
-      let history = known .history in
-      let m = both (leb 1 modes) (leb modes 256) (known .modes-are) in
-      let few = leb-true modes 256 (m .1) in
-      let some = leb-true 1 modes (m .0) in
-      let r = both (leb (8 * count) work) (leb (4 * modes) rows && leb (16 + 21 * modes) journal) (known .rooms-are) in
-      let obeys = obedient modes count terms bytes history (known .obeys) in
-      let lawful = finished-lawful modes terms history (obeys .lawful) (obeys .within) in
-      let all = finished-length modes terms history (obeys .lawful) (obeys .within) in
-      record {
-        some-modes = some;
-        room = leb-true (4 * modes) rows (both (leb (4 * modes) rows) (leb (16 + 21 * modes) journal) (r .1) .0);
-        exact =
-            ap (λ e. length (e .rows)) (known .ends)
-            ∙ length-flatpack modes (finished modes terms history) lawful all some (omega (arith, few));
-      }
-
 module _ (meant : Outcome) (rows journal answer now-journal : List ℕ) (journal-is : now-journal ≡ journal-then meant journal) where
   pub called-refused : (why : Refusal) (r : ℕ) → meant ≡ refuses why → r ≡ numberOf why * 65536 + placeOf why
       → Called meant rows journal answer rows now-journal answer r
@@ -86,7 +51,7 @@ module _ (meant : Outcome) (rows journal answer now-journal : List ℕ) (journal
   called-refused why r e f = record { result = rw e f; rows-are = rw e; journal-is = journal-is; answer-is = rw e }
 
   pub called-done : (numbers : Numbers) (modes : ℕ) (own now-own now-rows now-answer : List ℕ) (finish : Finished meant numbers)
-      → RowsFit modes (length own) (finish .part) → now-own ≡ rows-then meant own
+      → RowsFit 256 modes (length own) (finish .part) → now-own ≡ rows-then meant own
       → now-rows ≡ written-at 0 (two-bytes (take (4 * modes) now-own)) rows
       → now-answer ≡ written-at 0 (eight-bytes (numbers .weight) ++ (eight-bytes (numbers .trials) ++ (eight-bytes (numbers .kept) ++ eight-bytes (numbers .new)))) answer
       → Called meant rows journal answer now-rows now-journal now-answer 0

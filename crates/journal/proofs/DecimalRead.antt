@@ -10,7 +10,7 @@ use lib.Dec.{eqb}
 use lib.ListN.{length, getD, take, List·getD-append}
 use lib.Seq.{take-suc, take-all, getD-take, length-take-le}
 use Rattle.lists.specs.Members.{every}
-use Rattle.lists.proofs.Every.{every-append, every-cons, every-uncons, every-at, every-by-place}
+use Rattle.lists.proofs.Every.{every-append, every-cons, every-uncons, every-at, every-by-place, every-taken}
 use Rattle.journal.specs.Decimal.{is-digit, value-after, value, leads-well, is-number, digits, decimal}
 use Rattle.journal.proofs.Numerals.{Numeral, numeral, is-numeral, digit-bounds, digit-within, value-more, value-least, leads-first}
 use Rattle.journal.proofs.Digits.{by-size, digits-one, digits-more, some-digits, decimal-short}
@@ -141,14 +141,6 @@ no-zero-first [] h e = absurd (omega arith)
 no-zero-first (a ∷ []) h e = absurd (omega arith)
 no-zero-first (a ∷ (b ∷ l)) h e = leads-first a b l e
 
-every-front : {A : Type 0} (test : A → Bool) (k : ℕ) (l : List A) → every test l ≡ true → every test (take k l) ≡ true
-unfolding every
-every-front test zero l e = refl
-every-front test (suc k) [] e = refl
-every-front test (suc k) (a ∷ l) e =
-    let p = every-uncons test a l e in
-    every-cons test a (take k l) (p .0) (every-front test k l (p .1))
-
 digits-value : (more : ℕ) (l : List ℕ) → every is-digit l ≡ true → 1 ≤ length l → length l ≤ more → leads-well l ≡ true
     → digits more (value l) ≡ l
 digits-value zero l e some h leads = absurd (omega arith)
@@ -157,7 +149,7 @@ digits-value (suc more) l e some h leads =
     let front = take k l in
     let size : length front ≡ k = length-take-le k l (omega arith) in
     let last = digit-bounds (getD l k 0) (every-at is-digit l k 0 (omega arith) e) in
-    let good = every-front is-digit k l e in
+    let good = every-taken is-digit k l e in
     let no-zero : 1 ≤ k → getD front 0 0 ≡ 48 → ⊥ =
     λ i f. no-zero-first l (omega arith) leads (sym (getD-take k l 0 0 (omega arith)) ∙ f) in
     ap (λ m. digits (suc more) (value m)) (parted l some)

@@ -26,6 +26,7 @@ pub mod RunEnds
 pub mod JournalAnswered
 pub mod CutObeyed
 pub mod CallDone
+pub mod RowsFit
 pub mod CutAndResumed
 pub mod ObeyedThenGreedy
 pub mod OneAnswer

@@ -7,7 +7,7 @@ use native.Mathlib.Numerals.{add-one}
 use native.Mathlib.Omega.{arith}
 use borrow.Rule.Slice.PartMut.{putMid}
 use lib.ListN.{length, getD, set, take, drop, length-append, length-take, length-drop, length-map, drop-of-length-le, take-append-drop}
-use lib.Seq.{set-split, sets, sets-eq, drop-drop, drop-append-add, take-at, take-suc, length-take-le}
+use lib.Seq.{set-split, drop-drop, drop-append-add, take-at, take-suc, length-take-le}
 use Rattle.lists.specs.Written.{written-at}
 use Rattle.lists.proofs.Written.{length-written, drop-written}
 use Rattle.lists.proofs.Steps.{part-to-end}

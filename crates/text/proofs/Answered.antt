@@ -1,71 +1,18 @@
 -- What the call's answer, and the numbers that it left, print as.
-use mathlib.Core.Path.{_≡_, refl, ap, _∙_, sym}
-use mathlib.Core.Bool.{Bool, true, false, cond}
-use mathlib.Core.List.{List, [], _∷_, _++_}
-use Prim.Native.Nat.{ℕ, zero, suc, _+_, _-_, _*_, _/_, _<_, _≤_}
-use native.Mathlib.Nat.{zero-add}
+use mathlib.Core.Path.{_≡_, refl, ap, _∙_}
+use mathlib.Core.List.{List, []}
+use Prim.Native.Nat.{ℕ, _*_, _≤_}
 use native.Mathlib.Omega.{arith}
-use borrow.Author.Tests.{leb-true}
-use lib.Dec.{leb}
 use lib.ListN.{length, take}
-use Rattle.lists.specs.Written.{written-at}
 use Rattle.lists.proofs.Written.{part-written}
-use Rattle.lists.proofs.Tests.{both}
 use Rattle.refusal.specs.declared.Refusal.{Refusal}
-use Rattle.terms.specs.Rows.{terms-of}
-use Rattle.terms.specs.Good.{modes-good, checked}
-use Rattle.terms.specs.declared.given.Checked.{Checked}
-use Rattle.terms.specs.declared.given.Checked.the-variants.{Good, Refused as BadTerms}
-use Rattle.merging.specs.Run.{finished}
-use Rattle.merging.proofs.RunLawful.{finished-lawful, finished-length}
-use Rattle.merging.proofs.FlatpackRows.{length-flatpack}
-use Rattle.journal.specs.Lines.{lines, lines-after}
-use Rattle.journal.specs.Obeying.{obeyed, obeyed-texts}
-use Rattle.journal.specs.Resuming.{Ending, Outcome, done, refuses, ending, with-journal, roomy, with-terms, resumed, hatt-run}
+use Rattle.journal.specs.Resuming.{Outcome, done, refuses, hatt-run}
 use Rattle.journal.specs.declared.resuming.Numbers.{Numbers}
 use Rattle.journal.specs.declared.resuming.Answer.the-variants.{Done, Refused}
-use Rattle.journal.specs.Promises.{returned, rows-then, Answers}
+use Rattle.journal.specs.Promises.{returned, rows-then}
+use Rattle.journal.proofs.RowsFit.{rows-fit}
 use Rattle.text.specs.Output.{refusal-text, printed}
 use Rattle.text.specs.Printing.{done-text}
-
--- Nothing is both.
-not-done : {refusal : Refusal} {end : Ending} → refuses refusal ≡ done end → ⊥
-not-done e = let z : _≡_ {A = ℕ} 0 1 = cc in omega arith
-
--- A run that ends had 256 modes at most, and four numbers for each.
-module _ (modes : ℕ) (numbers : List ℕ) (work rows journal : ℕ) (end : Ending) where
-  pub record Sized : Type 0 where
-    pub few : modes ≤ 256
-    pub four : length (end .rows) ≡ 4 * modes
-
-  sized : (h : modes-good 256 modes ≡ true) (told : Checked) → with-terms modes numbers [] work rows journal told ≡ done end → Sized
-  unfolding modes-good with-terms with-journal obeyed obeyed-texts lines lines-after ending
-  sized h (BadTerms refusal) e = absurd (not-done e)
-  sized h (Good count) e = go (roomy modes count work rows journal) refl
-    where
-      go : (b : Bool) → roomy modes count work rows journal ≡ b → Sized
-      go true f =
-          let terms = terms-of 8 count numbers in
-          let p = both (leb 1 modes) (leb modes 256) h in
-          let low = leb-true 1 modes (p .0) in
-          let high = leb-true modes 256 (p .1) in
-          let g : done (ending modes count terms [] []) ≡ done end = rw f at e in
-          let same : ending modes count terms [] [] ≡ end = cc in
-          record {
-            few = high;
-            four =
-                ap (λ (x : Ending). length (x .rows)) (sym same)
-                ∙ length-flatpack modes (finished modes terms []) (finished-lawful modes terms [] tt (omega arith)) (finished-length modes terms [] tt (omega arith)) low (omega arith);
-          }
-      go false f = absurd (not-done (rw f at e))
-
-  pub run-sized : hatt-run 256 modes numbers work rows journal ≡ done end → Sized
-  unfolding hatt-run resumed
-  run-sized e = go (modes-good 256 modes) refl
-    where
-      go : (b : Bool) → modes-good 256 modes ≡ b → Sized
-      go true f = sized f (checked modes numbers) (rw f at e)
-      go false f = absurd (not-done (rw f at e))
 
 refused-as : (meant : Outcome) (refusal : Refusal) → Refused refusal ≡ returned meant → printed meant ≡ refusal-text refusal
 unfolding returned printed
@@ -91,15 +38,15 @@ module _ (modes : ℕ) (numbers : List ℕ) (work rows journal : ℕ) (w : work 
       pub text : printed means ≡ done-text (found .weight) (found .trials) (take (4 * modes) after)
 
     prints : (means : Outcome) → meant ≡ means → length before ≡ 1024 → Done found ≡ returned means → after ≡ rows-then means before → Prints means
-    unfolding returned rows-then printed done-text
+    unfolding returned rows-then printed done-text hatt-run
     prints (refuses refusal) m size e f = let z : _≡_ {A = ℕ} 0 1 = cc in absurd (omega arith)
     prints (done end) m size e f =
-        let s = run-sized modes numbers 16384 1024 5392 end m in
+        let fit = rows-fit 256 modes numbers [] 16384 1024 5392 end (omega arith) m in
         let a : found .weight ≡ end .weight = cc in
         let b : found .trials ≡ end .trials = cc in
         let front : take (4 * modes) after ≡ end .rows =
-        rw (f, ← (s .four)) (part-written 0 (end .rows) before (omega (arith, s .few, s .four))) in
-        record { few = s .few; text = rw (a, b, front) }
+        rw (f, ← (fit .exact)) (part-written 0 (end .rows) before (omega (arith, fit .few, fit .exact))) in
+        record { few = fit .few; text = rw (a, b, front) }
 
     pub done-prints : length before ≡ 1024 → Done found ≡ returned (hatt-run 256 modes numbers work rows journal)
         → after ≡ rows-then (hatt-run 256 modes numbers work rows journal) before → Prints meant

@@ -14,6 +14,7 @@ pub mod RoundsGo
 pub mod AnswerShape
 pub mod AnswerAccepted
 pub mod RoundsWent
+pub mod AssignDone
 pub mod OutcomeRight
 pub mod OneAnswer
 pub mod RoundList

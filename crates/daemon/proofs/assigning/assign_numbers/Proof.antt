@@ -4,7 +4,7 @@ use native.Mathlib.Omega.{arith}
 use lib.ListN.{length}
 use Rattle.topphatt.specs.Answer.{outcome}
 use Rattle.daemon.proofs.AssignPlaces.{assign-refused-place}
-use Rattle.daemon.proofs.AssignAnswered.{unassigned-meant, assigned-meant, table-fits, assign-refused, assign-done}
+use Rattle.daemon.proofs.AssignAnswered.{unassigned-meant, assigned-meant, table-fits, assign-refused, assign-written}
 use borrow.Author.Needs.{needs}
 use Rattle.daemon.proofs.assigning.assign_numbers.Statement.{statement}
 use Rattle.daemon.proofs.assigning.assign_numbers.Tie as tie
@@ -81,7 +81,7 @@ returns-2 c =
     let finish = assigned-meant meant _ _ (answers .answer) (c .before .before .before .before .before .before .before .before .before .weight .given .1) in
     let fit = table-fits (args .modes) (args .tree .now) (args .heuristic) (args .terms .now) work own (finish .count) _ (finish .codes) (finish .is) in
     let put = c .before .before .before .before .put-assigned .ensures in
-    assign-done meant (args .table .now) (args .answer .now) (args .modes) _ (args .own .now) _ _ _ finish fit (answers .table-is) (put .0) (put .1)
+    assign-written meant (args .table .now) (args .answer .now) (args .modes) _ (args .own .now) _ _ _ finish fit (answers .table-is) (put .0) (put .1)
 
 pub assign-numbers-spec : {M : Type 1} → statement M
 assign-numbers-spec =

@@ -4,7 +4,8 @@ use native.Mathlib.Omega.{arith}
 use lib.ListN.{length}
 use Rattle.journal.specs.Resuming.{resumed}
 use Rattle.daemon.proofs.RefusalPlaces.{refused-place}
-use Rattle.daemon.proofs.CallAnswered.{refused-meant, done-meant, rows-fit, called-refused, called-done}
+use Rattle.journal.proofs.RowsFit.{rows-fit}
+use Rattle.daemon.proofs.CallAnswered.{refused-meant, done-meant, called-refused, called-done}
 use borrow.Author.Needs.{needs}
 use Rattle.daemon.proofs.calling.resume_numbers.Statement.{statement}
 use Rattle.daemon.proofs.calling.resume_numbers.Tie as tie
@@ -43,8 +44,8 @@ put-done-requires c κs =
     let meant = resumed 256 (args .modes) terms read work own journal in
     let answers = c .before .before .before .before .before .before .before .before .before .before .before .before .resume .ensures in
     let finish = done-meant meant _ _ (answers .answer) (c .before .before .before .before .numbers .given .1) in
-    let fit = rows-fit (args .modes) terms read work own journal (finish .part) (finish .is) in
-    let some : 1 ≤ own = omega (arith, fit .room, fit .some-modes) in
+    let fit = rows-fit 256 (args .modes) terms read work own journal (finish .part) (omega arith) (finish .is) in
+    let some : 1 ≤ own = omega (arith, fit .room, fit .some) in
     let room : 8 * args .modes ≤ length (args .rows .now) = omega (arith, fit .room, start .pre .0) in
     (omega (arith, fit .room), room, start .pre .1 some)
 
@@ -99,7 +100,7 @@ returns-2 c =
     let meant = resumed 256 (args .modes) terms read work own journal in
     let answers = c .before .before .before .before .before .before .before .before .before .before .before .before .before .before .before .before .before .resume .ensures in
     let finish = done-meant meant _ _ (answers .answer) (c .before .before .before .before .before .before .before .before .before .numbers .given .1) in
-    let fit = rows-fit (args .modes) terms read work own journal (finish .part) (finish .is) in
+    let fit = rows-fit 256 (args .modes) terms read work own journal (finish .part) (omega arith) (finish .is) in
     let put = c .before .before .before .before .put-done .ensures in
     called-done meant (args .rows .now) (args .journal .now) (args .answer .now) _ (answers .journal-is) _ (args .modes) (args .own .now) _ _ _ finish fit (answers .rows-is) (put .0) (put .1)
 
