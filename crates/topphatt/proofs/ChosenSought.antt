@@ -1,4 +1,4 @@
--- The best that is sought over a round's nodes is the choice of the round.
+-- The best that is sought over a round's nodes is the choice of the round, with its weight.
 use mathlib.Core.Path.{_≡_, refl, _∙_, ap, sym, fun-ext}
 use mathlib.Core.List.{List, [], _∷_, map, flatMap, map-map}
 use Prim.Native.Nat.{ℕ, _≤_}
@@ -8,6 +8,7 @@ use Rattle.lists.specs.Least.{least, least-of}
 use Rattle.lists.proofs.Joined.{map-flatMap}
 use Rattle.lists.proofs.Least.{least-found}
 use Rattle.terms.specs.declared.row.Triple.{Triple}
+use Rattle.terms.specs.Weight.{weight-of}
 use Rattle.terms.proofs.WeightBound.{weight-at-most}
 use Rattle.topphatt.specs.declared.choice.Selection.{Selection}
 use Rattle.topphatt.specs.Nodes.{active}
@@ -38,6 +39,14 @@ module _ (rows : List (List ℕ)) where
       let light = weight-at-most (first .triple) rows in
       ap choice-of (least-found standing of (worst live) first rest (omega arith))
 
+  least-weighs : (live : ℕ) (l : List Choice) → length rows ≤ live → least standing (worst live) (map of l) .«min_weight» ≤ live
+      → least standing (worst live) (map of l) .«min_weight» ≡ weight-of (least standing (worst live) (map of l) .«leaf_indices») rows
+  unfolding least worst of weighed standing
+  least-weighs live [] h k = absurd (omega arith)
+  least-weighs live (first ∷ rest) h k =
+      let light = weight-at-most (first .triple) rows in
+      rw (least-found standing of (worst live) first rest (omega arith))
+
   pub over-chosen : (modes : ℕ) (table : List ℕ) (heuristic round : ℕ) (assigned : List ℕ) (live : ℕ) → length rows ≤ live
       → choice-of (sought-over modes table assigned rows (worst live) (active modes table heuristic round assigned))
       ≡ chosen modes table heuristic round assigned rows
@@ -45,3 +54,12 @@ module _ (rows : List (List ℕ)) where
   over-chosen modes table heuristic round assigned live h =
       rw (weighed-all (choices-at modes table assigned) (active modes table heuristic round assigned))
       (least-sought live (flatMap (λ node. at-node node (choices-at modes table assigned node)) (active modes table heuristic round assigned)) h)
+
+  pub over-weighs : (modes : ℕ) (table : List ℕ) (assigned : List ℕ) (live : ℕ) (nodes : List ℕ) → length rows ≤ live
+      → sought-over modes table assigned rows (worst live) nodes .«min_weight» ≤ live
+      → sought-over modes table assigned rows (worst live) nodes .«min_weight»
+      ≡ weight-of (sought-over modes table assigned rows (worst live) nodes .«leaf_indices») rows
+  unfolding sought-over at-node
+  over-weighs modes table assigned live nodes h =
+      rw (weighed-all (choices-at modes table assigned) nodes)
+      (least-weighs live (flatMap (λ node. at-node node (choices-at modes table assigned node)) nodes) h)

@@ -77,10 +77,11 @@ pub record Going (most modes : ℕ) (table distances rows assigned : List ℕ) (
   pub held : Held 8 (progress .live) rows
   pub light : progress .weight ≤ 2048 * progress .round
 
--- The choice of a round was found.
+-- The choice of a round was found, and its weight, where there is a choice.
 pub record Chose (modes : ℕ) (table : List ℕ) (heuristic : ℕ) (rows assigned : List ℕ) (progress : Progress) (r : Selection) : Type 0 where
   pub right : choice-of r ≡ chosen modes table heuristic (progress .round) assigned (terms-of 8 (progress .live) rows)
   pub within : r .«min_parent» < modes
+  pub weighs : r .«min_weight» ≤ progress .live → r .«min_weight» ≡ weight-of (r .«leaf_indices») (terms-of 8 (progress .live) rows)
 
 -- A choice's leaves were fixed.
 pub record Fixed (modes : ℕ) (table : List ℕ) (choice : Choice) (assigned after : List ℕ) : Type 0 where

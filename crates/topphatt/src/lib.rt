@@ -1,6 +1,6 @@
 // TOPP-HATT: the leaves of a given tree assigned to modes, round by round, at the least weight.
 ghost use mathlib.Core.Path.{_≡_};
-ghost use Prim.Native.Nat.{_+_, _*_, _≤_, _<_};
+ghost use Prim.Native.Nat.{_*_, _≤_, _<_};
 ghost use lib.ListN.{length, replicate};
 ghost use Rattle.lists.specs.Written.{«written-at»};
 ghost use Rattle.terms.specs.Rows.{Held, «terms-of»};

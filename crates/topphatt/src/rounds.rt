@@ -4,6 +4,7 @@ ghost use Prim.Native.Nat.{_+_, _*_, _≤_, _<_};
 ghost use lib.Dec.{eqb};
 ghost use lib.ListN.{length, replicate};
 ghost use Rattle.terms.specs.Rows.{Held, «terms-of»};
+ghost use Rattle.terms.specs.Weight.{«weight-of»};
 ghost use Rattle.topphatt.specs.Choices.{unassigned};
 ghost use Rattle.topphatt.specs.Rounds.{fixed, ended};
 ghost use Rattle.topphatt.specs.Seeking.{Distances, Chose, «choice-of», Fixed, Going, RoundMade, Ended};
@@ -84,6 +85,19 @@ fn choose<'a>(
     )
 }
 
+// The weight of the choice of a round; where there was no choice, which never is, that of three zeros.
+fn chosen_weight(rows: &[u16], live: usize, selection: Selection) -> usize
+    requires { ⌜ Held 8 live (now rows) ⌝ }
+    requires { ⌜ (selection .«min_weight» ≤ live → selection .«min_weight» ≡ weight-of (selection .«leaf_indices») (terms-of 8 live (now rows))) ⌝ }
+    ensures { λ r. ⌜ (r ≡ weight-of (selection .«leaf_indices») (terms-of 8 live (now (rows .entry)))) × (r ≤ live) ⌝ }
+{
+    // no weight is above the live rows
+    if live < selection.min_weight {
+        return weight::weight(rows, live, selection.leaf_indices);
+    }
+    selection.min_weight
+}
+
 // One round.
 fn round<'a>(
     modes: usize,
@@ -99,8 +113,7 @@ fn round<'a>(
     ensures { λ r. ⌜ RoundMade 256 modes (now (tree .entry)) (now (distances .entry)) heuristic (now (rows .entry)) (now (assigned .entry)) progress (now (rows .exit)) (now (assigned .exit)) r ⌝ }
 {
     let selection = choose(modes, tree, distances, heuristic, rows, assigned, progress);
-    // weighed anew: where there was no choice there is no weight
-    let weight = weight::weight(rows, progress.live, selection.leaf_indices);
+    let weight = chosen_weight(rows, progress.live, selection);
     fix_all(modes, tree, selection, assigned);
     let parent = entity::next_parent(modes, row::wide(selection.min_parent));
     let live = reduction::reduce_hamiltonian(rows, progress.live, parent, selection.leaf_indices);

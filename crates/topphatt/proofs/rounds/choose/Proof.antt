@@ -1,15 +1,15 @@
 -- The free modes, the round's nodes, and the best over them.
-use Rattle.topphatt.proofs.ChosenSought.{over-chosen}
-use Rattle.topphatt.proofs.Bounds.{active-below, chosen-below}
-use Rattle.topphatt.specs.Choice.{chosen}
-use Rattle.topphatt.specs.Seeking.{choice-of}
-use Rattle.terms.proofs.RowSteps.{length-terms}
-use Rattle.terms.specs.Rows.{terms-of}
+use mathlib.Core.Path.{_≡_, sym, _∙_, ap}
+use native.Mathlib.Omega.{arith}
+use borrow.Author.Needs.{needs}
 use lib.Seq.{length-take-le}
 use lib.ListN.{length, take}
-use native.Mathlib.Omega.{arith}
-use mathlib.Core.Path.{_≡_, sym, _∙_, ap}
-use borrow.Author.Needs.{needs}
+use Rattle.terms.specs.Rows.{terms-of}
+use Rattle.terms.proofs.RowSteps.{length-terms}
+use Rattle.topphatt.specs.Choice.{chosen}
+use Rattle.topphatt.specs.Seeking.{choice-of}
+use Rattle.topphatt.proofs.ChosenSought.{over-chosen, over-weighs}
+use Rattle.topphatt.proofs.Bounds.{active-below, chosen-below}
 use Rattle.topphatt.proofs.rounds.choose.Statement.{statement}
 use Rattle.topphatt.proofs.rounds.choose.Tie as tie
 
@@ -87,6 +87,7 @@ returns c =
     record {
       right = right;
       within = rw (ap (λ choice. choice .node) right) (chosen-below (args .modes) (args .tree .now) (args .heuristic) (args .progress .round) (args .assigned .now) rows (start .pre .some));
+      weighs = rw (c .select .ensures) (over-weighs rows (args .modes) (args .tree .now) (args .assigned .now) (args .progress .live) _ (omega arith));
     }
 
 pub choose-spec : {M : Type 1} → statement M

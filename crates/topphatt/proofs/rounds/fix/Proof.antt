@@ -1,12 +1,12 @@
 -- A leaf that isn't fixed stands within the table of pairs.
+use mathlib.Core.Path.{_∙_, sym}
+use native.Mathlib.Omega.{arith}
+use borrow.Author.Tests.{not-true, not-false}
+use borrow.Author.Needs.{needs}
+use lib.ListN.{length-set}
+use Rattle.topphatt.specs.Slots.{slot-of, unfixed}
 use Rattle.topphatt.proofs.FixedSteps.{fixed-not, fixed-set}
 use Rattle.topphatt.proofs.SlotCases.{unfixed-without}
-use Rattle.topphatt.specs.Slots.{slot-of, unfixed}
-use lib.ListN.{length-set}
-use borrow.Author.Tests.{not-true, not-false}
-use native.Mathlib.Omega.{arith}
-use mathlib.Core.Path.{_∙_, sym}
-use borrow.Author.Needs.{needs}
 use Rattle.topphatt.proofs.rounds.fix.Statement.{statement}
 use Rattle.topphatt.proofs.rounds.fix.Tie as tie
 

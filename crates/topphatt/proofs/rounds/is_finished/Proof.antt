@@ -1,10 +1,10 @@
 -- As many as there are.
+use mathlib.Core.Path.{_≡_, _∙_, sym, ap}
+use native.Mathlib.Omega.{arith}
+use borrow.Author.Needs.{needs}
 use lib.Seq.{length-take-le}
 use lib.ListN.{length}
 use lib.Dec.{eqb}
-use native.Mathlib.Omega.{arith}
-use mathlib.Core.Path.{_≡_, _∙_, sym, ap}
-use borrow.Author.Needs.{needs}
 use Rattle.topphatt.proofs.rounds.is_finished.Statement.{statement}
 use Rattle.topphatt.proofs.rounds.is_finished.Tie as tie
 

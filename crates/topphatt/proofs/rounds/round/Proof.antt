@@ -1,20 +1,20 @@
 -- The choice, its weight, its leaves fixed, the rows reduced.
-use Rattle.topphatt.proofs.RoundSteps.{stepped}
-use Rattle.topphatt.specs.Seeking.{choice-of}
+use mathlib.Core.Path.{_∙_, ap}
+use Prim.Native.Nat.{_+_, _*_}
+use native.Mathlib.Omega.{arith}
+use borrow.Author.Needs.{needs}
 use Rattle.terms.specs.Reduction.{reduction}
 use Rattle.terms.specs.Rows.{terms-of}
-use native.Mathlib.Omega.{arith}
-use Prim.Native.Nat.{_+_, _*_}
-use mathlib.Core.Path.{_∙_, ap}
-use borrow.Author.Needs.{needs}
+use Rattle.topphatt.specs.Seeking.{choice-of}
+use Rattle.topphatt.proofs.RoundSteps.{stepped}
 use Rattle.topphatt.proofs.rounds.round.Statement.{statement}
 use Rattle.topphatt.proofs.rounds.round.Tie as tie
 
 choose-requires : tie.Need-choose-requires
 choose-requires c κs = search needs
 
-weight-requires : tie.Need-weight-requires
-weight-requires c κs = search needs
+chosen-weight-requires : tie.Need-chosen-weight-requires
+chosen-weight-requires c κs = search needs
 
 fix-all-requires : tie.Need-fix-all-requires
 fix-all-requires c κs = search needs
@@ -38,7 +38,7 @@ add-t24 c =
     let fits = start .pre .0 .fits in
     let few = start .pre .0 .few in
     let turn = start .pre .1 in
-    let less = c .before .before .before .before .before .before .before .before .before .before .before .before .weight .ensures .1 in
+    let less = c .before .before .before .before .before .before .before .before .before .before .before .before .chosen-weight .ensures .1 in
     omega arith
 
 same-length : tie.Need-same-length
@@ -54,7 +54,7 @@ returns c =
     let pre = start .pre .0 in
     let args = start .args in
     let chose = c .before .before .before .before .before .before .before .before .before .before .before .before .before .before .choose in
-    let light = c .before .before .before .before .before .before .before .before .before .before .before .before .weight .ensures in
+    let light = c .before .before .before .before .before .before .before .before .before .before .before .before .chosen-weight .ensures in
     let fixing = c .before .before .before .before .before .before .before .before .before .before .fix-all .ensures in
     let node = c .before .before .before .before .before .before .before .wide .ensures .0 in
     let parent = c .before .before .before .before .before .before .next-parent .ensures in
@@ -86,7 +86,7 @@ round-spec =
     tie.close
     (tie.spec
     choose-requires
-    weight-requires
+    chosen-weight-requires
     fix-all-requires
     wide-requires
     next-parent-requires

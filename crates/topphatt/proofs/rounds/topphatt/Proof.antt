@@ -1,13 +1,13 @@
 -- The rounds that are left end where all do.
-use Rattle.topphatt.proofs.RoundSteps.{state-assigned, rounds-start, rounds-on, rounds-stop, rounds-end}
-use Rattle.topphatt.specs.Seeking.{Going, state-of}
-use Rattle.topphatt.specs.Rounds.{rounds, ended}
-use Rattle.terms.specs.Rows.{terms-of}
+use mathlib.Core.Path.{_≡_, sym, _∙_, ap}
+use Prim.Native.Nat.{_-_, _≤_}
+use native.Mathlib.Omega.{arith}
 use borrow.Author.Needs.{needs}
 use lib.ListN.{length, length-replicate}
-use native.Mathlib.Omega.{arith}
-use Prim.Native.Nat.{_-_, _≤_}
-use mathlib.Core.Path.{_≡_, sym, _∙_, ap}
+use Rattle.terms.specs.Rows.{terms-of}
+use Rattle.topphatt.specs.Seeking.{Going, state-of}
+use Rattle.topphatt.specs.Rounds.{rounds, ended}
+use Rattle.topphatt.proofs.RoundSteps.{state-assigned, rounds-start, rounds-on, rounds-stop, rounds-end}
 use Rattle.topphatt.proofs.rounds.topphatt.Statement.{statement}
 use Rattle.topphatt.proofs.rounds.topphatt.Tie as tie
 
