@@ -1,5 +1,5 @@
 -- Assigning called from C answers what the assignment comes to: nothing is written where it refuses, and all that is known where it is done.
-use mathlib.Core.Path.{_≡_, refl, ap, _∙_, sym}
+use mathlib.Core.Path.{_≡_, ap, _∙_, sym}
 use mathlib.Core.List.{List}
 use Prim.Native.Nat.{ℕ, _+_, _*_, _≤_}
 use native.Mathlib.Omega.{arith}

@@ -1,10 +1,9 @@
 -- P1 called from C, and a call whose terms don't come in 16s, whose answer is too short: one table, one claim.
 use mathlib.Core.Path.{_≡_, refl}
-use mathlib.Core.Bool.{Bool, true, cond, _&&_}
+use mathlib.Core.Bool.{Bool, true, _&&_}
 use mathlib.Core.List.{List, [], _∷_, _++_, flatMap}
 use Prim.Native.Nat.{ℕ}
 use lib.Dec.{eqb}
-use lib.ListN.{length}
 use Rattle.lists.specs.Members.{every, keep, leading, some-of, alike, firsts, firsts-after}
 use Rattle.lists.specs.Counting.{sum, same, occurrences}
 use Rattle.lists.specs.Ranges.{listed, ascends, ascends-from}

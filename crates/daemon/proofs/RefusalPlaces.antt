@@ -7,6 +7,7 @@ use native.Mathlib.Omega.{arith}
 use borrow.Author.Tests.{ltb-true, leb-true}
 use lib.Dec.{eqb, ltb, leb}
 use lib.ListN.{length}
+use Rattle.lists.proofs.Tests.{both, whichever}
 use Rattle.refusal.specs.declared.Refusal.{Refusal}
 use Rattle.refusal.specs.declared.Refusal.the-variants.{
   Modes,
@@ -29,7 +30,6 @@ use Rattle.refusal.specs.declared.Refusal.the-variants.{
   Malformed,
 }
 use Rattle.refusal.specs.Numbers.{numberOf, placeOf}
-use Rattle.lists.proofs.Tests.{both, whichever}
 use Rattle.terms.specs.Rows.{terms-of}
 use Rattle.terms.specs.Good.{modes-good, good-rows, checked}
 use Rattle.terms.specs.declared.row.Triple.{Triple}

@@ -16,6 +16,7 @@ use Rattle.merging.specs.Lawful.{is-lawful, three-open, paired, named, entities
 use Rattle.merging.specs.Choice.{weight-in, candidates, chosen}
 use Rattle.merging.specs.Run.{greedy, finished, run-weight, trials}
 use Rattle.merging.specs.Flatpack.{merge-of, code, absent-leaf, children, walk, rows-for, flatpack}
+use Rattle.merging.specs.Trials.{trial-total}
 use Rattle.journal.specs.Decimal.{is-digit, value-after, value, leads-well, is-number, digits, decimal}
 use Rattle.journal.specs.Fields.{
   fields-after,
@@ -47,8 +48,7 @@ use Rattle.topphatt.specs.Choice.{candidates as topphatt-candidates, packed, ra
 use Rattle.topphatt.specs.Rounds.{before, fixed, fixed-by, after, next, rounds, ended}
 use Rattle.topphatt.specs.Answer.{answer-table, with-room, with-terms as topphatt-with-terms, with-tree, outcome}
 use Rattle.topphatt.specs.Promises.{returned as topphatt-returned, table-after}
-use Rattle.merging.specs.Trials.{trial-total}
-use Rattle.examples.specs.Cases.{Seen, Case, holds, header, line, meant, resuming, weighed, told, weighing, assigning, cases}
+use Rattle.examples.specs.Cases.{holds, header, line, meant, resuming, weighed, told, weighing, assigning, cases}
 
 pub cases-hold : every holds cases ≡ true
 unfolding cases holds header line meant resuming weighed told weighing assigning flatMap every keep leading some-of alike firsts firsts-after sum same occurrences listed ascends ascends-from least lighter written-at rows-of term terms-of modes-good good-indices good-row good-rows checked weight-of term-weight odd-ones reduction rewriting sorted put-in replacement dropped next-parent among is-open z-end holder rows-after is-lawful three-open paired named entities pairs-with lawful-pairs weight-in candidates least-of chosen greedy finished run-weight trials merge-of code absent-leaf children walk rows-for flatpack is-digit value-after value leads-well is-number digits decimal fields-after fields word version header-good header-of merge-good merge-of-line tabbed header-text merge-text lines-after lines kept-of obeyed-merge obeyed-form obeyed-line obeyed-next obeyed-lines obeyed-header obeyed-texts obeyed line-of greedy-lines new-text ending with-journal roomy with-terms resumed returned rows-then journal-then nodes child place-of parent-of climb root-of leaves-once absent-once nodes-once all-reached one-tree chain-end pair-under pair-right pairs-right codes-good tree-checked edge-under edges node-weight row-weight tree-weight weighed-terms tree-weighed pair-of parity-of leaf-slot slot-of slot slots unfixed leaf-of distance is-fixed complete remaining largest farthest narrowed active unassigned without numbers with-z choices choices-at topphatt-candidates packed rank topphatt-chosen before fixed fixed-by after next rounds ended answer-table with-room topphatt-with-terms with-tree outcome topphatt-returned table-after trial-total

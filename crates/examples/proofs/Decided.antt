@@ -1,11 +1,10 @@
 -- "What the promises decide": the wrong programs that document 01 names break the promise of `resume` on a P case.
-use mathlib.Core.Path.{_≡_, refl, ap, sym, _∙_}
-use mathlib.Core.Bool.{true, _&&_}
+use mathlib.Core.Path.{_≡_, ap, _∙_}
+use mathlib.Core.Bool.{_&&_}
 use mathlib.Core.List.{List, [], _∷_, _++_, append-nil}
 use Prim.Native.Nat.{ℕ, _+_, _<_}
-use native.Mathlib.Nat.{zero-add}
 use native.Mathlib.Omega.{arith}
-use lib.ListN.{length, getD, take, drop, List·getD-append}
+use lib.ListN.{length, getD, drop, List·getD-append}
 use lib.Seq.{drop-nil}
 use Rattle.lists.specs.Members.{alike}
 use Rattle.lists.specs.Written.{written-at}
@@ -16,12 +15,12 @@ use Rattle.refusal.specs.declared.Refusal.{Refusal}
 use Rattle.journal.specs.declared.resuming.Answer.{Answer}
 use Rattle.journal.specs.declared.resuming.Answer.the-variants.{Refused}
 use Rattle.journal.specs.Resuming.{Outcome, done, refuses}
-use Rattle.journal.specs.Promises.{Answers, numbers-of, returned, rows-then}
-use Rattle.examples.specs.Cases.{Seen, Case, holds, resuming, told, meant, cases, p1, p3, p5}
+use Rattle.journal.specs.Promises.{Answers, numbers-of, rows-then}
+use Rattle.examples.specs.Cases.{Case, holds, resuming, told, cases, p1, p3, p5}
 use Rattle.examples.proofs.CasesHold.{cases-hold}
 
 -- What a case shows in numbers and rows is what the definitions say.
-pub record Shown (case : Case) : Type 0 where
+record Shown (case : Case) : Type 0 where
   pub numbers : case .says .numbers ≡ case .shown .numbers
   pub rows : case .says .rows ≡ case .shown .rows
 
@@ -71,19 +70,19 @@ module _ (work rows journal now-work now-rows now-journal : List ℕ) (r : Answe
       let e = second p1 rows now-rows _ (a .rows-is) (shown 0 (omega arith) .rows) (omega arith) in
       omega (arith, e, ap (λ l. getD l 1 0) (left ∙ lent))
 
-  module _ (work2 rows2 journal2 now-work2 now-rows2 now-journal2 : List ℕ) (r2 : Answer)
+  module _ (other-work other-rows other-journal then-work then-rows then-journal : List ℕ) (other : Answer)
       (third : Answers p3 work rows journal now-work now-rows now-journal r)
-      (fifth : Answers p5 work2 rows2 journal2 now-work2 now-rows2 now-journal2 r2) where
+      (fifth : Answers p5 other-work other-rows other-journal then-work then-rows then-journal other) where
     -- "one fixed tree fails on P3 beside P5's rows".
-    pub one-fixed-tree : now-rows ≡ now-rows2 → ⊥
+    pub one-fixed-tree : now-rows ≡ then-rows → ⊥
     unfolding cases resuming
     one-fixed-tree same =
         let e = second p3 rows now-rows _ (third .rows-is) (shown 2 (omega arith) .rows) (omega arith) in
-        let f = second p5 rows2 now-rows2 _ (fifth .rows-is) (shown 6 (omega arith) .rows) (omega arith) in
+        let f = second p5 other-rows then-rows _ (fifth .rows-is) (shown 6 (omega arith) .rows) (omega arith) in
         omega (arith, e, f, ap (λ l. getD l 1 0) same)
 
     -- "A resume that forgets the journal fails demand 3 on P5's trials".
-    pub journal-forgotten : r ≡ r2 → ⊥
+    pub journal-forgotten : r ≡ other → ⊥
     unfolding cases resuming
     journal-forgotten same =
         let e = ap (λ l. getD l 3 0) (ap numbers-of (third .answer) ∙ shown 2 (omega arith) .numbers) in

@@ -4,6 +4,7 @@ use mathlib.Core.List.{List, [], _∷_, _++_}
 use Prim.Native.Nat.{ℕ, _+_, _*_}
 use lib.ListN.{length}
 use Rattle.lists.specs.Members.{alike}
+use Rattle.refusal.specs.Numbers.{numberOf, placeOf}
 use Rattle.merging.specs.Trials.{trial-total}
 use Rattle.journal.specs.Resuming.{Outcome, resumed}
 use Rattle.journal.specs.Promises.{numbers-of, returned, rows-then, journal-then}
@@ -12,7 +13,6 @@ use Rattle.tree.specs.Check.{tree-checked}
 use Rattle.tree.specs.Weight.{tree-weighed}
 use Rattle.tree.specs.declared.TreeWeighed.{TreeWeighed}
 use Rattle.tree.specs.declared.TreeWeighed.the-variants.{Weight, Unweighed}
-use Rattle.refusal.specs.Numbers.{numberOf, placeOf}
 use Rattle.topphatt.specs.Answer.{outcome}
 use Rattle.topphatt.specs.Promises.{numbers-of as assign-numbers, returned as assigned, table-after}
 

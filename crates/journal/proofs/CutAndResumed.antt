@@ -1,6 +1,5 @@
 -- Demand 3: an unbroken run's journal, cut after any byte and resumed, ends as the unbroken run.
-use mathlib.Core.Path.{_≡_, refl, ap, _∙_, sym}
-use mathlib.Core.Bool.{true}
+use mathlib.Core.Path.{_≡_, ap, _∙_, sym}
 use mathlib.Core.List.{List, [], _++_, flatMap}
 use Prim.Native.Nat.{ℕ, _-_, _*_, _≤_}
 use native.Mathlib.Omega.{arith}
@@ -18,7 +17,7 @@ use Rattle.merging.specs.Trials.{trial-total}
 use Rattle.journal.specs.Lines.{lines, lines-after, kept-of}
 use Rattle.journal.specs.Obeying.{went, obeyed, obeyed-texts}
 use Rattle.journal.specs.Writing.{new-text, unbroken}
-use Rattle.journal.specs.Resuming.{Ending, done, ending, resumed, hatt-run}
+use Rattle.journal.specs.Resuming.{Ending, done, ending, hatt-run}
 use Rattle.journal.specs.CutAndResumed.{ResumesCut}
 use Rattle.journal.proofs.LinesJoined.{kept-front}
 use Rattle.journal.proofs.CutObeyed.{CutObeyed, cut-obeyed}

@@ -14,11 +14,11 @@ use Rattle.lists.specs.Members.{every}
 use Rattle.lists.proofs.Steps.{drop-step}
 use Rattle.lists.proofs.Tests.{both, either, neither, same-or-not}
 use Rattle.lists.proofs.Every.{every-append, every-cons, every-uncons, every-fails}
+use Rattle.lists.proofs.Tests.{not-so}
 use Rattle.journal.specs.declared.numbers.Field.{Field}
 use Rattle.journal.specs.declared.numbers.Field.the-variants.{Broken}
 use Rattle.journal.specs.Decimal.{is-digit, value-after, value, leads-well, is-number}
 use Rattle.journal.specs.Reading.{first-field, field-read, number-at, goes-on, ended-at}
-use Rattle.lists.proofs.Tests.{not-so}
 use Rattle.journal.proofs.Numerals.{numeral, digit-bounds, value-more, value-beyond, leads-first}
 
 -- What comes of reading on, with so many digits of this value read.

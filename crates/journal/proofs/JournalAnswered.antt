@@ -1,5 +1,5 @@
 -- A refusal's answer leaves everything as it was, and a call answers what its part of the meaning says.
-use mathlib.Core.Path.{_≡_, refl, sym, _∙_}
+use mathlib.Core.Path.{_≡_, refl, sym}
 use mathlib.Core.List.{List}
 use Prim.Native.Nat.{ℕ}
 use Rattle.refusal.specs.declared.Refusal.{Refusal}
@@ -9,7 +9,7 @@ use Rattle.journal.specs.declared.obeying.Verdict.{Verdict}
 use Rattle.journal.specs.declared.obeying.Verdict.the-variants.{Fine, Refused}
 use Rattle.journal.specs.declared.resuming.Answer.{Answer}
 use Rattle.journal.specs.declared.resuming.Answer.the-variants.{Refused as Refuses}
-use Rattle.journal.specs.Obeying.{Obeyed, went, refused}
+use Rattle.journal.specs.Obeying.{Obeyed}
 use Rattle.journal.specs.Resuming.{Outcome, done, refuses, ending, with-journal}
 use Rattle.journal.specs.Promises.{came-to, Answers, returned, work-then, rows-then, journal-then}
 

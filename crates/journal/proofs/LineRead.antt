@@ -20,8 +20,8 @@ use Rattle.journal.specs.declared.merge_line.MergeLine.{MergeLine}
 use Rattle.journal.specs.declared.merge_line.Merge.the-variants.{Is as MergeIs, Broken as MergeBroken}
 use Rattle.journal.specs.Decimal.{is-digit, is-number, value, decimal}
 use Rattle.journal.specs.Fields.{fields, word, version, header-good, header-of, merge-good, merge-of-line, tabbed, header-text, merge-text}
-use Rattle.journal.proofs.DecimalRead.{decimal-without, value-decimal, decimal-is-number, decimal-value, parted}
 use Rattle.journal.specs.Reading.{numbers-good}
+use Rattle.journal.proofs.DecimalRead.{decimal-without, value-decimal, decimal-is-number, decimal-value, parted}
 use Rattle.journal.proofs.LineSaid.{merge-said}
 use Rattle.journal.proofs.Tabbed.{no-tab, tabbed-fields, fields-tabbed}
 

@@ -10,12 +10,12 @@ use lib.Seq.{take-take, take-add}
 use Rattle.lists.specs.Members.{alike}
 use Rattle.lists.proofs.Tests.{both}
 use Rattle.lists.proofs.Alike.{alike-self, alike-same}
+use Rattle.lists.proofs.Tests.{not-so}
 use Rattle.journal.specs.declared.header.Header.the-variants.{Is as HeaderIs, Broken as HeaderBroken}
 use Rattle.journal.specs.declared.merge_line.Merge.the-variants.{Is as MergeIs, Broken as MergeBroken}
 use Rattle.journal.specs.Decimal.{value-after, value}
 use Rattle.journal.specs.Fields.{fields-after, fields, word, version, header-good, header-of, merge-good, merge-of-line, tabbed}
 use Rattle.journal.specs.Reading.{numbers-good}
-use Rattle.lists.proofs.Tests.{not-so}
 use Rattle.journal.proofs.Tabbed.{tabbed-fields}
 
 pub value-at : (parts : List (List ℕ)) (i : ℕ) → getD (map value parts) i 0 ≡ value (getD parts i [])

@@ -45,7 +45,7 @@ use Rattle.journal.specs.Obeying.{
   obeyed-texts,
   obeyed,
 }
-use Rattle.journal.specs.Obedience.{history-before, Obedient}
+use Rattle.journal.specs.Obedience.{Obedient}
 use Rattle.journal.proofs.LinesObeyed.{refused-stays}
 
 -- What refuses does not go on.

@@ -9,7 +9,7 @@ use Rattle.merging.proofs.TrialTotals.{trials-total}
 use Rattle.journal.specs.Resuming.{Ending, done, ending, resumed}
 use Rattle.journal.specs.Obedience.{ObeyedThenGreedy}
 use Rattle.journal.proofs.Obedience.{obedient}
-use Rattle.journal.proofs.CallDone.{CallDone, call-done}
+use Rattle.journal.proofs.CallDone.{call-done}
 
 pub obeyed-then-greedy : (most modes : ℕ) (numbers bytes : List ℕ) (work rows journal : ℕ) (part : Ending)
     → resumed most modes numbers bytes work rows journal ≡ done part → ObeyedThenGreedy modes numbers bytes part

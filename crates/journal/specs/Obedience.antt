@@ -4,13 +4,13 @@ use mathlib.Core.List.{List, []}
 use Prim.Native.Nat.{ℕ, suc, _-_, _<_, _≤_}
 use lib.ListN.{length, getD, drop}
 use Rattle.terms.specs.declared.row.Triple.{Triple}
+use Rattle.terms.specs.Rows.{terms-of}
+use Rattle.terms.specs.Good.{checked}
+use Rattle.terms.specs.declared.given.Checked.the-variants.{Good}
 use Rattle.merging.specs.Lawful.{LawfulHistory}
 use Rattle.merging.specs.Choice.{weight-in}
 use Rattle.merging.specs.Flatpack.{merge-of}
 use Rattle.merging.specs.Trials.{trial-total}
-use Rattle.terms.specs.Rows.{terms-of}
-use Rattle.terms.specs.Good.{checked}
-use Rattle.terms.specs.declared.given.Checked.the-variants.{Good}
 use Rattle.journal.specs.declared.header.Header.the-variants.{Is as HeaderIs}
 use Rattle.journal.specs.declared.merge_line.Merge.the-variants.{Is as MergeIs}
 use Rattle.journal.specs.Lines.{lines}

@@ -10,11 +10,10 @@ use Rattle.merging.specs.State.{history-of, Holds, Cleared}
 use Rattle.journal.specs.declared.obeying.Verdict.{Verdict}
 use Rattle.journal.specs.declared.obeying.Verdict.the-variants.{Fine, Refused}
 use Rattle.journal.specs.declared.obeying.Obeying.{Obeying}
-use Rattle.journal.specs.declared.resuming.Numbers.{Numbers}
 use Rattle.journal.specs.declared.resuming.Answer.{Answer}
 use Rattle.journal.specs.declared.resuming.Answer.the-variants.{Done, Refused as Refuses}
 use Rattle.journal.specs.Obeying.{Obeyed, went, refused}
-use Rattle.journal.specs.Resuming.{Ending, Outcome, done, refuses}
+use Rattle.journal.specs.Resuming.{Outcome, done, refuses}
 
 -- A verdict, with the merges that the state has written down, as the meaning says it.
 unfoldable pub came-to : Verdict → Run → Obeyed

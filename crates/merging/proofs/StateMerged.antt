@@ -5,10 +5,10 @@ use mathlib.Core.List.{List, _∷_}
 use Prim.Native.Nat.{ℕ, _+_, _*_, _%_, _<_, _≤_}
 use native.Mathlib.Omega.{arith}
 use borrow.Author.Count.{below-more}
-use lib.ListN.{length, getD, set, length-set}
+use lib.ListN.{getD, set, length-set}
 use lib.Seq.{getD-set-same, getD-set-other}
 use Rattle.terms.specs.declared.row.Triple.{Triple}
-use Rattle.terms.specs.Rows.{rows-of, term, terms-of}
+use Rattle.terms.specs.Rows.{terms-of}
 use Rattle.terms.specs.Promises.{Reduced}
 use Rattle.terms.proofs.RowSteps.{length-terms}
 use Rattle.terms.proofs.WeightBound.{weight-at-most}

@@ -8,10 +8,10 @@ use native.Mathlib.Omega.{arith}
 use lib.Dec.{eqb}
 use lib.ListN.{length, getD, set, length-set}
 use Rattle.lists.specs.Ranges.{listed}
-use Rattle.terms.specs.declared.row.Triple.{Triple}
 use Rattle.lists.proofs.Listed.{listed-at}
 use Rattle.lists.proofs.Tests.{eqb-either}
 use Rattle.lists.proofs.Writes.{after-write}
+use Rattle.terms.specs.declared.row.Triple.{Triple}
 use Rattle.merging.specs.History.{next-parent, among, is-open, z-end, holder}
 use Rattle.merging.specs.Couples.{OpensAre, EndsAre, HoldersAre, Tied}
 

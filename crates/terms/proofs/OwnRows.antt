@@ -6,7 +6,7 @@ use native.Mathlib.Nat.{mul-suc, mul-le-mul-left}
 use native.Mathlib.Omega.{arith}
 use lib.ListN.{length, getD, take}
 use lib.Seq.{getD-take, take-all}
-use Rattle.terms.specs.Rows.{Held, term, rows-of, terms-of}
+use Rattle.terms.specs.Rows.{Held, term, terms-of}
 use Rattle.terms.proofs.RowSteps.{rows-front}
 
 module _ (w count : ℕ) (numbers own : List ℕ) (whole : length numbers ≡ w * count) (front : take (length numbers) own ≡ numbers) where

@@ -1,14 +1,13 @@
 -- Fields counted by their tabs.
-use mathlib.Core.Path.{_≡_, refl, ap, _∙_, sym}
-use mathlib.Core.Bool.{Bool, true, false, cond}
+use mathlib.Core.Path.{_≡_, refl}
+use mathlib.Core.Bool.{Bool, true, false}
 use mathlib.Core.List.{List, [], _∷_, _++_}
-use Prim.Native.Nat.{ℕ, suc, _+_, _<_, _≤_}
+use Prim.Native.Nat.{ℕ, _+_, _<_, _≤_}
 use native.Mathlib.Omega.{arith}
 use lib.Dec.{eqb}
 use lib.ListN.{length, getD, drop, drop-of-length-le}
 use Rattle.lists.proofs.Steps.{drop-step}
 use Rattle.journal.specs.Fields.{fields-after}
-use Rattle.journal.specs.Reading.{first-field}
 use Rattle.journal.proofs.FieldsAhead.{fields-head}
 use Rattle.text.specs.Reading.{tab-in}
 

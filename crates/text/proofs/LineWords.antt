@@ -1,21 +1,20 @@
 -- A line that opens with a word and a tab: its fields are the word and those behind the tab, and without the opening it says nothing.
 use mathlib.Core.Path.{_≡_, refl, ap, _∙_, sym}
-use mathlib.Core.Bool.{Bool, true, false, _&&_, true≢false}
+use mathlib.Core.Bool.{Bool, true, false, true≢false}
 use mathlib.Core.List.{List, [], _∷_, _++_, map}
 use Prim.Native.Nat.{ℕ, suc, _+_, _-_, _<_, _≤_}
-use native.Mathlib.Numerals.{add-one}
 use native.Mathlib.Omega.{arith}
-use borrow.Author.Tests.{eq-eqb, leb-true, le-leb, lt-leb, eqb-true}
+use borrow.Author.Tests.{eq-eqb, leb-true, le-leb, eqb-true}
 use lib.Dec.{eqb, leb, eqb·suc-suc}
-use lib.ListN.{length, getD, take, drop, replicate, length-take, length-append, length-map, List·getD-map}
+use lib.ListN.{length, getD, take, drop, length-take, length-append, length-map}
 use lib.Seq.{take-take, take-add, take-append-add}
-use Rattle.lists.specs.Members.{every, alike}
+use Rattle.lists.specs.Members.{alike}
 use Rattle.lists.proofs.Tests.{both}
 use Rattle.lists.proofs.Alike.{alike-self, alike-same}
-use Rattle.journal.specs.Decimal.{is-number, value, value-after}
+use Rattle.lists.proofs.Tests.{not-so}
+use Rattle.journal.specs.Decimal.{value}
 use Rattle.journal.specs.Fields.{fields-after, fields, tabbed}
 use Rattle.journal.specs.Reading.{numbers-good}
-use Rattle.lists.proofs.Tests.{not-so}
 use Rattle.journal.proofs.Tabbed.{tabbed-fields}
 use Rattle.journal.proofs.LineSaid.{value-at}
 use Rattle.text.specs.declared.input.Modes.the-variants.{Are, Broken}

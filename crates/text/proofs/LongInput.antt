@@ -1,11 +1,11 @@
 -- A text longer than the longest well-formed one says the same when it is cut behind that length.
 use mathlib.Core.Path.{_≡_, refl, ap, _∙_, sym}
-use mathlib.Core.Bool.{Bool, true, false, cond, _&&_, true≢false}
-use mathlib.Core.List.{List, [], _∷_, _++_, flatMap, append-nil}
+use mathlib.Core.Bool.{Bool, true, false, _&&_, true≢false}
+use mathlib.Core.List.{List, [], _∷_, _++_, flatMap}
 use mathlib.Core.Logic.{_⊎_, inl, inr}
 use Prim.Native.Nat.{ℕ, zero, suc, _+_, _-_, _*_, _<_, _≤_}
 use native.Mathlib.Omega.{arith}
-use borrow.Author.Tests.{eq-eqb, ne-eqb, leb-true, lt-leb, eqb-true, ltb-true, ltb-false}
+use borrow.Author.Tests.{ne-eqb, leb-true, lt-leb, eqb-true, ltb-true, ltb-false}
 use lib.Dec.{eqb, leb, ltb}
 use lib.ListN.{length, take, drop, length-append, length-take, take-append-drop}
 use lib.Seq.{take-take, take-all, length-take-le}
@@ -14,10 +14,10 @@ use Rattle.lists.proofs.Tests.{both, same-or-not}
 use Rattle.lists.proofs.Every.{every-uncons}
 use Rattle.lists.proofs.Alike.{alike-same}
 use Rattle.lists.proofs.Parts.{drop-take}
-use Rattle.journal.specs.Decimal.{is-number, is-digit, leads-well, value}
+use Rattle.lists.proofs.Tests.{not-so}
+use Rattle.journal.specs.Decimal.{is-number, is-digit}
 use Rattle.journal.specs.Lines.{lines, kept-of, first-line, is-line}
 use Rattle.journal.specs.Fields.{fields, tabbed}
-use Rattle.lists.proofs.Tests.{not-so}
 use Rattle.journal.proofs.Tabbed.{tabbed-fields}
 use Rattle.journal.proofs.LinesJoined.{lines-joined, kept-line, lines-one, lines-are-lines, line-cut}
 use Rattle.journal.proofs.LineSteps.{first-line-stands, next-line, no-next-line}

@@ -2,8 +2,8 @@
 ghost use mathlib.Core.Path.{_≡_};
 ghost use Prim.Native.Nat.{_≤_};
 ghost use lib.ListN.{length, take};
-ghost use Rattle.text.specs.Output.{printed, «answer-text»};
 ghost use Rattle.journal.specs.Resuming.{«hatt-run»};
+ghost use Rattle.text.specs.Output.{printed, «answer-text»};
 
 pub mod input;
 pub mod output;

@@ -13,8 +13,8 @@ use Rattle.lists.specs.Ranges.{listed}
 use Rattle.lists.proofs.Every.{every-kept, every-first, every-uncons, every-append, every-taken, every-dropped}
 use Rattle.lists.proofs.Least.{least-passes}
 use Rattle.lists.proofs.Ranges.{every-from}
-use Rattle.tree.specs.Table.{nodes}
 use Rattle.terms.specs.declared.row.Triple.{Triple}
+use Rattle.tree.specs.Table.{nodes}
 use Rattle.topphatt.specs.Nodes.{remaining, farthest, narrowed, active}
 use Rattle.topphatt.specs.Choices.{unassigned, without, choices-at}
 use Rattle.topphatt.specs.Choice.{Choice, candidates, rank, chosen}

@@ -1,9 +1,8 @@
 -- "The answer is the table and the sum of chosen weights"; "assign continues 17, 2, 3, 4, 5".
 use mathlib.Core.Bool.{cond, _&&_}
-use mathlib.Core.List.{List, [], map}
+use mathlib.Core.List.{List, map}
 use Prim.Native.Nat.{ℕ, _*_}
 use lib.Dec.{leb}
-use lib.ListN.{length}
 use Rattle.refusal.specs.declared.Refusal.{Refusal}
 use Rattle.refusal.specs.declared.Refusal.the-variants.{Room, Heuristic}
 use Rattle.terms.specs.Rows.{terms-of}
@@ -15,7 +14,7 @@ use Rattle.tree.specs.Check.{tree-checked}
 use Rattle.tree.specs.declared.TreeChecked.{TreeChecked}
 use Rattle.tree.specs.declared.TreeChecked.the-variants.{Accepted, Refused as BadTree}
 use Rattle.topphatt.specs.Slots.{slot-of}
-use Rattle.topphatt.specs.Rounds.{Rounds, ended}
+use Rattle.topphatt.specs.Rounds.{ended}
 
 -- The codes of the slots, where the given tree has its own.
 unfoldable pub answer-table : ℕ → List ℕ → List ℕ → List ℕ

@@ -7,10 +7,10 @@ use native.Mathlib.Omega.{arith}
 use borrow.Author.Tests.{eq-eqb, le-leb, le-ltb, eqb-true, leb-true, ltb-false}
 use lib.Dec.{eqb, ltb, leb}
 use lib.ListN.{length}
+use Rattle.terms.specs.Good.{modes-good}
 use Rattle.tree.specs.declared.TreeChecked.the-variants.{Accepted}
 use Rattle.tree.specs.OneTree.{one-tree}
 use Rattle.tree.specs.Pairs.{pairs-right}
-use Rattle.terms.specs.Good.{modes-good}
 use Rattle.tree.specs.Check.{codes-good, tree-checked}
 
 pub record AcceptedParts (most modes : ℕ) (table : List ℕ) : Type 0 where

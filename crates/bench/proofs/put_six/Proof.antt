@@ -1,8 +1,8 @@
 -- Three of the six, and the other three.
 use mathlib.Core.Path.{sym}
 use native.Mathlib.Omega.{arith}
-use lib.Seq.{length-take-le}
 use borrow.Author.Needs.{needs}
+use lib.Seq.{length-take-le}
 use Rattle.bench.proofs.put_six.Statement.{statement}
 use Rattle.bench.proofs.put_six.Tie as tie
 

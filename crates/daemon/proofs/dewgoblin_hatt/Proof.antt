@@ -1,6 +1,6 @@
 -- An empty journal is read.
-use Rattle.daemon.specs.Calls.{hatt-called}
 use borrow.Author.Needs.{needs}
+use Rattle.daemon.specs.Calls.{hatt-called}
 use Rattle.daemon.proofs.dewgoblin_hatt.Statement.{statement}
 use Rattle.daemon.proofs.dewgoblin_hatt.Tie as tie
 

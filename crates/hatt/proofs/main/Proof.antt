@@ -1,7 +1,7 @@
 -- What is printed stands within the bytes that came back.
+use mathlib.Core.Path.{sym}
 use native.Mathlib.Omega.{arith}
 use borrow.Author.Needs.{needs}
-use mathlib.Core.Path.{sym}
 use lib.Seq.{length-take-le}
 use Rattle.hatt.proofs.main.Statement.{statement}
 use Rattle.hatt.proofs.main.Tie as tie

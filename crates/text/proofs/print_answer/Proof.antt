@@ -1,14 +1,14 @@
 -- What was read says what the text says: it is malformed, or its run is printed.
+use mathlib.Core.Path.{sym, _∙_}
+use Prim.Native.Nat.{_*_, _≤_}
 use native.Mathlib.Omega.{arith}
 use borrow.Author.Needs.{needs}
+use lib.Seq.{length-take-le}
+use lib.ListN.{length}
+use Rattle.refusal.specs.declared.Refusal.the-variants.{Malformed}
+use Rattle.text.specs.Output.{refusal-text}
 use Rattle.text.proofs.InputSaid.{given-few, given-answer, malformed-answer}
 use Rattle.text.proofs.PrintedLines.{front-is}
-use Rattle.text.specs.Output.{refusal-text}
-use Rattle.refusal.specs.declared.Refusal.the-variants.{Malformed}
-use lib.Seq.{length-take-le}
-use lib.ListN.{length, take}
-use Prim.Native.Nat.{_*_, _≤_}
-use mathlib.Core.Path.{sym, _∙_}
 use Rattle.text.proofs.print_answer.Statement.{statement}
 use Rattle.text.proofs.print_answer.Tie as tie
 

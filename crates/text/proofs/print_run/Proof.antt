@@ -1,14 +1,14 @@
 -- The answer is a refusal, or a run whose rows stand in front: either way what is printed is what the definitions print.
+use mathlib.Core.Path.{sym, _∙_}
+use Prim.Native.Nat.{_*_, _≤_}
 use native.Mathlib.Omega.{arith}
 use borrow.Author.Needs.{needs}
+use lib.Seq.{length-take-le}
+use lib.ListN.{length, take}
 use Rattle.text.specs.Printing.{done-text}
 use Rattle.text.specs.Output.{refusal-text}
-use Prim.Native.Nat.{_*_, _≤_}
 use Rattle.text.proofs.PrintedLines.{front-is}
 use Rattle.text.proofs.Answered.{refused-prints, done-prints}
-use lib.Seq.{length-take-le}
-use lib.ListN.{length, take, length-take}
-use mathlib.Core.Path.{sym, _∙_}
 use Rattle.text.proofs.print_run.Statement.{statement}
 use Rattle.text.proofs.print_run.Tie as tie
 

@@ -1,10 +1,10 @@
 -- By what the check of the tree answered, then the heuristic.
-use Rattle.topphatt.proofs.Answers.{refused-so}
-use Rattle.topphatt.specs.Answer.{outcome, with-tree}
-use Rattle.tree.proofs.AcceptedParts.{accepted-parts}
-use borrow.Author.Tests.{le-leb, lt-leb}
 use mathlib.Core.Path.{sym, _∙_}
+use borrow.Author.Tests.{le-leb, lt-leb}
 use borrow.Author.Needs.{needs}
+use Rattle.tree.proofs.AcceptedParts.{accepted-parts}
+use Rattle.topphatt.specs.Answer.{outcome, with-tree}
+use Rattle.topphatt.proofs.Answers.{refused-so}
 use Rattle.topphatt.proofs.assign.Statement.{statement}
 use Rattle.topphatt.proofs.assign.Tie as tie
 

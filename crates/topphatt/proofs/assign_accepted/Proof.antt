@@ -1,9 +1,9 @@
 -- By what the check of the terms answered.
-use Rattle.topphatt.proofs.Answers.{refused-so}
-use Rattle.topphatt.specs.Answer.{with-terms}
-use Rattle.terms.proofs.StaysGood.{accepted}
 use mathlib.Core.Path.{sym, _∙_}
 use borrow.Author.Needs.{needs}
+use Rattle.terms.proofs.StaysGood.{accepted}
+use Rattle.topphatt.specs.Answer.{with-terms}
+use Rattle.topphatt.proofs.Answers.{refused-so}
 use Rattle.topphatt.proofs.assign_accepted.Statement.{statement}
 use Rattle.topphatt.proofs.assign_accepted.Tie as tie
 

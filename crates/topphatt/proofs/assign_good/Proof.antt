@@ -1,5 +1,4 @@
 -- Too little room is refused; else the table is written and work cleared.
-use Prim.Native.Nat.{_*_}
 use borrow.Author.Needs.{needs}
 use lib.ListN.{length}
 use Rattle.topphatt.proofs.Answers.{room-work, room-table, room-done, refused-so, done-so}

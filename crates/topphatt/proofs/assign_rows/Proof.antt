@@ -1,9 +1,9 @@
 -- No pair has a mode at first.
-use Rattle.lists.proofs.Parts.{take-replicate}
-use lib.ListN.{length, length-replicate}
-use Prim.Native.Nat.{ℕ}
 use mathlib.Core.Path.{sym, _∙_, ap}
+use Prim.Native.Nat.{ℕ}
 use borrow.Author.Needs.{needs}
+use lib.ListN.{length, length-replicate}
+use Rattle.lists.proofs.Parts.{take-replicate}
 use Rattle.topphatt.proofs.assign_rows.Statement.{statement}
 use Rattle.topphatt.proofs.assign_rows.Tie as tie
 

@@ -1,16 +1,16 @@
 -- The codes written so far.
-use lib.ListN.{getD, length, take, set, length-set}
-use Prim.Native.Nat.{ℕ, _≤_, _-_, _*_}
-use Rattle.lists.proofs.Behind.{mapped-start, mapped-next}
-use Rattle.topphatt.specs.Answer.{answer-table}
-use Rattle.topphatt.specs.Slots.{slot-of}
-use Rattle.merging.specs.Flatpack.{code}
-use Rattle.lists.specs.Written.{written-at}
-use lib.Seq.{take-all}
-use native.Mathlib.Omega.{arith}
 use mathlib.Core.List.{map}
 use mathlib.Core.Path.{_≡_, _∙_, ap}
+use Prim.Native.Nat.{ℕ, _≤_, _-_, _*_}
+use native.Mathlib.Omega.{arith}
 use borrow.Author.Needs.{needs}
+use lib.ListN.{getD, length, take, set, length-set}
+use lib.Seq.{take-all}
+use Rattle.lists.specs.Written.{written-at}
+use Rattle.lists.proofs.Behind.{mapped-start, mapped-next}
+use Rattle.merging.specs.Flatpack.{code}
+use Rattle.topphatt.specs.Answer.{answer-table}
+use Rattle.topphatt.specs.Slots.{slot-of}
 use Rattle.topphatt.proofs.write_table.Statement.{statement}
 use Rattle.topphatt.proofs.write_table.Tie as tie
 

@@ -1,8 +1,8 @@
 -- Each return is one arm of the check's definition: the tests on the way decide its conditions.
 use borrow.Author.Tests.{not-true, not-false, eq-eqb, ne-eqb, lt-ltb, le-ltb, lt-leb, le-leb}
+use borrow.Author.Needs.{needs}
 use Rattle.terms.specs.Good.{modes-good}
 use Rattle.tree.specs.Check.{tree-checked}
-use borrow.Author.Needs.{needs}
 use Rattle.tree.proofs.check_tree.Statement.{statement}
 use Rattle.tree.proofs.check_tree.Tie as tie
 

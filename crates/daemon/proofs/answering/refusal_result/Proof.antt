@@ -1,11 +1,11 @@
 -- Eighteen numbers and a place below 65536 fit.
 use native.Mathlib.Omega.{arith}
-use Rattle.daemon.proofs.RefusalPlaces.{number-small}
 use borrow.Author.Needs.{needs}
-use Rattle.daemon.proofs.answering.refusal_result.Statement.{statement}
-use Rattle.daemon.proofs.answering.refusal_result.Tie as tie
 use Rattle.refusal.proofs.number.Reads as number-reads
 use Rattle.refusal.proofs.place.Reads as place-reads
+use Rattle.daemon.proofs.RefusalPlaces.{number-small}
+use Rattle.daemon.proofs.answering.refusal_result.Statement.{statement}
+use Rattle.daemon.proofs.answering.refusal_result.Tie as tie
 
 number-requires : tie.Need-number-requires
 number-requires c κs = search needs

@@ -2,11 +2,11 @@
 use mathlib.Core.Path.{sym}
 use Prim.Native.Nat.{_≤_}
 use native.Mathlib.Omega.{arith}
+use borrow.Author.Needs.{needs}
 use lib.ListN.{length}
 use lib.Seq.{length-take-le}
 use Rattle.daemon.proofs.CallAnswered.{room-fits}
 use Rattle.daemon.proofs.AssignAnswered.{assign-so, assign-lent-means}
-use borrow.Author.Needs.{needs}
 use Rattle.daemon.proofs.assigning.assign_lent.Statement.{statement}
 use Rattle.daemon.proofs.assigning.assign_lent.Tie as tie
 

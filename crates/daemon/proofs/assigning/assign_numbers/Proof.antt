@@ -1,11 +1,11 @@
 -- A refusal leaves the lent bytes as they are; an assignment that is done puts its codes and its weight.
 use Prim.Native.Nat.{_*_, _≤_}
 use native.Mathlib.Omega.{arith}
+use borrow.Author.Needs.{needs}
 use lib.ListN.{length}
 use Rattle.topphatt.specs.Answer.{outcome}
 use Rattle.daemon.proofs.AssignPlaces.{assign-refused-place}
 use Rattle.daemon.proofs.AssignAnswered.{unassigned-meant, assigned-meant, table-fits, assign-refused, assign-written}
-use borrow.Author.Needs.{needs}
 use Rattle.daemon.proofs.assigning.assign_numbers.Statement.{statement}
 use Rattle.daemon.proofs.assigning.assign_numbers.Tie as tie
 

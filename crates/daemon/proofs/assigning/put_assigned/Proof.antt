@@ -2,8 +2,8 @@
 use mathlib.Core.Path.{sym}
 use Prim.Native.Nat.{_*_}
 use native.Mathlib.Omega.{arith}
-use lib.Seq.{length-take-le}
 use borrow.Author.Needs.{needs}
+use lib.Seq.{length-take-le}
 use Rattle.daemon.proofs.assigning.put_assigned.Statement.{statement}
 use Rattle.daemon.proofs.assigning.put_assigned.Tie as tie
 

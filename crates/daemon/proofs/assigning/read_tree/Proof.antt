@@ -1,11 +1,11 @@
 -- Each return reads none or all.
-use mathlib.Core.Path.{_≡_, sym}
+use mathlib.Core.Path.{sym}
 use Prim.Native.Nat.{_*_, _≤_}
 use native.Mathlib.Omega.{arith}
+use borrow.Author.Needs.{needs}
 use lib.ListN.{length}
 use lib.Seq.{length-take-le}
 use Rattle.daemon.proofs.TreeSame.{tree-beyond, tree-none, tree-all}
-use borrow.Author.Needs.{needs}
 use Rattle.daemon.proofs.assigning.read_tree.Statement.{statement}
 use Rattle.daemon.proofs.assigning.read_tree.Tie as tie
 

@@ -2,10 +2,10 @@
 use mathlib.Core.Path.{sym}
 use Prim.Native.Nat.{_≤_}
 use native.Mathlib.Omega.{arith}
+use borrow.Author.Needs.{needs}
 use lib.ListN.{length}
 use lib.Seq.{length-take-le}
 use Rattle.daemon.proofs.CallAnswered.{called-so, room-fits, lent-means}
-use borrow.Author.Needs.{needs}
 use Rattle.daemon.proofs.calling.resume_lent.Statement.{statement}
 use Rattle.daemon.proofs.calling.resume_lent.Tie as tie
 

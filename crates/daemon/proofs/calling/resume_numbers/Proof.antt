@@ -1,12 +1,12 @@
 -- A refusal leaves the lent bytes as they are; a run that is done puts its rows and its numbers.
 use Prim.Native.Nat.{_*_, _≤_}
 use native.Mathlib.Omega.{arith}
+use borrow.Author.Needs.{needs}
 use lib.ListN.{length}
 use Rattle.journal.specs.Resuming.{resumed}
-use Rattle.daemon.proofs.RefusalPlaces.{refused-place}
 use Rattle.journal.proofs.RowsFit.{rows-fit}
+use Rattle.daemon.proofs.RefusalPlaces.{refused-place}
 use Rattle.daemon.proofs.CallAnswered.{refused-meant, done-meant, called-refused, called-done}
-use borrow.Author.Needs.{needs}
 use Rattle.daemon.proofs.calling.resume_numbers.Statement.{statement}
 use Rattle.daemon.proofs.calling.resume_numbers.Tie as tie
 

@@ -2,10 +2,10 @@
 use mathlib.Core.Path.{sym}
 use Prim.Native.Nat.{_/_}
 use native.Mathlib.Omega.{arith}
+use borrow.Author.Needs.{needs}
 use lib.ListN.{length}
 use lib.Seq.{length-take-le}
 use Rattle.daemon.proofs.TermsSame.{read-odd, read-few, read-all}
-use borrow.Author.Needs.{needs}
 use Rattle.daemon.proofs.term_bytes.read_terms.Statement.{statement}
 use Rattle.daemon.proofs.term_bytes.read_terms.Tie as tie
 

@@ -2,13 +2,13 @@
 use mathlib.Core.Path.{_≡_, ap, _∙_, sym}
 use Prim.Native.Nat.{_+_, _/_, _%_, _^_, _≤_, _-_}
 use native.Mathlib.Omega.{arith}
+use borrow.Author.Needs.{needs}
 use lib.ListN.{length, set, length-set}
 use Rattle.lists.specs.Ranges.{listed}
 use Rattle.lists.specs.Written.{written-at}
 use Rattle.lists.proofs.Behind.{nothing-written}
 use Rattle.daemon.specs.Bytes.{eight-bytes}
 use Rattle.daemon.proofs.WordSteps.{bytes-before, eight-next, left-next}
-use borrow.Author.Needs.{needs}
 use Rattle.daemon.proofs.words.put_eight.Statement.{statement}
 use Rattle.daemon.proofs.words.put_eight.Tie as tie
 

@@ -1,8 +1,8 @@
 -- Two stores, one behind the other.
 use native.Mathlib.Omega.{arith}
+use borrow.Author.Needs.{needs}
 use lib.ListN.{length-set}
 use Rattle.daemon.proofs.WordSteps.{two-written}
-use borrow.Author.Needs.{needs}
 use Rattle.daemon.proofs.words.put_word.Statement.{statement}
 use Rattle.daemon.proofs.words.put_word.Tie as tie
 

@@ -3,16 +3,16 @@ use mathlib.Core.Path.{_≡_, ap, _∙_, sym}
 use mathlib.Core.List.{flatMap}
 use Prim.Native.Nat.{_≤_, _-_}
 use native.Mathlib.Omega.{arith}
+use borrow.Author.Needs.{needs}
 use lib.ListN.{length, take}
 use lib.Seq.{take-all}
 use Rattle.lists.specs.Written.{written-at}
 use Rattle.lists.proofs.Behind.{nothing-written}
 use Rattle.daemon.specs.Bytes.{two-bytes}
 use Rattle.daemon.proofs.WordSteps.{two-next}
-use borrow.Author.Needs.{needs}
+use Rattle.daemon.proofs.words.put_word.Reads as put-word-reads
 use Rattle.daemon.proofs.words.put_words.Statement.{statement}
 use Rattle.daemon.proofs.words.put_words.Tie as tie
-use Rattle.daemon.proofs.words.put_word.Reads as put-word-reads
 
 abbrev Inv-loop : tie.InvT-loop
 Inv-loop numbers out₀ at₀ out at = (at ≤ length numbers) × (length out ≡ length out₀) × (out ≡ written-at 0 (two-bytes (take at numbers)) out₀)

@@ -2,15 +2,15 @@
 use mathlib.Core.Path.{_≡_, ap, _∙_}
 use Prim.Native.Nat.{_+_, _≤_, _-_}
 use native.Mathlib.Omega.{arith}
+use borrow.Author.Needs.{needs}
 use lib.ListN.{length, take, set, length-set}
 use Rattle.lists.specs.Ranges.{listed}
 use Rattle.lists.proofs.Writes.{all-of}
 use Rattle.daemon.specs.Bytes.{word-at}
 use Rattle.daemon.proofs.WordSteps.{word-next}
-use borrow.Author.Needs.{needs}
+use Rattle.daemon.proofs.words.word.Reads as word-reads
 use Rattle.daemon.proofs.words.read_words.Statement.{statement}
 use Rattle.daemon.proofs.words.read_words.Tie as tie
-use Rattle.daemon.proofs.words.word.Reads as word-reads
 
 abbrev Inv-loop : tie.InvT-loop
 Inv-loop bytes numbers₀ at₀ numbers at = (at ≤ length numbers₀) × (length numbers ≡ length numbers₀) × (take at numbers ≡ listed (word-at bytes) 0 at)

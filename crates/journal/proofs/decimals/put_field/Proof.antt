@@ -1,8 +1,8 @@
 -- The number is written over the front of what is left, and the byte behind it.
 use native.Mathlib.Omega.{arith}
 use borrow.Author.Needs.{needs}
-use Rattle.journal.specs.Decimal.{decimal}
 use Rattle.lists.proofs.Behind.{written-and-one}
+use Rattle.journal.specs.Decimal.{decimal}
 use Rattle.journal.proofs.decimals.put_field.Statement.{statement}
 use Rattle.journal.proofs.decimals.put_field.Tie as tie
 

@@ -2,9 +2,9 @@
 use mathlib.Core.Path.{sym, _∙_}
 use native.Mathlib.Omega.{arith}
 use borrow.Author.Tests.{not-true, not-false}
+use borrow.Author.Needs.{needs}
 use lib.Seq.{length-take-le}
 use Rattle.journal.proofs.LineSaid.{header-short, header-unlike, header-broken, header-said}
-use borrow.Author.Needs.{needs}
 use Rattle.journal.proofs.header.read_header.Statement.{statement}
 use Rattle.journal.proofs.header.read_header.Tie as tie
 

@@ -1,9 +1,8 @@
 -- Nothing behind kept bytes, and else the header.
 use mathlib.Core.Path.{refl}
-use lib.ListN.{length}
+use borrow.Author.Needs.{needs}
 use Rattle.lists.specs.Written.{written-at}
 use Rattle.journal.proofs.NotedLines.{no-header, header-first}
-use borrow.Author.Needs.{needs}
 use Rattle.journal.proofs.new_lines.put_first.Statement.{statement}
 use Rattle.journal.proofs.new_lines.put_first.Tie as tie
 

@@ -1,11 +1,11 @@
 -- The line is written over the front of what is left.
 use native.Mathlib.Omega.{arith}
-use lib.ListN.{length, length-drop}
+use borrow.Author.Needs.{needs}
+use lib.ListN.{length-drop}
 use Rattle.lists.proofs.Steps.{part-to-end}
 use Rattle.lists.proofs.Behind.{rest-written}
 use Rattle.merging.specs.Recorded.{merge-at}
 use Rattle.journal.specs.NewLines.{noted-line}
-use borrow.Author.Needs.{needs}
 use Rattle.journal.proofs.new_lines.put_step.Statement.{statement}
 use Rattle.journal.proofs.new_lines.put_step.Tie as tie
 

@@ -1,13 +1,11 @@
 -- The header and the lines behind it are all that is written.
-use mathlib.Core.Path.{_≡_, _∙_, ap}
-use Prim.Native.Nat.{_-_, _≤_, _+_}
+use mathlib.Core.Path.{_∙_, ap}
+use Prim.Native.Nat.{_-_, _+_}
 use native.Mathlib.Omega.{arith}
+use borrow.Author.Needs.{needs}
 use lib.ListN.{length, length-append}
-use Rattle.lists.specs.Written.{written-at}
-use Rattle.lists.proofs.Written.{length-written}
 use Rattle.lists.proofs.Behind.{written-behind-front}
 use Rattle.journal.specs.NewLines.{noted-text, first-text, all-noted}
-use borrow.Author.Needs.{needs}
 use Rattle.journal.proofs.new_lines.write_new.Statement.{statement}
 use Rattle.journal.proofs.new_lines.write_new.Tie as tie
 

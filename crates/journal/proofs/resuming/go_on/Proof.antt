@@ -1,11 +1,10 @@
 -- The run goes on to its end; its rows, its new lines and the zeros are written, and nothing refuses.
-use mathlib.Core.Path.{_≡_}
 use Prim.Native.Nat.{_*_, _<_, _≤_}
 use native.Mathlib.Omega.{arith}
+use borrow.Author.Needs.{needs}
 use lib.ListN.{length}
 use Rattle.journal.specs.NewLines.{all-noted}
 use Rattle.journal.proofs.RunEnds.{at-the-end, new-has-room, ends}
-use borrow.Author.Needs.{needs}
 use Rattle.journal.proofs.resuming.go_on.Statement.{statement}
 use Rattle.journal.proofs.resuming.go_on.Tie as tie
 

@@ -1,6 +1,6 @@
 -- An empty journal is read.
-use Rattle.journal.specs.Resuming.{hatt-run}
 use borrow.Author.Needs.{needs}
+use Rattle.journal.specs.Resuming.{hatt-run}
 use Rattle.journal.proofs.resuming.hatt.Statement.{statement}
 use Rattle.journal.proofs.resuming.hatt.Tie as tie
 

@@ -1,10 +1,10 @@
 -- Each return is one arm of the meaning, by the modes and by what the check of the terms answered.
 use mathlib.Core.Path.{_∙_, sym}
 use borrow.Author.Tests.{le-leb, lt-leb}
+use borrow.Author.Needs.{needs}
 use Rattle.terms.specs.Good.{modes-good}
 use Rattle.journal.specs.Resuming.{with-terms, resumed}
 use Rattle.journal.proofs.JournalAnswered.{nothing-altered}
-use borrow.Author.Needs.{needs}
 use Rattle.journal.proofs.resuming.resume.Statement.{statement}
 use Rattle.journal.proofs.resuming.resume.Tie as tie
 

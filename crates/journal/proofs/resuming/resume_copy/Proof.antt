@@ -1,15 +1,14 @@
 -- The copy holds the same rows, and what is refused there alters nothing lent.
-use mathlib.Core.Path.{_≡_, sym, _∙_, ap}
-use Prim.Native.Nat.{_*_, _≤_}
+use mathlib.Core.Path.{sym, ap}
+use Prim.Native.Nat.{_≤_}
 use native.Mathlib.Omega.{arith}
+use borrow.Author.Needs.{needs}
 use lib.ListN.{length}
-use Rattle.terms.specs.Rows.{Held, terms-of}
 use Rattle.terms.proofs.StaysGood.{accepted}
 use Rattle.terms.proofs.OwnRows.{own-terms, own-held}
 use Rattle.journal.specs.Obeying.{obeyed}
 use Rattle.journal.specs.Resuming.{with-journal}
 use Rattle.journal.proofs.JournalAnswered.{answers-so}
-use borrow.Author.Needs.{needs}
 use Rattle.journal.proofs.resuming.resume_copy.Statement.{statement}
 use Rattle.journal.proofs.resuming.resume_copy.Tie as tie
 

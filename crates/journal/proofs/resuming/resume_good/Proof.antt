@@ -1,10 +1,10 @@
 -- Each room that is too small refuses with nothing altered; with all of them the run goes on.
 use native.Mathlib.Omega.{arith}
 use borrow.Author.Tests.{le-leb, lt-leb}
+use borrow.Author.Needs.{needs}
 use Rattle.terms.proofs.StaysGood.{accepted}
 use Rattle.journal.specs.Resuming.{with-terms, roomy}
 use Rattle.journal.proofs.JournalAnswered.{nothing-altered}
-use borrow.Author.Needs.{needs}
 use Rattle.journal.proofs.resuming.resume_good.Statement.{statement}
 use Rattle.journal.proofs.resuming.resume_good.Tie as tie
 

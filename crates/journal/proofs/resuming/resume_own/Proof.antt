@@ -1,15 +1,15 @@
 -- A journal that is refused leaves everything as it was; else the run goes on from what it came to.
-use mathlib.Core.Path.{_≡_, ap, sym, _∙_}
+use mathlib.Core.Path.{ap, sym, _∙_}
 use Prim.Native.Nat.{_+_, _*_, _≤_}
-use lib.ListN.{length}
-use Rattle.merging.specs.State.{history-of}
-use Rattle.journal.specs.Resuming.{done, ending}
 use native.Mathlib.Omega.{arith}
+use borrow.Author.Needs.{needs}
+use lib.ListN.{length}
 use Rattle.terms.specs.Rows.{terms-of}
 use Rattle.terms.proofs.RowSteps.{length-terms}
+use Rattle.merging.specs.State.{history-of}
+use Rattle.journal.specs.Resuming.{done, ending}
 use Rattle.journal.specs.Obeying.{obeyed}
 use Rattle.journal.proofs.JournalAnswered.{nothing-altered, answers-so, journal-refused, journal-obeyed}
-use borrow.Author.Needs.{needs}
 use Rattle.journal.proofs.resuming.resume_own.Statement.{statement}
 use Rattle.journal.proofs.resuming.resume_own.Tie as tie
 

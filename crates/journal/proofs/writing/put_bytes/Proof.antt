@@ -1,7 +1,7 @@
 -- The bytes passed are written, one behind the other.
+use Prim.Native.Nat.{_-_}
 use native.Mathlib.Omega.{arith}
 use borrow.Author.Needs.{needs}
-use Prim.Native.Nat.{_-_}
 use lib.ListN.{length}
 use Rattle.journal.proofs.PuttingBytes.{PuttingBytes, bytes-start, bytes-go, bytes-end}
 use Rattle.journal.proofs.writing.put_bytes.Statement.{statement}

@@ -1,11 +1,10 @@
+-- x and y counted in the rows first, then every z.
 use mathlib.Core.Path.{_≡_}
 use native.Mathlib.Omega.{arith}
 use borrow.Author.Needs.{needs}
 use lib.ListN.{length}
 use Rattle.merging.proofs.choice.best_of_couple.Statement.{statement}
 use Rattle.merging.proofs.choice.best_of_couple.Tie as tie
-
--- x and y counted in the rows first, then every z.
 
 slice-aggregate-count-odd : tie.Need-slice-aggregate-count-odd
 slice-aggregate-count-odd c = search needs

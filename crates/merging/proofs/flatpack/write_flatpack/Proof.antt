@@ -2,6 +2,7 @@
 use mathlib.Core.Path.{_≡_, ap}
 use Prim.Native.Nat.{_+_, _*_}
 use native.Mathlib.Omega.{arith}
+use borrow.Author.Needs.{needs}
 use lib.ListN.{length, getD}
 use Rattle.merging.specs.History.{z-end}
 use Rattle.merging.specs.Lawful.{LawfulHistory}
@@ -9,7 +10,6 @@ use Rattle.merging.specs.Flatpack.{absent-leaf}
 use Rattle.merging.specs.Recorded.{recorded}
 use Rattle.merging.specs.State.{history-of}
 use Rattle.merging.proofs.Recording.{length-recorded}
-use borrow.Author.Needs.{needs}
 use Rattle.merging.proofs.flatpack.write_flatpack.Statement.{statement}
 use Rattle.merging.proofs.flatpack.write_flatpack.Tie as tie
 

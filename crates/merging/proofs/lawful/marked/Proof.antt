@@ -1,5 +1,5 @@
 -- A number beyond the entities is open in no history; one within them is what its mark says.
-use mathlib.Core.Path.{_≡_, sym}
+use mathlib.Core.Path.{sym, _≡_}
 use Prim.Native.Nat.{ℕ, _≤_, _<_}
 use native.Mathlib.Omega.{arith}
 use borrow.Author.Needs.{needs}

@@ -2,10 +2,10 @@
 use mathlib.Core.Path.{sym, ap, _∙_}
 use Prim.Native.Nat.{ℕ}
 use native.Mathlib.Nat.{zero-add}
-use lib.ListN.{length, replicate, length-replicate}
+use borrow.Author.Needs.{needs}
+use lib.ListN.{replicate, length-replicate}
 use lib.Seq.{length-take-le}
 use Rattle.lists.specs.Written.{written-at}
-use borrow.Author.Needs.{needs}
 use Rattle.terms.proofs.copying.clear_front.Statement.{statement}
 use Rattle.terms.proofs.copying.clear_front.Tie as tie
 

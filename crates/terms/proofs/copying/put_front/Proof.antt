@@ -1,10 +1,10 @@
 -- The front is copied over, and what is behind it stays.
 use mathlib.Core.Path.{refl, sym}
 use native.Mathlib.Nat.{zero-add}
+use borrow.Author.Needs.{needs}
 use lib.ListN.{length, drop}
 use lib.Seq.{length-take-le, take-at}
 use Rattle.lists.specs.Written.{written-at}
-use borrow.Author.Needs.{needs}
 use Rattle.terms.proofs.copying.put_front.Statement.{statement}
 use Rattle.terms.proofs.copying.put_front.Tie as tie
 

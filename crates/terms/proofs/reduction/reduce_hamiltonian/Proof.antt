@@ -5,8 +5,8 @@ use native.Mathlib.Omega.{arith}
 use borrow.Rule.Slice.PartMut.{mid-len}
 use borrow.Author.Needs.{needs}
 use lib.ListN.{length, replicate, length-replicate}
-use Rattle.lists.proofs.Written.{put-written}
 use Rattle.lists.specs.Members.{every}
+use Rattle.lists.proofs.Written.{put-written}
 use Rattle.terms.specs.Rows.{rows-of, terms-of}
 use Rattle.terms.specs.Marks.{Marked}
 use Rattle.terms.proofs.ReducedRows.{Passing, passing-starts, next-room, next-within, passing-on, passing-ends}

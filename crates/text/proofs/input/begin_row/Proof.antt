@@ -1,5 +1,4 @@
 -- Zeros, and then the count over the first of them.
-use native.Mathlib.Omega.{arith}
 use borrow.Author.Needs.{needs}
 use Rattle.text.proofs.input.begin_row.Statement.{statement}
 use Rattle.text.proofs.input.begin_row.Tie as tie

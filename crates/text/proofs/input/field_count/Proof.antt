@@ -1,12 +1,12 @@
 -- The tabs passed and the fields ahead are the fields of all.
+use mathlib.Core.List.{[]}
+use mathlib.Core.Path.{_≡_}
+use Prim.Native.Nat.{_+_, _-_, _≤_}
 use native.Mathlib.Omega.{arith}
 use borrow.Author.Needs.{needs}
-use Rattle.text.proofs.FieldsCounted.{tab-passed, tabs-end}
-use Rattle.journal.specs.Fields.{fields-after}
 use lib.ListN.{length, drop}
-use Prim.Native.Nat.{_+_, _-_, _≤_}
-use mathlib.Core.List.{[]}
-use mathlib.Core.Path.{_≡_, ap}
+use Rattle.journal.specs.Fields.{fields-after}
+use Rattle.text.proofs.FieldsCounted.{tab-passed, tabs-end}
 use Rattle.text.proofs.input.field_count.Statement.{statement}
 use Rattle.text.proofs.input.field_count.Tie as tie
 

@@ -1,7 +1,7 @@
 -- The row read is written over its place.
+use Prim.Native.Nat.{_+_, _-_, _*_}
 use native.Mathlib.Omega.{arith}
 use borrow.Author.Needs.{needs}
-use Prim.Native.Nat.{_+_, _-_, _*_}
 use Rattle.text.proofs.TermsAhead.{term-put}
 use Rattle.text.proofs.input.put_term.Statement.{statement}
 use Rattle.text.proofs.input.put_term.Tie as tie

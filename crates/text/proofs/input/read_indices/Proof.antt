@@ -1,8 +1,8 @@
 -- The numbers read stand between their count and the zeros.
+use Prim.Native.Nat.{_+_, _-_}
 use native.Mathlib.Omega.{arith}
 use borrow.Author.Needs.{needs}
 use Rattle.text.proofs.TermsAhead.{indices-read}
-use Prim.Native.Nat.{_+_, _-_}
 use Rattle.text.proofs.input.read_indices.Statement.{statement}
 use Rattle.text.proofs.input.read_indices.Tie as tie
 

@@ -1,11 +1,11 @@
 -- The first line and the lines behind it say what the text says.
+use mathlib.Core.Path.{sym, _∙_}
 use native.Mathlib.Omega.{arith}
 use borrow.Author.Needs.{needs}
-use Rattle.text.proofs.InputSaid.{reads-none, reads-part, reads-all}
-use Rattle.lists.proofs.Steps.{part-to-end}
-use lib.Seq.{length-take-le}
 use borrow.Author.Tests.{not-true, not-false}
-use mathlib.Core.Path.{sym, _∙_}
+use lib.Seq.{length-take-le}
+use Rattle.lists.proofs.Steps.{part-to-end}
+use Rattle.text.proofs.InputSaid.{reads-none, reads-part, reads-all}
 use Rattle.text.proofs.input.read_input.Statement.{statement}
 use Rattle.text.proofs.input.read_input.Tie as tie
 

@@ -1,10 +1,10 @@
 -- A first line opens with its word; behind it, without the last byte, one number was read.
+use mathlib.Core.Path.{sym, _∙_}
 use native.Mathlib.Omega.{arith}
 use borrow.Author.Needs.{needs}
-use Rattle.text.proofs.LineWords.{modes-short, modes-unlike, modes-broken, modes-told}
-use lib.Seq.{length-take-le}
 use borrow.Author.Tests.{not-true, not-false}
-use mathlib.Core.Path.{sym, _∙_}
+use lib.Seq.{length-take-le}
+use Rattle.text.proofs.LineWords.{modes-short, modes-unlike, modes-broken, modes-told}
 use Rattle.text.proofs.input.read_modes.Statement.{statement}
 use Rattle.text.proofs.input.read_modes.Tie as tie
 

@@ -1,10 +1,10 @@
 -- A term opens with its word; behind it, without the last byte, its indices were counted and read.
+use mathlib.Core.Path.{sym, _∙_}
 use native.Mathlib.Omega.{arith}
 use borrow.Author.Needs.{needs}
-use Rattle.text.proofs.LineWords.{term-short, term-unlike, term-long, term-told}
-use lib.Seq.{length-take-le}
 use borrow.Author.Tests.{not-true, not-false}
-use mathlib.Core.Path.{sym, _∙_}
+use lib.Seq.{length-take-le}
+use Rattle.text.proofs.LineWords.{term-short, term-unlike, term-long, term-told}
 use Rattle.text.proofs.input.read_term.Statement.{statement}
 use Rattle.text.proofs.input.read_term.Tie as tie
 

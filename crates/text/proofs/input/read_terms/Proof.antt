@@ -1,11 +1,11 @@
 -- The terms passed and the lines ahead give the answer: each way out of a turn is one law.
+use mathlib.Core.Path.{sym, _∙_}
+use Prim.Native.Nat.{_-_}
 use native.Mathlib.Omega.{arith}
 use borrow.Author.Needs.{needs}
-use Rattle.text.proofs.TermsAhead.{Passing, passing-starts, passing-ends, passing-stops, too-many, no-term, passing-goes}
-use lib.ListN.{length}
 use borrow.Author.Tests.{not-true, not-false}
-use Prim.Native.Nat.{_-_}
-use mathlib.Core.Path.{sym, _∙_}
+use lib.ListN.{length}
+use Rattle.text.proofs.TermsAhead.{Passing, passing-starts, passing-ends, passing-stops, too-many, no-term, passing-goes}
 use Rattle.text.proofs.input.read_terms.Statement.{statement}
 use Rattle.text.proofs.input.read_terms.Tie as tie
 

@@ -1,6 +1,5 @@
 -- A tab is byte 9.
 use native.Mathlib.Omega.{arith}
-use borrow.Author.Needs.{needs}
 use borrow.Author.Tests.{eq-eqb, ne-eqb}
 use Rattle.text.specs.Reading.{tab-in}
 use Rattle.text.proofs.input.tab.Statement.{statement}

@@ -1,9 +1,9 @@
 -- The choices of the node's slots.
-use Rattle.topphatt.proofs.SoughtSteps.{over-one}
-use Rattle.topphatt.proofs.Bounds.{unassigned-below}
-use Rattle.topphatt.specs.Choices.{choices-at}
 use native.Mathlib.Omega.{arith}
 use borrow.Author.Needs.{needs}
+use Rattle.topphatt.specs.Choices.{choices-at}
+use Rattle.topphatt.proofs.SoughtSteps.{over-one}
+use Rattle.topphatt.proofs.Bounds.{unassigned-below}
 use Rattle.topphatt.proofs.choice.best_at.Statement.{statement}
 use Rattle.topphatt.proofs.choice.best_at.Tie as tie
 

@@ -1,9 +1,9 @@
 -- The pair's mode is passed over; any other is weighed.
-use Rattle.topphatt.proofs.SoughtSteps.{sought-none}
-use Rattle.topphatt.proofs.FixedSteps.{without-this, without-other}
-use Rattle.topphatt.specs.Choices.{with-z}
 use mathlib.Core.Path.{sym}
 use borrow.Author.Needs.{needs}
+use Rattle.topphatt.specs.Choices.{with-z}
+use Rattle.topphatt.proofs.SoughtSteps.{sought-none}
+use Rattle.topphatt.proofs.FixedSteps.{without-this, without-other}
 use Rattle.topphatt.proofs.choice.best_of_mode.Statement.{statement}
 use Rattle.topphatt.proofs.choice.best_of_mode.Tie as tie
 

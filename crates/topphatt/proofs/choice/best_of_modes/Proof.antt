@@ -1,17 +1,17 @@
 -- The choices with the modes still to come give the answer.
-use Rattle.topphatt.proofs.SoughtSteps.{sought-none, modes-step}
+use mathlib.Core.List.{map}
+use mathlib.Core.Path.{_≡_, _∙_, sym, ap}
+use Prim.Native.Nat.{_≤_, _+_, _-_}
+use native.Mathlib.Omega.{arith}
+use borrow.Author.Needs.{needs}
+use lib.ListN.{length, drop, drop-of-length-le}
+use Rattle.lists.specs.Members.{keep}
 use Rattle.lists.proofs.Every.{below-at}
+use Rattle.terms.specs.Rows.{terms-of}
 use Rattle.topphatt.specs.Seeking.{sought}
 use Rattle.topphatt.specs.Choices.{with-z, without}
 use Rattle.topphatt.specs.Slots.{leaf-of}
-use Rattle.terms.specs.Rows.{terms-of}
-use Rattle.lists.specs.Members.{keep}
-use lib.ListN.{length, drop, drop-of-length-le}
-use native.Mathlib.Omega.{arith}
-use Prim.Native.Nat.{_≤_, _+_, _-_}
-use mathlib.Core.List.{map}
-use mathlib.Core.Path.{_≡_, _∙_, sym, ap}
-use borrow.Author.Needs.{needs}
+use Rattle.topphatt.proofs.SoughtSteps.{sought-none, modes-step}
 use Rattle.topphatt.proofs.choice.best_of_modes.Statement.{statement}
 use Rattle.topphatt.proofs.choice.best_of_modes.Tie as tie
 

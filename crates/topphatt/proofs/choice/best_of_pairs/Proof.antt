@@ -1,18 +1,18 @@
 -- The choices with the pair's modes still to come give the answer.
-use Rattle.topphatt.proofs.SoughtSteps.{sought-none, sought-joined}
+use mathlib.Core.List.{List, flatMap}
+use mathlib.Core.Path.{_≡_, _∙_, sym, ap}
+use Prim.Native.Nat.{ℕ, _≤_, _+_, _-_}
+use native.Mathlib.Omega.{arith}
+use borrow.Author.Needs.{needs}
+use lib.ListN.{length, drop, getD}
 use Rattle.lists.proofs.Every.{below-at}
 use Rattle.lists.proofs.Steps.{joined-step, joined-end}
+use Rattle.terms.specs.declared.row.Triple.{Triple}
+use Rattle.terms.specs.Rows.{terms-of}
 use Rattle.topphatt.specs.Seeking.{sought}
 use Rattle.topphatt.specs.Choices.{with-z, without, numbers}
 use Rattle.topphatt.specs.Slots.{leaf-of}
-use Rattle.terms.specs.declared.row.Triple.{Triple}
-use Rattle.terms.specs.Rows.{terms-of}
-use lib.ListN.{length, drop, getD}
-use native.Mathlib.Omega.{arith}
-use Prim.Native.Nat.{ℕ, _≤_, _+_, _-_}
-use mathlib.Core.List.{List, flatMap}
-use mathlib.Core.Path.{_≡_, _∙_, sym, ap}
-use borrow.Author.Needs.{needs}
+use Rattle.topphatt.proofs.SoughtSteps.{sought-none, sought-joined}
 use Rattle.topphatt.proofs.choice.best_of_pairs.Statement.{statement}
 use Rattle.topphatt.proofs.choice.best_of_pairs.Tie as tie
 

@@ -1,11 +1,11 @@
 -- A pair of unfixed X and Y takes each mode; any other stands as it is.
+use mathlib.Core.Path.{_∙_, sym}
+use native.Mathlib.Omega.{arith}
+use borrow.Author.Tests.{not-true, not-false}
+use borrow.Author.Needs.{needs}
+use Rattle.topphatt.specs.Choices.{choices}
 use Rattle.topphatt.proofs.Bounds.{without-none}
 use Rattle.topphatt.proofs.SlotKinds.{unfixed-above}
-use Rattle.topphatt.specs.Choices.{choices}
-use borrow.Author.Tests.{not-true, not-false}
-use native.Mathlib.Omega.{arith}
-use mathlib.Core.Path.{_∙_, sym}
-use borrow.Author.Needs.{needs}
 use Rattle.topphatt.proofs.choice.best_of_slots.Statement.{statement}
 use Rattle.topphatt.proofs.choice.best_of_slots.Tie as tie
 

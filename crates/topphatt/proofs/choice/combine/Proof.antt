@@ -1,8 +1,8 @@
 -- By weight, then by z, y, x.
-use Rattle.topphatt.proofs.SoughtSteps.{by-weight, by-weight-not, by-numbers, by-numbers-not}
-use native.Mathlib.Omega.{arith}
 use mathlib.Core.Path.{sym}
+use native.Mathlib.Omega.{arith}
 use borrow.Author.Needs.{needs}
+use Rattle.topphatt.proofs.SoughtSteps.{by-weight, by-weight-not, by-numbers, by-numbers-not}
 use Rattle.topphatt.proofs.choice.combine.Statement.{statement}
 use Rattle.topphatt.proofs.choice.combine.Tie as tie
 

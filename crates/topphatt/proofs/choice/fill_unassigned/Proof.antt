@@ -1,18 +1,18 @@
 -- The modes gathered and those ahead are all that no pair has.
-use Rattle.lists.proofs.Joined.{gathered, gathered-all}
-use Rattle.lists.proofs.Ranges.{keep-on, keep-done}
-use Rattle.topphatt.specs.Choices.{unassigned}
-use Rattle.lists.specs.Ranges.{listed}
-use Rattle.lists.specs.Members.{keep, some-of}
-use lib.ListN.{length, take}
-use lib.Dec.{eqb}
-use native.Mathlib.Nat.{sub-zero}
-use native.Mathlib.Omega.{arith}
-use Prim.Native.Nat.{_≤_, _-_}
 use mathlib.Core.List.{_++_}
 use mathlib.Core.Bool.{not}
 use mathlib.Core.Path.{_≡_}
+use Prim.Native.Nat.{_≤_, _-_}
+use native.Mathlib.Nat.{sub-zero}
+use native.Mathlib.Omega.{arith}
 use borrow.Author.Needs.{needs}
+use lib.ListN.{length, take}
+use lib.Dec.{eqb}
+use Rattle.lists.specs.Ranges.{listed}
+use Rattle.lists.specs.Members.{keep, some-of}
+use Rattle.lists.proofs.Joined.{gathered, gathered-all}
+use Rattle.lists.proofs.Ranges.{keep-on, keep-done}
+use Rattle.topphatt.specs.Choices.{unassigned}
 use Rattle.topphatt.proofs.choice.fill_unassigned.Statement.{statement}
 use Rattle.topphatt.proofs.choice.fill_unassigned.Tie as tie
 

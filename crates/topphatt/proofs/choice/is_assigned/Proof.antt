@@ -1,13 +1,13 @@
 -- Those ahead decide.
-use Rattle.lists.proofs.Steps.{some-passes, some-stops, some-ends}
-use Rattle.lists.specs.Members.{some-of}
+use mathlib.Core.Path.{_≡_, _∙_, sym}
+use Prim.Native.Nat.{_≤_, _-_}
+use native.Mathlib.Omega.{arith}
+use borrow.Author.Tests.{eq-eqb, ne-eqb}
+use borrow.Author.Needs.{needs}
 use lib.ListN.{length, drop}
 use lib.Dec.{eqb}
-use borrow.Author.Tests.{eq-eqb, ne-eqb}
-use native.Mathlib.Omega.{arith}
-use Prim.Native.Nat.{_≤_, _-_}
-use mathlib.Core.Path.{_≡_, _∙_, sym}
-use borrow.Author.Needs.{needs}
+use Rattle.lists.specs.Members.{some-of}
+use Rattle.lists.proofs.Steps.{some-passes, some-stops, some-ends}
 use Rattle.topphatt.proofs.choice.is_assigned.Statement.{statement}
 use Rattle.topphatt.proofs.choice.is_assigned.Tie as tie
 

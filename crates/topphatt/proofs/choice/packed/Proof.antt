@@ -1,6 +1,6 @@
 -- The sum that the definition names.
-use Rattle.topphatt.specs.Choice.{packed}
 use borrow.Author.Needs.{needs}
+use Rattle.topphatt.specs.Choice.{packed}
 use Rattle.topphatt.proofs.choice.packed.Statement.{statement}
 use Rattle.topphatt.proofs.choice.packed.Tie as tie
 

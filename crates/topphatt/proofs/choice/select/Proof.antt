@@ -1,13 +1,13 @@
-use borrow.Author.Needs.{needs}
 -- The choices of the nodes still to come give the answer.
-use Rattle.topphatt.proofs.SoughtSteps.{over-none, over-step}
-use Rattle.lists.proofs.Every.{below-at}
-use Rattle.topphatt.specs.Seeking.{sought-over, worst}
-use Rattle.terms.specs.Rows.{terms-of}
-use lib.ListN.{length, drop, drop-of-length-le}
-use native.Mathlib.Omega.{arith}
-use Prim.Native.Nat.{_≤_, _+_, _-_}
 use mathlib.Core.Path.{_≡_, _∙_, sym, ap, refl}
+use Prim.Native.Nat.{_≤_, _+_, _-_}
+use native.Mathlib.Omega.{arith}
+use borrow.Author.Needs.{needs}
+use lib.ListN.{length, drop, drop-of-length-le}
+use Rattle.lists.proofs.Every.{below-at}
+use Rattle.terms.specs.Rows.{terms-of}
+use Rattle.topphatt.specs.Seeking.{sought-over, worst}
+use Rattle.topphatt.proofs.SoughtSteps.{over-none, over-step}
 use Rattle.topphatt.proofs.choice.select.Statement.{statement}
 use Rattle.topphatt.proofs.choice.select.Tie as tie
 

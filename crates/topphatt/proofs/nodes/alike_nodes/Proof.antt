@@ -1,7 +1,7 @@
 -- The slots of both, as lists.
-use Rattle.topphatt.proofs.SlotKinds.{slots-listed}
 use mathlib.Core.Path.{_∙_}
 use borrow.Author.Needs.{needs}
+use Rattle.topphatt.proofs.SlotKinds.{slots-listed}
 use Rattle.topphatt.proofs.nodes.alike_nodes.Statement.{statement}
 use Rattle.topphatt.proofs.nodes.alike_nodes.Tie as tie
 

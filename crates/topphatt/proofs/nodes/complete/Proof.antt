@@ -1,8 +1,8 @@
 -- X, Y and Z in turn.
-use Rattle.topphatt.specs.Nodes.{complete}
-use borrow.Author.Tests.{not-true, not-false}
 use mathlib.Core.Path.{sym, _∙_}
+use borrow.Author.Tests.{not-true, not-false}
 use borrow.Author.Needs.{needs}
+use Rattle.topphatt.specs.Nodes.{complete}
 use Rattle.topphatt.proofs.nodes.complete.Statement.{statement}
 use Rattle.topphatt.proofs.nodes.complete.Tie as tie
 

@@ -1,11 +1,11 @@
 -- The steps taken and those left from here are all.
-use native.Mathlib.Nat.{sub-zero}
-use Rattle.topphatt.proofs.DistanceSteps.{distance-none, distance-above, distance-end}
-use Rattle.topphatt.specs.Nodes.{distance}
-use native.Mathlib.Omega.{arith}
-use Prim.Native.Nat.{_≤_, _+_, _-_}
 use mathlib.Core.Path.{_≡_}
+use Prim.Native.Nat.{_≤_, _+_, _-_}
+use native.Mathlib.Nat.{sub-zero}
+use native.Mathlib.Omega.{arith}
 use borrow.Author.Needs.{needs}
+use Rattle.topphatt.specs.Nodes.{distance}
+use Rattle.topphatt.proofs.DistanceSteps.{distance-none, distance-above, distance-end}
 use Rattle.topphatt.proofs.nodes.distance.Statement.{statement}
 use Rattle.topphatt.proofs.nodes.distance.Tie as tie
 

@@ -1,7 +1,7 @@
 -- What stands at the node.
-use lib.ListN.{getD}
 use mathlib.Core.Path.{_∙_, ap}
 use borrow.Author.Needs.{needs}
+use lib.ListN.{getD}
 use Rattle.topphatt.proofs.nodes.distance_at.Statement.{statement}
 use Rattle.topphatt.proofs.nodes.distance_at.Tie as tie
 

@@ -1,12 +1,12 @@
 -- The nodes left, those of them that are far, and what the heuristic keeps.
-use Rattle.topphatt.proofs.Bounds.{remaining-below, farthest-below}
-use Rattle.topphatt.specs.Nodes.{active}
+use mathlib.Core.Path.{_≡_, sym}
+use Prim.Native.Nat.{_≤_}
+use native.Mathlib.Omega.{arith}
+use borrow.Author.Needs.{needs}
 use lib.Seq.{length-take-le}
 use lib.ListN.{length, take}
-use native.Mathlib.Omega.{arith}
-use Prim.Native.Nat.{_≤_}
-use mathlib.Core.Path.{_≡_, sym}
-use borrow.Author.Needs.{needs}
+use Rattle.topphatt.specs.Nodes.{active}
+use Rattle.topphatt.proofs.Bounds.{remaining-below, farthest-below}
 use Rattle.topphatt.proofs.nodes.fill_active.Statement.{statement}
 use Rattle.topphatt.proofs.nodes.fill_active.Tie as tie
 

@@ -1,11 +1,11 @@
 -- Each node passed has its distance; at the end that is every node.
+use mathlib.Core.Path.{_≡_}
+use Prim.Native.Nat.{ℕ, _≤_, _<_, _-_}
+use native.Mathlib.Omega.{arith}
+use borrow.Author.Needs.{needs}
+use lib.ListN.{length, getD, length-set}
 use Rattle.lists.proofs.Writes.{agrees-next}
 use Rattle.topphatt.specs.Nodes.{distance}
-use lib.ListN.{length, getD, length-set}
-use native.Mathlib.Omega.{arith}
-use Prim.Native.Nat.{ℕ, _≤_, _<_, _-_}
-use mathlib.Core.Path.{_≡_}
-use borrow.Author.Needs.{needs}
 use Rattle.topphatt.proofs.nodes.fill_distances.Statement.{statement}
 use Rattle.topphatt.proofs.nodes.fill_distances.Tie as tie
 

@@ -1,17 +1,17 @@
 -- The nodes gathered and those ahead are all with the largest distance.
 use mathlib.Core.Path.{refl, _≡_, _∙_, ap}
+use mathlib.Core.List.{List, _++_}
+use Prim.Native.Nat.{ℕ, _≤_, _-_}
+use native.Mathlib.Omega.{arith}
+use borrow.Author.Needs.{needs}
+use lib.ListN.{length, take, drop}
+use lib.Dec.{eqb}
+use Rattle.lists.specs.Members.{keep}
 use Rattle.lists.proofs.Every.{below-at}
 use Rattle.lists.proofs.Joined.{gathered, gathered-all}
 use Rattle.lists.proofs.Steps.{keep-step, keep-end}
 use Rattle.topphatt.specs.Seeking.{Distances}
 use Rattle.topphatt.specs.Nodes.{distance, farthest}
-use Rattle.lists.specs.Members.{keep}
-use lib.ListN.{length, take, drop}
-use lib.Dec.{eqb}
-use native.Mathlib.Omega.{arith}
-use Prim.Native.Nat.{ℕ, _≤_, _-_}
-use mathlib.Core.List.{List, _++_}
-use borrow.Author.Needs.{needs}
 use Rattle.topphatt.proofs.nodes.fill_far.Statement.{statement}
 use Rattle.topphatt.proofs.nodes.fill_far.Tie as tie
 

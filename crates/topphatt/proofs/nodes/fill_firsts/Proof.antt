@@ -1,18 +1,18 @@
 -- The nodes gathered and the first of those ahead are all the firsts.
-use lib.ListN.{getD, length, take, drop}
 use mathlib.Core.Bool.{not, Bool, true}
+use mathlib.Core.List.{_++_}
+use mathlib.Core.Path.{_≡_, refl}
+use Prim.Native.Nat.{ℕ, _≤_, _-_}
+use native.Mathlib.Omega.{arith}
+use borrow.Author.Tests.{lt-ltb}
+use borrow.Author.Needs.{needs}
+use lib.ListN.{getD, length, take, drop}
+use lib.Dec.{ltb}
+use Rattle.lists.specs.Members.{every, alike, firsts, firsts-after}
 use Rattle.lists.proofs.Every.{below-at, every-more}
 use Rattle.lists.proofs.Firsts.{firsts-next, firsts-end}
 use Rattle.lists.proofs.Joined.{gathered-all}
 use Rattle.topphatt.specs.Slots.{slots}
-use Rattle.lists.specs.Members.{every, alike, firsts, firsts-after}
-use lib.Dec.{ltb}
-use borrow.Author.Tests.{lt-ltb}
-use native.Mathlib.Omega.{arith}
-use Prim.Native.Nat.{ℕ, _≤_, _-_}
-use mathlib.Core.List.{_++_}
-use mathlib.Core.Path.{_≡_, refl}
-use borrow.Author.Needs.{needs}
 use Rattle.topphatt.proofs.nodes.fill_firsts.Statement.{statement}
 use Rattle.topphatt.proofs.nodes.fill_firsts.Tie as tie
 

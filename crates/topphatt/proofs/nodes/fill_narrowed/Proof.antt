@@ -1,12 +1,12 @@
 -- By the heuristic.
-use Rattle.topphatt.specs.Nodes.{narrowed}
+use mathlib.Core.Path.{_∙_}
+use Prim.Native.Nat.{_-_}
+use native.Mathlib.Omega.{arith}
+use borrow.Author.Tests.{eq-eqb, ne-eqb}
+use borrow.Author.Needs.{needs}
 use lib.Seq.{take-all}
 use lib.ListN.{length, drop, drop-of-length-le, length-drop}
-use Prim.Native.Nat.{_-_}
-use borrow.Author.Tests.{eq-eqb, ne-eqb}
-use native.Mathlib.Omega.{arith}
-use mathlib.Core.Path.{_∙_}
-use borrow.Author.Needs.{needs}
+use Rattle.topphatt.specs.Nodes.{narrowed}
 use Rattle.topphatt.proofs.nodes.fill_narrowed.Statement.{statement}
 use Rattle.topphatt.proofs.nodes.fill_narrowed.Tie as tie
 

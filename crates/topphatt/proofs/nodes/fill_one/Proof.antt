@@ -1,10 +1,10 @@
 -- Behind the end there is none; else the one at the place is the front.
+use mathlib.Core.Path.{_∙_}
+use native.Mathlib.Omega.{arith}
+use borrow.Author.Needs.{needs}
+use lib.ListN.{drop-of-length-le}
 use Rattle.lists.proofs.Steps.{drop-step}
 use Rattle.lists.proofs.Writes.{written-next}
-use lib.ListN.{drop-of-length-le}
-use native.Mathlib.Omega.{arith}
-use mathlib.Core.Path.{_∙_}
-use borrow.Author.Needs.{needs}
 use Rattle.topphatt.proofs.nodes.fill_one.Statement.{statement}
 use Rattle.topphatt.proofs.nodes.fill_one.Tie as tie
 

@@ -1,19 +1,19 @@
 -- The nodes gathered and those ahead are all that remain.
-use Rattle.lists.proofs.Joined.{gathered, gathered-all}
-use Rattle.lists.proofs.Ranges.{keep-on, keep-done}
-use Rattle.topphatt.specs.Nodes.{complete, remaining}
-use Rattle.tree.specs.Table.{nodes}
-use Rattle.lists.specs.Ranges.{listed}
-use Rattle.lists.specs.Members.{keep}
-use lib.ListN.{length, take}
-use lib.Dec.{eqb}
-use native.Mathlib.Nat.{sub-zero}
-use native.Mathlib.Omega.{arith}
-use Prim.Native.Nat.{_≤_, _-_}
 use mathlib.Core.List.{_++_}
 use mathlib.Core.Bool.{_||_, not}
 use mathlib.Core.Path.{_≡_}
+use Prim.Native.Nat.{_≤_, _-_}
+use native.Mathlib.Nat.{sub-zero}
+use native.Mathlib.Omega.{arith}
 use borrow.Author.Needs.{needs}
+use lib.ListN.{length, take}
+use lib.Dec.{eqb}
+use Rattle.lists.specs.Ranges.{listed}
+use Rattle.lists.specs.Members.{keep}
+use Rattle.lists.proofs.Joined.{gathered, gathered-all}
+use Rattle.lists.proofs.Ranges.{keep-on, keep-done}
+use Rattle.tree.specs.Table.{nodes}
+use Rattle.topphatt.specs.Nodes.{complete, remaining}
 use Rattle.topphatt.proofs.nodes.fill_remaining.Statement.{statement}
 use Rattle.topphatt.proofs.nodes.fill_remaining.Tie as tie
 

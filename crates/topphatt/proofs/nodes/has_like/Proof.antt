@@ -1,14 +1,14 @@
 -- Those ahead decide.
+use mathlib.Core.Path.{_≡_, _∙_, sym}
+use Prim.Native.Nat.{_≤_, _-_}
+use native.Mathlib.Omega.{arith}
+use borrow.Author.Needs.{needs}
 use lib.Seq.{getD-take, length-take-le}
+use lib.ListN.{drop, take}
+use Rattle.lists.specs.Members.{some-of, alike}
 use Rattle.lists.proofs.Every.{below-at}
 use Rattle.lists.proofs.Steps.{some-passes, some-stops, some-ends}
 use Rattle.topphatt.specs.Slots.{slots}
-use Rattle.lists.specs.Members.{some-of, alike}
-use lib.ListN.{drop, take}
-use native.Mathlib.Omega.{arith}
-use Prim.Native.Nat.{_≤_, _-_}
-use mathlib.Core.Path.{_≡_, _∙_, sym}
-use borrow.Author.Needs.{needs}
 use Rattle.topphatt.proofs.nodes.has_like.Statement.{statement}
 use Rattle.topphatt.proofs.nodes.has_like.Tie as tie
 

@@ -1,7 +1,7 @@
 -- Unfixed first, then empty.
-use Rattle.topphatt.specs.Nodes.{is-fixed}
 use mathlib.Core.Path.{sym, _∙_}
 use borrow.Author.Needs.{needs}
+use Rattle.topphatt.specs.Nodes.{is-fixed}
 use Rattle.topphatt.proofs.nodes.is_fixed.Statement.{statement}
 use Rattle.topphatt.proofs.nodes.is_fixed.Tie as tie
 

@@ -1,14 +1,14 @@
 -- The largest so far and those ahead have the largest of all.
-use Rattle.lists.proofs.Every.{below-at}
-use Rattle.topphatt.proofs.DistanceSteps.{largest-step, largest-end}
-use Rattle.topphatt.specs.Seeking.{Distances}
-use Rattle.topphatt.specs.Nodes.{distance, largest}
-use lib.ListN.{length, drop}
-use native.Mathlib.Omega.{arith}
-use Prim.Native.Nat.{ℕ, _≤_, _-_, max}
 use mathlib.Core.List.{List, map}
 use mathlib.Core.Path.{_≡_}
+use Prim.Native.Nat.{ℕ, _≤_, _-_, max}
+use native.Mathlib.Omega.{arith}
 use borrow.Author.Needs.{needs}
+use lib.ListN.{length, drop}
+use Rattle.lists.proofs.Every.{below-at}
+use Rattle.topphatt.specs.Seeking.{Distances}
+use Rattle.topphatt.specs.Nodes.{distance, largest}
+use Rattle.topphatt.proofs.DistanceSteps.{largest-step, largest-end}
 use Rattle.topphatt.proofs.nodes.largest.Statement.{statement}
 use Rattle.topphatt.proofs.nodes.largest.Tie as tie
 

@@ -1,11 +1,11 @@
 -- A number that stays is the next; one that does not leaves the first so many.
 use mathlib.Core.Bool.{true, false}
 use mathlib.Core.Path.{_≡_, sym}
-use Rattle.lists.proofs.Writes.{written-next}
+use mathlib.Core.List.{append-nil}
 use native.Mathlib.Omega.{arith}
 use borrow.Author.Tests.{not-true, not-false}
-use mathlib.Core.List.{append-nil}
 use borrow.Author.Needs.{needs}
+use Rattle.lists.proofs.Writes.{written-next}
 use Rattle.topphatt.proofs.nodes.put_if.Statement.{statement}
 use Rattle.topphatt.proofs.nodes.put_if.Tie as tie
 

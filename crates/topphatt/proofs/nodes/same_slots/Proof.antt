@@ -1,8 +1,8 @@
 -- Number by number.
 use mathlib.Core.Path.{sym}
 use mathlib.Core.Bool.{and-true}
-use Rattle.lists.specs.Members.{alike}
 use borrow.Author.Tests.{eq-eqb, ne-eqb}
+use Rattle.lists.specs.Members.{alike}
 use Rattle.topphatt.proofs.nodes.same_slots.Statement.{statement}
 use Rattle.topphatt.proofs.nodes.same_slots.Tie as tie
 

@@ -1,6 +1,6 @@
 -- The sum that the definition names.
-use Rattle.topphatt.specs.Slots.{leaf-of}
 use borrow.Author.Needs.{needs}
+use Rattle.topphatt.specs.Slots.{leaf-of}
 use Rattle.topphatt.proofs.slots.leaf_of.Statement.{statement}
 use Rattle.topphatt.proofs.slots.leaf_of.Tie as tie
 

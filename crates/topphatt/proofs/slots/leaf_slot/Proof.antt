@@ -1,8 +1,8 @@
 -- The test of the mode decides.
-use Rattle.topphatt.specs.Slots.{leaf-slot}
 use native.Mathlib.Omega.{arith}
 use borrow.Author.Tests.{lt-ltb, le-ltb}
 use borrow.Author.Needs.{needs}
+use Rattle.topphatt.specs.Slots.{leaf-slot}
 use Rattle.topphatt.proofs.slots.leaf_slot.Statement.{statement}
 use Rattle.topphatt.proofs.slots.leaf_slot.Tie as tie
 

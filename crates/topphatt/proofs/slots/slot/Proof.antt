@@ -1,6 +1,6 @@
 -- The slot of the child's code.
-use Rattle.topphatt.specs.Slots.{slot}
 use borrow.Author.Needs.{needs}
+use Rattle.topphatt.specs.Slots.{slot}
 use Rattle.topphatt.proofs.slots.slot.Statement.{statement}
 use Rattle.topphatt.proofs.slots.slot.Tie as tie
 

@@ -1,11 +1,11 @@
 -- A child, empty, or a leaf, by the code.
-use Rattle.topphatt.specs.Slots.{leaf-slot}
-use Prim.Native.Nat.{_-_, _%_}
 use mathlib.Core.Path.{_∙_, ap, sym}
-use Rattle.topphatt.proofs.SlotCases.{slot-child, slot-empty}
-use Rattle.topphatt.proofs.SlotKinds.{slot-read}
+use Prim.Native.Nat.{_-_, _%_}
 use native.Mathlib.Omega.{arith}
 use borrow.Author.Needs.{needs}
+use Rattle.topphatt.specs.Slots.{leaf-slot}
+use Rattle.topphatt.proofs.SlotCases.{slot-child, slot-empty}
+use Rattle.topphatt.proofs.SlotKinds.{slot-read}
 use Rattle.topphatt.proofs.slots.slot_of.Statement.{statement}
 use Rattle.topphatt.proofs.slots.slot_of.Tie as tie
 

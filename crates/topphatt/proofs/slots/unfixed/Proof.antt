@@ -1,6 +1,6 @@
 -- The test that the definition names.
-use Rattle.topphatt.specs.Slots.{unfixed}
 use borrow.Author.Needs.{needs}
+use Rattle.topphatt.specs.Slots.{unfixed}
 use Rattle.topphatt.proofs.slots.unfixed.Statement.{statement}
 use Rattle.topphatt.proofs.slots.unfixed.Tie as tie
 

@@ -1,16 +1,16 @@
 -- What is left to test gives the answer: the loop passes a node that climbs to the root, and stops at any other.
 use mathlib.Core.Path.{_≡_, _∙_, sym}
+use mathlib.Core.Path.{ap}
 use Prim.Native.Nat.{_≤_, _-_}
+use native.Mathlib.Omega.{arith}
 use borrow.Author.Tests.{eq-eqb, ne-eqb}
+use borrow.Author.Needs.{needs}
 use lib.Dec.{eqb}
 use Rattle.lists.specs.Members.{every}
 use Rattle.lists.specs.Ranges.{listed}
 use Rattle.lists.proofs.Ranges.{every-on, every-off, every-done}
-use mathlib.Core.Path.{ap}
 use Rattle.tree.specs.Table.{nodes, climb}
 use Rattle.tree.proofs.TableSteps.{nodes-start}
-use borrow.Author.Needs.{needs}
-use native.Mathlib.Omega.{arith}
 use Rattle.tree.proofs.one_tree.all_reached.Statement.{statement}
 use Rattle.tree.proofs.one_tree.all_reached.Tie as tie
 

@@ -1,16 +1,16 @@
 -- What is left to test gives the answer: the loop passes a leaf that stands once, and stops at any other.
 use mathlib.Core.Path.{_≡_, _∙_, sym}
 use Prim.Native.Nat.{_≤_, _-_}
+use native.Mathlib.Omega.{arith}
 use borrow.Author.Tests.{eq-eqb, ne-eqb}
+use borrow.Author.Needs.{needs}
 use lib.Dec.{eqb}
 use Rattle.lists.specs.Members.{every}
 use Rattle.lists.specs.Ranges.{listed}
-use Rattle.lists.proofs.Ranges.{every-on, every-off, every-done}
 use Rattle.lists.specs.Counting.{occurrences}
+use Rattle.lists.proofs.Ranges.{every-on, every-off, every-done}
 use Rattle.tree.specs.OneTree.{leaves-once}
 use Rattle.tree.proofs.TableSteps.{leaves-start}
-use borrow.Author.Needs.{needs}
-use native.Mathlib.Omega.{arith}
 use Rattle.tree.proofs.one_tree.leaves_once.Statement.{statement}
 use Rattle.tree.proofs.one_tree.leaves_once.Tie as tie
 

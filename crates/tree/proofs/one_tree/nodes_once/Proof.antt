@@ -1,18 +1,18 @@
 -- What is left to test gives the answer: the loop passes a node that stands as often as it is to, and stops at any other.
 use mathlib.Core.Path.{_≡_, _∙_, sym}
+use mathlib.Core.Bool.{cond}
+use mathlib.Core.Path.{ap}
 use Prim.Native.Nat.{_≤_, _-_}
+use native.Mathlib.Omega.{arith}
 use borrow.Author.Tests.{eq-eqb, ne-eqb}
+use borrow.Author.Needs.{needs}
 use lib.Dec.{eqb}
 use Rattle.lists.specs.Members.{every}
 use Rattle.lists.specs.Ranges.{listed}
-use Rattle.lists.proofs.Ranges.{every-on, every-off, every-done}
-use mathlib.Core.Bool.{cond}
-use mathlib.Core.Path.{ap}
 use Rattle.lists.specs.Counting.{occurrences}
+use Rattle.lists.proofs.Ranges.{every-on, every-off, every-done}
 use Rattle.tree.specs.Table.{nodes}
 use Rattle.tree.proofs.TableSteps.{nodes-start}
-use borrow.Author.Needs.{needs}
-use native.Mathlib.Omega.{arith}
 use Rattle.tree.proofs.one_tree.nodes_once.Statement.{statement}
 use Rattle.tree.proofs.one_tree.nodes_once.Tie as tie
 

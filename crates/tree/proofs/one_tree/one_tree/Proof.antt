@@ -1,8 +1,8 @@
 -- Each return is one part of the test, in the order of the definition, with those before it true.
 use borrow.Author.Tests.{not-true, not-false, eq-eqb, ne-eqb}
+use borrow.Author.Needs.{needs}
 use Rattle.tree.specs.OneTree.{one-tree, absent-once}
 use Rattle.tree.proofs.OneTreeParts.{one-tree-by}
-use borrow.Author.Needs.{needs}
 use Rattle.tree.proofs.one_tree.one_tree.Statement.{statement}
 use Rattle.tree.proofs.one_tree.one_tree.Tie as tie
 

@@ -1,10 +1,10 @@
 -- The steps left from here end where all of them do; a code that is no node ends the chain.
 use mathlib.Core.Path.{_≡_, refl, _∙_, sym}
 use Prim.Native.Nat.{suc, _≤_, _-_}
+use native.Mathlib.Omega.{arith}
+use borrow.Author.Needs.{needs}
 use Rattle.tree.specs.Pairs.{chain-end}
 use Rattle.tree.proofs.TableSteps.{chain-goes, chain-rests}
-use borrow.Author.Needs.{needs}
-use native.Mathlib.Omega.{arith}
 use Rattle.tree.proofs.pairs.chain_end.Statement.{statement}
 use Rattle.tree.proofs.pairs.chain_end.Tie as tie
 

@@ -1,13 +1,13 @@
 -- What is left to search gives the answer: the loop passes a node without the pair, and stops at the first with it.
 use mathlib.Core.Path.{_≡_, _∙_, sym, ap}
 use Prim.Native.Nat.{_≤_, _-_}
-use Rattle.lists.specs.Ranges.{listed}
-use Rattle.tree.proofs.TableSteps.{nodes-start}
-use Rattle.lists.proofs.Ranges.{some-on, some-found, some-done}
-use Rattle.lists.specs.Members.{some-of}
-use Rattle.tree.specs.Pairs.{pair-under, pair-right}
-use borrow.Author.Needs.{needs}
 use native.Mathlib.Omega.{arith}
+use borrow.Author.Needs.{needs}
+use Rattle.lists.specs.Ranges.{listed}
+use Rattle.lists.specs.Members.{some-of}
+use Rattle.lists.proofs.Ranges.{some-on, some-found, some-done}
+use Rattle.tree.specs.Pairs.{pair-under, pair-right}
+use Rattle.tree.proofs.TableSteps.{nodes-start}
 use Rattle.tree.proofs.pairs.pair_right.Statement.{statement}
 use Rattle.tree.proofs.pairs.pair_right.Tie as tie
 

@@ -1,7 +1,7 @@
 -- Both returns are the definition, with the two chains' ends put in.
 use borrow.Author.Tests.{eq-eqb, ne-eqb}
-use Rattle.tree.specs.Pairs.{pair-under}
 use borrow.Author.Needs.{needs}
+use Rattle.tree.specs.Pairs.{pair-under}
 use Rattle.tree.proofs.pairs.pair_under.Statement.{statement}
 use Rattle.tree.proofs.pairs.pair_under.Tie as tie
 

@@ -1,15 +1,15 @@
 -- The right pairs passed and those ahead are all that lead: the loop passes a right pair, and stops at the first wrong one.
 use mathlib.Core.Path.{_≡_, _∙_, sym, ap}
 use Prim.Native.Nat.{_≤_, _+_, _-_}
-use Rattle.lists.specs.Ranges.{listed}
-use Rattle.tree.proofs.TableSteps.{nodes-start}
-use Rattle.lists.proofs.Ranges.{leading-on, leading-off, leading-done}
 use native.Mathlib.Nat.{zero-add}
-use borrow.Author.Tests.{not-true, not-false}
-use Rattle.lists.specs.Members.{leading}
-use Rattle.tree.specs.Pairs.{pair-right, pairs-right}
-use borrow.Author.Needs.{needs}
 use native.Mathlib.Omega.{arith}
+use borrow.Author.Tests.{not-true, not-false}
+use borrow.Author.Needs.{needs}
+use Rattle.lists.specs.Ranges.{listed}
+use Rattle.lists.specs.Members.{leading}
+use Rattle.lists.proofs.Ranges.{leading-on, leading-off, leading-done}
+use Rattle.tree.specs.Pairs.{pair-right, pairs-right}
+use Rattle.tree.proofs.TableSteps.{nodes-start}
 use Rattle.tree.proofs.pairs.pairs_right.Statement.{statement}
 use Rattle.tree.proofs.pairs.pairs_right.Tie as tie
 

@@ -1,7 +1,7 @@
 -- The place is within the table, so what is read there is the child.
 use mathlib.Core.Path.{_∙_}
-use Rattle.tree.proofs.TableSteps.{child-read}
 use borrow.Author.Needs.{needs}
+use Rattle.tree.proofs.TableSteps.{child-read}
 use Rattle.tree.proofs.table.child.Statement.{statement}
 use Rattle.tree.proofs.table.child.Tie as tie
 

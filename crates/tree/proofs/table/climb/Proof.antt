@@ -1,10 +1,10 @@
 -- The steps left from here arrive where all of them do.
 use mathlib.Core.Path.{_≡_, _∙_, sym}
 use Prim.Native.Nat.{suc, _-_}
+use native.Mathlib.Omega.{arith}
+use borrow.Author.Needs.{needs}
 use Rattle.tree.specs.Table.{climb, parent-of}
 use Rattle.tree.proofs.TableSteps.{climb-rests}
-use borrow.Author.Needs.{needs}
-use native.Mathlib.Omega.{arith}
 use Rattle.tree.proofs.table.climb.Statement.{statement}
 use Rattle.tree.proofs.table.climb.Tie as tie
 

@@ -1,12 +1,12 @@
 -- The good codes passed and those ahead are all that lead: the loop passes a good code, and stops at the first bad one.
 use mathlib.Core.Path.{_≡_, _∙_, sym}
 use Prim.Native.Nat.{_≤_, _+_, _-_}
+use native.Mathlib.Omega.{arith}
 use borrow.Author.Tests.{not-true, not-false}
+use borrow.Author.Needs.{needs}
 use lib.ListN.{length, drop}
 use Rattle.tree.specs.Check.{codes-good}
 use Rattle.tree.proofs.TableSteps.{codes-pass, codes-stop, codes-end}
-use borrow.Author.Needs.{needs}
-use native.Mathlib.Omega.{arith}
 use Rattle.tree.proofs.table.codes_good.Statement.{statement}
 use Rattle.tree.proofs.table.codes_good.Tie as tie
 

@@ -1,11 +1,11 @@
 -- The occurrences counted and those ahead are all.
 use mathlib.Core.Path.{_≡_}
 use Prim.Native.Nat.{_≤_, _+_, _-_}
+use native.Mathlib.Omega.{arith}
+use borrow.Author.Needs.{needs}
 use lib.ListN.{length, drop}
 use Rattle.lists.specs.Counting.{same, occurrences}
 use Rattle.lists.proofs.Steps.{occurrences-step, occurrences-end}
-use borrow.Author.Needs.{needs}
-use native.Mathlib.Omega.{arith}
 use Rattle.tree.proofs.table.count.Statement.{statement}
 use Rattle.tree.proofs.table.count.Tie as tie
 

@@ -1,7 +1,7 @@
 -- Each return is one arm of the definition, with the place put in.
 use borrow.Author.Tests.{lt-ltb, le-ltb}
-use Rattle.tree.specs.Table.{parent-of}
 use borrow.Author.Needs.{needs}
+use Rattle.tree.specs.Table.{parent-of}
 use Rattle.tree.proofs.table.parent_of.Statement.{statement}
 use Rattle.tree.proofs.table.parent_of.Tie as tie
 

@@ -1,11 +1,11 @@
 -- The other codes passed and the place from here on are the place: the loop stops where the code stands.
 use mathlib.Core.Path.{_≡_, _∙_, sym}
 use Prim.Native.Nat.{_≤_, _+_, _-_}
+use native.Mathlib.Omega.{arith}
+use borrow.Author.Needs.{needs}
 use lib.ListN.{length, drop}
 use Rattle.tree.specs.Table.{place-of}
 use Rattle.tree.proofs.TableSteps.{place-passes, place-found, place-ends}
-use borrow.Author.Needs.{needs}
-use native.Mathlib.Omega.{arith}
 use Rattle.tree.proofs.table.place_of.Statement.{statement}
 use Rattle.tree.proofs.table.place_of.Tie as tie
 

@@ -1,7 +1,7 @@
 -- Each return is one arm of the definition: the test decides it.
 use borrow.Author.Tests.{eq-eqb, ne-eqb}
-use Rattle.lists.specs.Counting.{same}
 use borrow.Author.Needs.{needs}
+use Rattle.lists.specs.Counting.{same}
 use Rattle.tree.proofs.table.same.Statement.{statement}
 use Rattle.tree.proofs.table.same.Tie as tie
 

@@ -1,11 +1,11 @@
 -- The steps left from here find the edge that all of them do; each place read is the code's.
 use mathlib.Core.Path.{_≡_, refl, _∙_, sym}
 use Prim.Native.Nat.{suc, _<_, _-_}
+use native.Mathlib.Omega.{arith}
+use borrow.Author.Needs.{needs}
 use lib.ListN.{length}
 use Rattle.tree.specs.Weight.{edge-under}
 use Rattle.tree.proofs.TableSteps.{edge-none, edge-here, edge-above}
-use borrow.Author.Needs.{needs}
-use native.Mathlib.Omega.{arith}
 use Rattle.tree.proofs.weight.edge_under.Statement.{statement}
 use Rattle.tree.proofs.weight.edge_under.Tie as tie
 

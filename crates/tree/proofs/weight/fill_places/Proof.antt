@@ -1,11 +1,11 @@
 -- Each code passed has its place; at the end that is every code.
 use mathlib.Core.Path.{_≡_}
 use Prim.Native.Nat.{ℕ, _≤_, _<_, _-_}
-use lib.ListN.{length, getD, length-set}
-use Rattle.tree.specs.Table.{place-of}
-use Rattle.lists.proofs.Writes.{agrees-next}
-use borrow.Author.Needs.{needs}
 use native.Mathlib.Omega.{arith}
+use borrow.Author.Needs.{needs}
+use lib.ListN.{length, getD, length-set}
+use Rattle.lists.proofs.Writes.{agrees-next}
+use Rattle.tree.specs.Table.{place-of}
 use Rattle.tree.proofs.weight.fill_places.Statement.{statement}
 use Rattle.tree.proofs.weight.fill_places.Tie as tie
 

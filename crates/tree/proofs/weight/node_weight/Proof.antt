@@ -2,13 +2,13 @@
 use mathlib.Core.Path.{_≡_, _∙_, sym, ap}
 use Prim.Native.Nat.{_<_, _≤_, _-_, _+_, _*_}
 use native.Mathlib.Numerals.{add-one}
+use native.Mathlib.Omega.{arith}
+use borrow.Author.Needs.{needs}
 use lib.ListN.{length, drop}
 use Rattle.lists.specs.Counting.{same, occurrences}
-use Rattle.tree.specs.Weight.{edge-under, edges}
 use Rattle.lists.proofs.Every.{below-at}
+use Rattle.tree.specs.Weight.{edge-under, edges}
 use Rattle.tree.proofs.TreeWeighing.{edges-step, edges-end, Counted, x-apart, z-apart, none-apart}
-use borrow.Author.Needs.{needs}
-use native.Mathlib.Omega.{arith}
 use Rattle.tree.proofs.weight.node_weight.Statement.{statement}
 use Rattle.tree.proofs.weight.node_weight.Tie as tie
 

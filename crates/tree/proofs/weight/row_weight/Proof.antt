@@ -3,13 +3,13 @@ use mathlib.Core.Path.{_≡_, _∙_, sym}
 use mathlib.Core.List.{map}
 use Prim.Native.Nat.{_≤_, _-_, _+_}
 use native.Mathlib.Nat.{zero-add}
+use native.Mathlib.Omega.{arith}
+use borrow.Author.Needs.{needs}
 use Rattle.lists.specs.Counting.{sum as total}
 use Rattle.lists.specs.Ranges.{listed}
 use Rattle.lists.proofs.Ranges.{sum-on, sum-done}
 use Rattle.tree.specs.Weight.{node-weight, row-weight}
 use Rattle.tree.proofs.TreeWeighing.{row-start}
-use borrow.Author.Needs.{needs}
-use native.Mathlib.Omega.{arith}
 use Rattle.tree.proofs.weight.row_weight.Statement.{statement}
 use Rattle.tree.proofs.weight.row_weight.Tie as tie
 

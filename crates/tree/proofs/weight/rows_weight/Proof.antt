@@ -2,13 +2,13 @@
 use mathlib.Core.Path.{_≡_, _∙_, sym, ap}
 use Prim.Native.Nat.{_≤_, _-_, _+_, _*_}
 use native.Mathlib.Nat.{zero-add}
+use native.Mathlib.Omega.{arith}
+use borrow.Author.Needs.{needs}
 use lib.ListN.{drop}
 use Rattle.terms.specs.Rows.{terms-of}
 use Rattle.terms.proofs.RowSteps.{terms-start}
 use Rattle.tree.specs.Weight.{row-weight, tree-weight}
 use Rattle.tree.proofs.TreeWeighing.{tree-step, tree-end, indices-below}
-use borrow.Author.Needs.{needs}
-use native.Mathlib.Omega.{arith}
 use Rattle.tree.proofs.weight.rows_weight.Statement.{statement}
 use Rattle.tree.proofs.weight.rows_weight.Tie as tie
 

@@ -1,5 +1,6 @@
 -- Each return is one arm of the definition, by what the tree's check and the terms' check answered.
 use mathlib.Core.Path.{_≡_, _∙_, sym, ap}
+use borrow.Author.Needs.{needs}
 use Rattle.terms.specs.Good.{checked}
 use Rattle.terms.specs.declared.given.Checked.the-variants.{Good}
 use Rattle.terms.proofs.StaysGood.{accepted}
@@ -8,7 +9,6 @@ use Rattle.tree.specs.Check.{tree-checked}
 use Rattle.tree.specs.Weight.{tree-weighed, weighed-terms}
 use Rattle.tree.specs.declared.TreeWeighed.the-variants.{Weight}
 use Rattle.tree.proofs.AcceptedParts.{accepted-parts}
-use borrow.Author.Needs.{needs}
 use Rattle.tree.proofs.weight.tree_weight.Statement.{statement}
 use Rattle.tree.proofs.weight.tree_weight.Tie as tie
 
