@@ -26,7 +26,6 @@ pub record CutObeyed (modes count : ℕ) (terms : List (List ℕ)) (bytes : List
   pub history : List Triple
   pub obeys : obeyed modes count terms bytes ≡ went history
   pub a-line-each : length history ≡ length (lines bytes) - 1
-  pub as-unbroken : history ≡ greedy modes terms (length history) []
   pub lawful : LawfulHistory modes history
   pub within : length history ≤ modes
   pub same-end : finished modes terms history ≡ finished modes terms []
@@ -92,7 +91,6 @@ module _ (modes count : ℕ) (terms : List (List ℕ)) (few : 3 * modes ≤ 6553
           history = greedy modes terms (whole - 1) [];
           obeys = ap (obeyed-texts modes count terms) cut-lines ∙ texts-obeyed whole merges-within;
           a-line-each = omega (arith, size, ap length cut-lines, length-take whole texts, whole-within texts k);
-          as-unbroken = ap (λ n. greedy modes terms n []) (sym size);
           lawful = reached-lawful modes terms (whole - 1) merges-within;
           within = omega (arith, size, merges-within);
           same-end = end;

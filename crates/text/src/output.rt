@@ -7,8 +7,7 @@ ghost use Rattle.lists.specs.Written.{«written-at»};
 ghost use Rattle.journal.specs.Decimal.{decimal};
 ghost use Rattle.text.specs.Output.{«code-text», «node-line», «node-lines», «refusal-text»};
 ghost use Rattle.text.specs.Printing.{«done-text»};
-use journal::decimals;
-use journal::writing;
+use journal::putting;
 use refusal::Refusal;
 
 // A code and the byte behind it written at this place, the absent child as `-`; the place after them.
@@ -18,9 +17,9 @@ fn put_code(out: &mut [u8], at: usize, code: u16, mark: u8) -> usize
     ensures { λ r. ⌜ now (out .exit) ≡ written-at at (code-text code ++ (mark ∷ [])) (now (out .entry)) ⌝ }
 {
     if code == 65535 {
-        return writing::put_bytes(out, at, &[b'-', mark]);
+        return putting::put_bytes(out, at, &[b'-', mark]);
     }
-    decimals::put_field(out, at, code as u64, mark)
+    putting::put_field(out, at, code as u64, mark)
 }
 
 // A row's line written at this place; the place after it.
@@ -29,7 +28,7 @@ fn put_node(out: &mut [u8], at: usize, row: &[u16]) -> usize
     ensures { λ r. ⌜ (r ≡ at + length (node-line (now (row .entry)))) × (r ≤ at + 29) ⌝ }
     ensures { λ r. ⌜ now (out .exit) ≡ written-at at (node-line (now (row .entry))) (now (out .entry)) ⌝ }
 {
-    let mut end = writing::put_bytes(out, at, b"node\t");
+    let mut end = putting::put_bytes(out, at, b"node\t");
     end = put_code(out, end, row[0], 9);
     end = put_code(out, end, row[1], 9);
     end = put_code(out, end, row[2], 9);
@@ -60,8 +59,8 @@ fn put_value(out: &mut [u8], at: usize, word: &[u8], number: u64) -> usize
     ensures { λ r. ⌜ (r ≡ at + length (now (word .entry) ++ (decimal number ++ (10 ∷ [])))) × (r ≤ at + (length (now (word .entry)) + 21)) ⌝ }
     ensures { λ r. ⌜ now (out .exit) ≡ written-at at (now (word .entry) ++ (decimal number ++ (10 ∷ []))) (now (out .entry)) ⌝ }
 {
-    let end = writing::put_bytes(out, at, word);
-    decimals::put_field(out, end, number, 10)
+    let end = putting::put_bytes(out, at, word);
+    putting::put_field(out, end, number, 10)
 }
 
 // A refusal written over the front; how many bytes that is.
@@ -72,9 +71,9 @@ pub fn put_refusal(out: &mut [u8], refusal: Refusal) -> usize
 {
     let number = refusal::number(refusal) as u64;
     let place = refusal::place(refusal) as u64;
-    let word = writing::put_bytes(out, 0, b"refused\t");
-    let end = decimals::put_field(out, word, number, 9);
-    decimals::put_field(out, end, place, 10)
+    let word = putting::put_bytes(out, 0, b"refused\t");
+    let end = putting::put_field(out, word, number, 9);
+    putting::put_field(out, end, place, 10)
 }
 
 // What a run came to written over the front; how many bytes that is.

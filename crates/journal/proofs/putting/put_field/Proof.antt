@@ -3,8 +3,8 @@ use native.Mathlib.Omega.{arith}
 use borrow.Author.Needs.{needs}
 use Rattle.lists.proofs.Behind.{written-and-one}
 use Rattle.journal.specs.Decimal.{decimal}
-use Rattle.journal.proofs.decimals.put_field.Statement.{statement}
-use Rattle.journal.proofs.decimals.put_field.Tie as tie
+use Rattle.journal.proofs.putting.put_field.Statement.{statement}
+use Rattle.journal.proofs.putting.put_field.Tie as tie
 
 sub-put-number : tie.Need-sub-put-number
 sub-put-number c = search needs

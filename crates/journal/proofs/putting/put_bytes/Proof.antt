@@ -4,8 +4,8 @@ use native.Mathlib.Omega.{arith}
 use borrow.Author.Needs.{needs}
 use lib.ListN.{length}
 use Rattle.journal.proofs.PuttingBytes.{PuttingBytes, bytes-start, bytes-go, bytes-end}
-use Rattle.journal.proofs.writing.put_bytes.Statement.{statement}
-use Rattle.journal.proofs.writing.put_bytes.Tie as tie
+use Rattle.journal.proofs.putting.put_bytes.Statement.{statement}
+use Rattle.journal.proofs.putting.put_bytes.Tie as tie
 
 abbrev Inv-loop : tie.InvT-loop
 Inv-loop out₀ at bytes done₀ out done = PuttingBytes at bytes out₀ out done

@@ -1,10 +1,24 @@
-// A number of 64 bits written as decimal text, from the front of a buffer or at a place of it.
+// Bytes, and numbers of 64 bits as decimal text, written at the front of a buffer or at a place of it.
 ghost use mathlib.Core.Path.{_≡_};
 ghost use mathlib.Core.List.{[], _∷_, _++_};
 ghost use Prim.Native.Nat.{_+_, _%_, _≤_};
 ghost use lib.ListN.{length};
 ghost use Rattle.lists.specs.Written.{«written-at»};
 ghost use Rattle.journal.specs.Decimal.{decimal};
+
+// The bytes written at this place; the place after them.
+pub fn put_bytes(out: &mut [u8], at: usize, bytes: &[u8]) -> usize
+    requires { ⌜ at + length (now bytes) ≤ length (now out) ⌝ }
+    ensures { λ r. ⌜ r ≡ at + length (now (bytes .entry)) ⌝ }
+    ensures { λ r. ⌜ now (out .exit) ≡ written-at at (now (bytes .entry)) (now (out .entry)) ⌝ }
+{
+    let mut done = 0;
+    while done < bytes.len() {
+        out[at + done] = bytes[done];
+        done += 1;
+    }
+    at + done
+}
 
 // How many digits the number has.
 fn digit_count(number: u64) -> usize

@@ -8,8 +8,8 @@ use lib.ListN.{length, drop, length-set}
 use Rattle.lists.specs.Written.{written-at}
 use Rattle.journal.specs.Decimal.{digits, decimal}
 use Rattle.journal.proofs.Digits.{all-left, put-digit, no-digits}
-use Rattle.journal.proofs.decimals.put_number.Statement.{statement}
-use Rattle.journal.proofs.decimals.put_number.Tie as tie
+use Rattle.journal.proofs.putting.put_number.Statement.{statement}
+use Rattle.journal.proofs.putting.put_number.Tie as tie
 
 abbrev Inv-loop : tie.InvT-loop
 Inv-loop out₀ number count left₀ at₀ out left at =

@@ -3,8 +3,8 @@ use Prim.Native.Nat.{_-_}
 use native.Mathlib.Omega.{arith}
 use borrow.Author.Needs.{needs}
 use Rattle.journal.proofs.Digits.{Counting, counting-starts, counting-ends, counting-goes, counting-full}
-use Rattle.journal.proofs.decimals.digit_count.Statement.{statement}
-use Rattle.journal.proofs.decimals.digit_count.Tie as tie
+use Rattle.journal.proofs.putting.digit_count.Statement.{statement}
+use Rattle.journal.proofs.putting.digit_count.Tie as tie
 
 abbrev Inv-loop : tie.InvT-loop
 Inv-loop number count₀ left₀ count left = Counting number count left
