@@ -1,4 +1,4 @@
--- A refusal's number is 1 to 18, and the place of a refused call is below 65536: the one number that the call returns says both.
+-- A refusal's number is 1 to 19, and the place of a refused call is below 65536: the one number that the call returns says both.
 use mathlib.Core.Path.{_≡_, refl}
 use mathlib.Core.Bool.{Bool, true, false, cond, _&&_}
 use mathlib.Core.List.{List, [], _∷_}
@@ -28,6 +28,8 @@ use Rattle.refusal.specs.declared.Refusal.the-variants.{
   WrongPair,
   Heuristic,
   Malformed,
+  NewickForm,
+  TooManyNodes,
 }
 use Rattle.refusal.specs.Numbers.{numberOf, placeOf}
 use Rattle.terms.specs.Rows.{terms-of}
@@ -58,7 +60,7 @@ use Rattle.journal.specs.Obeying.{
 }
 use Rattle.journal.specs.Resuming.{Outcome, done, refuses, with-journal, roomy, with-terms, resumed}
 
-pub number-small : (refusal : Refusal) → (1 ≤ numberOf refusal) × (numberOf refusal ≤ 18)
+pub number-small : (refusal : Refusal) → (1 ≤ numberOf refusal) × (numberOf refusal ≤ 19)
 number-small Modes = omega arith
 number-small TermNumbers = omega arith
 number-small TooManyTerms = omega arith
@@ -77,6 +79,8 @@ number-small NotOneTree = omega arith
 number-small (WrongPair pair) = omega arith
 number-small Heuristic = omega arith
 number-small (Malformed line) = omega arith
+number-small (NewickForm byte) = omega arith
+number-small (TooManyNodes byte) = omega arith
 
 -- How far obeying came: a line for each merge and the header's, or a refusal on such a line or the next.
 abbrev Reached : ℕ → ℕ → Obeyed → Type 0

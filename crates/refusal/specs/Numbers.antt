@@ -1,4 +1,4 @@
--- "Each returns its number and a place": the table of document 01, "Refusal numbers", a line for each refusal.
+-- "Each returns its number and a place": the table of document 01, "Refusal numbers", a line for each refusal, and document 02's 19.
 use Prim.Native.Nat.{ℕ}
 use Rattle.refusal.specs.declared.Refusal.{Refusal}
 use Rattle.refusal.specs.declared.Refusal.the-variants.{
@@ -20,6 +20,8 @@ use Rattle.refusal.specs.declared.Refusal.the-variants.{
   WrongPair,
   Heuristic,
   Malformed,
+  NewickForm,
+  TooManyNodes,
 }
 
 -- The column "No." of the table.
@@ -42,6 +44,8 @@ numberOf NotOneTree = 15
 numberOf (WrongPair pair) = 16
 numberOf Heuristic = 17
 numberOf (Malformed line) = 18
+numberOf (NewickForm byte) = 19
+numberOf (TooManyNodes byte) = 1
 
 -- The column "Place" of the table.
 abbrev pub placeOf : Refusal → ℕ
@@ -63,3 +67,5 @@ placeOf NotOneTree = 0
 placeOf (WrongPair pair) = pair
 placeOf Heuristic = 0
 placeOf (Malformed line) = line
+placeOf (NewickForm byte) = byte
+placeOf (TooManyNodes byte) = byte

@@ -39,6 +39,10 @@ pub enum Refusal {
     Heuristic,
     // 18: the line of the program's text is malformed
     Malformed(usize),
+    // 19: the first byte that no Newick text can go on with, or the text's end
+    NewickForm(usize),
+    // 1 again, of a Newick text: the `(` of the first node beyond 256
+    TooManyNodes(usize),
 }
 
 // The refusal's number in document 01's table.
@@ -64,6 +68,8 @@ pub fn number(refusal: Refusal) -> usize
         Refusal::WrongPair(_) => 16,
         Refusal::Heuristic => 17,
         Refusal::Malformed(_) => 18,
+        Refusal::NewickForm(_) => 19,
+        Refusal::TooManyNodes(_) => 1,
     }
 }
 
@@ -90,5 +96,7 @@ pub fn place(refusal: Refusal) -> usize
         Refusal::WrongPair(pair) => pair,
         Refusal::Heuristic => 0,
         Refusal::Malformed(line) => line,
+        Refusal::NewickForm(byte) => byte,
+        Refusal::TooManyNodes(byte) => byte,
     }
 }
