@@ -7,7 +7,7 @@ use native.Mathlib.Numerals.{add-one}
 use native.Mathlib.Omega.{arith}
 use borrow.Rule.Slice.PartMut.{putMid}
 use lib.ListN.{length, getD, set, take, drop, length-append, length-take, length-drop, length-map, drop-of-length-le, take-append-drop}
-use lib.Seq.{set-split, drop-drop, drop-append-add, take-at, take-suc, length-take-le}
+use lib.Seq.{sets, sets-eq, set-split, drop-drop, drop-append-add, take-at, take-suc, length-take-le}
 use Rattle.lists.specs.Written.{written-at}
 use Rattle.lists.proofs.Written.{length-written, drop-written}
 use Rattle.lists.proofs.Steps.{part-to-end}
@@ -16,6 +16,11 @@ module _ {A : Type 0} where
   pub set-written : (s : List A) (i : ℕ) (v : A) → i < length s → set s i v ≡ written-at i (v ∷ []) s
   unfolding written-at
   set-written s i v h = rw (add-one i) (set-split s i v h)
+
+  -- Elements stored one behind the other are a part written there.
+  pub stores-written : (part s : List A) (place : ℕ) → place + length part ≤ length s → sets s place part ≡ written-at place part s
+  unfolding written-at
+  stores-written part s place h = sets-eq part s place h ∙ append-assoc (take place s) part (drop (place + length part) s)
 
   pub nothing-written : (place : ℕ) (s : List A) → written-at place [] s ≡ s
   unfolding written-at

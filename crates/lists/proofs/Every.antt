@@ -7,6 +7,7 @@ use native.Mathlib.Omega.{arith}
 use borrow.Author.Tests.{ltb-true}
 use lib.Dec.{ltb}
 use lib.ListN.{length, getD, take, drop}
+use lib.Seq.{take-append-seam, drop-append-seam}
 use Rattle.lists.specs.Members.{every, keep, leading, some-of, firsts-after}
 
 module _ {A : Type 0} (test : A → Bool) where
@@ -68,6 +69,13 @@ module _ {A : Type 0} (test : A → Bool) where
   every-dropped zero l e = e
   every-dropped (suc count) [] e = refl
   every-dropped (suc count) (a ∷ l) e = every-dropped count l (every-uncons a l e .1)
+
+  -- What holds of two lists joined holds of each.
+  pub every-parts : (front rest : List A) → every test (front ++ rest) ≡ true → (every test front ≡ true) × (every test rest ≡ true)
+  every-parts front rest e = (
+    rw (take-append-seam front rest) at (every-taken (length front) (front ++ rest) e),
+    rw (drop-append-seam front rest) at (every-dropped (length front) (front ++ rest) e),
+  )
 
   -- One more, where it stays.
   pub every-more : (front : List A) (a : A) (stays : Bool) → every test front ≡ true → test a ≡ true

@@ -25,3 +25,5 @@ pub mod Pigeonholes
 pub mod Narrowing
 pub mod Onto
 pub mod Replaced
+pub mod Partway
+pub mod SumOnce

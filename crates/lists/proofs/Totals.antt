@@ -100,3 +100,12 @@ pub total-parts : (f : ℕ → ℕ) (first second : ℕ) → total f (first + se
 unfolding total
 total-parts f first zero = rw (add-zero first) (omega arith)
 total-parts f first (suc second) = rw (add-suc first second) (let rest = total-parts f first second in omega arith)
+
+-- Numbers added up two by two.
+pub total-pairs : (f : ℕ → ℕ) (count : ℕ) → total f (2 * count) ≡ total (λ k. f (2 * k) + f (2 * k + 1)) count
+unfolding total
+total-pairs f zero = refl
+total-pairs f (suc count) =
+    let e : 2 * suc count ≡ suc (suc (2 * count)) = omega arith in
+    let o : suc (2 * count) ≡ 2 * count + 1 = omega arith in
+    rw e (omega (arith, total-pairs f count, ap f o))

@@ -1,7 +1,7 @@
 -- One write: of a loop that fills a list from its front, and as any place sees it.
 use mathlib.Core.Path.{_≡_, ap, _∙_, sym}
 use mathlib.Core.Bool.{cond}
-use mathlib.Core.List.{List, [], _∷_, _++_}
+use mathlib.Core.List.{List, [], _∷_, _++_, map, map-append}
 use mathlib.Core.Logic.{⊎-elim}
 use Prim.Native.Nat.{ℕ, _+_, _<_, _≤_}
 use native.Mathlib.Numerals.{add-one}
@@ -42,3 +42,9 @@ module _ {A : Type 0} where
   -- What is known of as many as there are is known of all.
   pub all-of : (s t : List A) (i : ℕ) → length s ≤ i → take i s ≡ t → s ≡ t
   all-of s t i h e = sym (take-all i s h) ∙ e
+
+-- One more of a rule's values behind those before it.
+pub mapped-so-far : {A B : Type 0} (rule : A → B) (s : List A) (t : List B) (i : ℕ) (d : A) → i < length s → i < length t
+    → take i t ≡ map rule (take i s) → take (i + 1) (set t i (rule (getD s i d))) ≡ map rule (take (i + 1) s)
+mapped-so-far rule s t i d h k e =
+    rw (written-next t i (rule (getD s i d)) k, e, add-one i, take-suc s i d h) (sym (map-append rule (take i s) (getD s i d ∷ [])))

@@ -1,12 +1,11 @@
 -- Four stores one behind the other are the row written over the rows.
-use mathlib.Core.Path.{_≡_, _∙_}
-use mathlib.Core.List.{[], _∷_, append-assoc}
+use mathlib.Core.Path.{_≡_}
+use mathlib.Core.List.{[], _∷_}
 use Prim.Native.Nat.{suc, _+_, _*_}
 use native.Mathlib.Omega.{arith}
 use borrow.Author.Needs.{needs}
-use lib.ListN.{take, drop, length-set}
-use lib.Seq.{sets-eq}
-use Rattle.lists.specs.Written.{written-at}
+use lib.ListN.{length-set}
+use Rattle.lists.proofs.Behind.{stores-written}
 use Rattle.merging.proofs.flatpack.put_row.Statement.{statement}
 use Rattle.merging.proofs.flatpack.put_row.Tie as tie
 
@@ -50,7 +49,6 @@ same-length : tie.Need-same-length
 same-length c = search needs
 
 returns : tie.Need-returns
-unfolding written-at
 returns c =
     let args = c .args in
     let rows = args .rows .now in
@@ -60,7 +58,7 @@ returns c =
     let third : at + 2 ≡ suc (suc at) = omega arith in
     let fourth : at + 3 ≡ suc (suc (suc at)) = omega arith in
     let part = args .label ∷ (codes .x ∷ (codes .y ∷ (codes .z ∷ []))) in
-    rw (second, third, fourth) (sets-eq part rows at (omega arith) ∙ append-assoc (take at rows) part (drop (at + 4) rows))
+    rw (second, third, fourth) (stores-written part rows at (omega arith))
 
 pub put-row-spec : {M : Type 1} → statement M
 put-row-spec =
