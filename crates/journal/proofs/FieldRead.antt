@@ -64,20 +64,20 @@ unfolding goes-on
 goes-room count so-far g = leb-true so-far 6553 (both (leb so-far 6553) (ltb 0 so-far || eqb count 0) g .0)
 
 -- The least value of so many digits without a leading 0.
-unfoldable least : ℕ → ℕ
+unfoldable pub least : ℕ → ℕ
 least zero = 0
 least (suc zero) = 0
 least (suc (suc zero)) = 10
 least (suc (suc (suc more))) = 10 * least (suc (suc more))
 
 -- Digits that a number may begin with.
-record Begun (begun : List ℕ) : Type 0 where
-  digits : every is-digit begun ≡ true
-  short : length begun ≤ 5
-  leads : leads-well begun ≡ true
-  size : least (length begun) ≤ value begun
+pub record Begun (begun : List ℕ) : Type 0 where
+  pub digits : every is-digit begun ≡ true
+  pub short : length begun ≤ 5
+  pub leads : leads-well begun ≡ true
+  pub size : least (length begun) ≤ value begun
 
-nothing-begun : Begun []
+pub nothing-begun : Begun []
 unfolding every leads-well least value
 nothing-begun = record { digits = refl; short = omega arith; leads = refl; size = omega arith }
 
@@ -102,7 +102,7 @@ leads-more [] byte e on = refl
 leads-more (a ∷ []) byte e on = let p = on (omega arith) in rw (ne-eqb a 48 (λ f. omega arith))
 leads-more (a ∷ (c ∷ l)) byte e on = e
 
-length-more : (begun : List ℕ) (byte : ℕ) → length (begun ++ (byte ∷ [])) ≡ suc (length begun)
+pub length-more : (begun : List ℕ) (byte : ℕ) → length (begun ++ (byte ∷ [])) ≡ suc (length begun)
 length-more begun byte = length-append begun (byte ∷ []) ∙ add-one (length begun)
 
 -- Another digit behind them.
@@ -116,7 +116,7 @@ module _ (begun : List ℕ) (b : Begun begun) where
         leb-true (value begun) 6553 (p .0),
       )
 
-  begun-more : (byte : ℕ) → is-digit byte ≡ true → goes-on (length begun) (value begun) ≡ true → Begun (begun ++ (byte ∷ []))
+  pub begun-more : (byte : ℕ) → is-digit byte ≡ true → goes-on (length begun) (value begun) ≡ true → Begun (begun ++ (byte ∷ []))
   unfolding every
   begun-more byte digit g =
       let above : 1 ≤ length begun → 0 < value begun = λ h. may-follow g h .0 in
@@ -132,7 +132,7 @@ module _ (begun : List ℕ) (b : Begun begun) where
 
 -- What can't be a number, whatever follows.
 module _ (begun : List ℕ) (byte : ℕ) (rest : List ℕ) where
-  no-digit : is-digit byte ≡ false → is-number (begun ++ (byte ∷ rest)) ≡ false
+  pub no-digit : is-digit byte ≡ false → is-number (begun ++ (byte ∷ rest)) ≡ false
   no-digit e =
       not-so (is-number (begun ++ (byte ∷ rest)))
       (λ f. true≢false (sym (numeral (begun ++ (byte ∷ rest)) f .digits) ∙ every-fails is-digit begun byte rest e))
@@ -157,7 +157,7 @@ no-lead (a ∷ []) byte rest b h e =
 no-lead (a ∷ (c ∷ l)) byte rest b h e = absurd (omega (arith, least-two (length l), b .size))
 
 -- A digit that may not follow.
-stops : (begun : List ℕ) (byte : ℕ) (rest : List ℕ) → Begun begun → goes-on (length begun) (value begun) ≡ false
+pub stops : (begun : List ℕ) (byte : ℕ) (rest : List ℕ) → Begun begun → goes-on (length begun) (value begun) ≡ false
     → is-number (begun ++ (byte ∷ rest)) ≡ false
 unfolding goes-on
 stops begun byte rest b g = go (leb (value begun) 6553) refl

@@ -13,7 +13,7 @@ pub enum Field {
 }
 
 // Another digit may follow so many digits of this value: 0 stands alone, and above 6553 any digit makes too large a number.
-fn goes_on(count: usize, value: u32) -> bool
+pub fn goes_on(count: usize, value: u32) -> bool
     ensures { λ r. ⌜ r ≡ goes-on count value ⌝ }
 {
     if 6553 < value {

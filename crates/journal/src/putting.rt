@@ -21,7 +21,7 @@ pub fn put_bytes(out: &mut [u8], at: usize, bytes: &[u8]) -> usize
 }
 
 // How many digits the number has.
-fn digit_count(number: u64) -> usize
+pub fn digit_count(number: u64) -> usize
     ensures { λ r. ⌜ (r ≡ length (decimal number)) × (r ≤ 20) ⌝ }
 {
     let mut count = 1;

@@ -1,0 +1,19 @@
+-- "Reading a written tree gives the tree, and writing a read text gives the text."
+use mathlib.Core.Path.{_≡_}
+use mathlib.Core.List.{List}
+use Prim.Native.Nat.{ℕ, _*_, _≤_}
+use Rattle.tree.specs.declared.TreeChecked.the-variants.{Accepted}
+use Rattle.tree.specs.Check.{tree-checked}
+use Rattle.newick.specs.Writing.{newick-text}
+use Rattle.newick.specs.Calls.{taken-as, newick-read, newick-table}
+
+-- A tree's text is read back as that tree: its modes where the room is enough, else 5; and its table.
+pub record ReadsBack (most modes : ℕ) (table : List ℕ) : Type 0 where
+  pub answer : (room : ℕ) → newick-read most (newick-text modes table) room ≡ taken-as Accepted modes room
+  pub table-is : newick-table most (newick-text modes table) ≡ table
+
+-- A text that was read is the writing of the tree that it was read as, which is accepted and fits.
+pub record IsWritten (most : ℕ) (text : List ℕ) (room modes : ℕ) : Type 0 where
+  pub accepted : tree-checked most modes (newick-table most text) ≡ Accepted
+  pub text-is : newick-text modes (newick-table most text) ≡ text
+  pub roomy : 3 * modes ≤ room

@@ -1,0 +1,30 @@
+// How long the text of a tree is, before a byte of it is written.
+ghost use mathlib.Core.Path.{_≡_};
+ghost use Prim.Native.Nat.{_+_, _*_, _≤_};
+ghost use Rattle.newick.specs.Writing.{«mode-length», «text-length»};
+use journal::putting;
+
+// How many bytes a mode takes up: its node's parentheses, commas and name, and the names of its two leaves.
+fn mode_length(mode: usize) -> usize
+    requires { ⌜ mode ≤ 256 ⌝ }
+    ensures { λ r. ⌜ (r ≡ mode-length mode) × (r ≤ 67) ⌝ }
+{
+    let label = putting::digit_count(mode as u64);
+    let even = putting::digit_count((2 * mode) as u64);
+    let odd = putting::digit_count((2 * mode + 1) as u64);
+    7 + label + even + odd
+}
+
+// How many bytes the text of a tree of so many modes has, whatever the tree.
+pub fn text_length(modes: usize) -> usize
+    requires { ⌜ modes ≤ 256 ⌝ }
+    ensures { λ r. ⌜ (r ≡ text-length modes) × (r ≤ 2 + 67 * modes) ⌝ }
+{
+    let mut length = 2;
+    let mut mode = 0;
+    while mode < modes {
+        length += mode_length(mode);
+        mode += 1;
+    }
+    length
+}
