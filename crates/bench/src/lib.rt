@@ -1,7 +1,11 @@
-// What the tests call from Rust: the calls `resume` and `assign`, and what the tree calls answer.
+// What the tests call from Rust: the calls `resume`, `assign` and the Newick calls, and what the tree calls answer.
 use journal::resuming;
 use journal::resuming::Answer;
 use journal::resuming::Numbers;
+use newick::reading;
+use newick::reading::NewickRead;
+use newick::writing;
+use newick::writing::NewickWritten;
 use topphatt::Assigned;
 use tree::TreeChecked;
 use tree::TreeWeighed;
@@ -81,6 +85,43 @@ pub extern "C" fn bench_tree_weight(modes: usize, tree: &[u16], terms: &[u16], a
     match tree::weight::tree_weight(modes, tree, terms) {
         TreeWeighed::Weight(weight) => put(answer, 0, 0, weight),
         TreeWeighed::Unweighed(refusal) => {
+            put(
+                answer,
+                refusal::number(refusal) as u64,
+                refusal::place(refusal) as u64,
+                0,
+            )
+        }
+    }
+}
+
+// The call `write_newick` as it is; its refusal's number and place follow, and the bytes written.
+#[no_mangle]
+pub extern "C" fn bench_write_newick(
+    modes: usize,
+    tree: &[u16],
+    text: &mut [u8],
+    answer: &mut [u64],
+) {
+    match writing::write_newick(modes, tree, text) {
+        NewickWritten::Written(count) => put(answer, 0, 0, count as u64),
+        NewickWritten::Unwritten(refusal) => {
+            put(
+                answer,
+                refusal::number(refusal) as u64,
+                refusal::place(refusal) as u64,
+                0,
+            )
+        }
+    }
+}
+
+// The call `read_newick` as it is; its refusal's number and place follow, and the modes read.
+#[no_mangle]
+pub extern "C" fn bench_read_newick(text: &[u8], table: &mut [u16], answer: &mut [u64]) {
+    match reading::read_newick(text, table) {
+        NewickRead::Read(modes) => put(answer, 0, 0, modes as u64),
+        NewickRead::Unread(refusal) => {
             put(
                 answer,
                 refusal::number(refusal) as u64,

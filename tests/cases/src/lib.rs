@@ -1,9 +1,11 @@
-//! Test inputs in the domain of document 01, made from a seed: terms of every shape and trees of every growth.
+//! Test inputs in the domain of document 01, made from a seed: terms of every shape and trees of every growth; and the tally of what was compared.
 
+mod kinds;
 mod random;
 mod terms;
 mod trees;
 
+pub use kinds::Kinds;
 pub use random::Random;
 pub use terms::{any_terms, flat, terms, Shape, SHAPES};
 pub use trees::{any_tree, permute_labels, tree, tree_of_rows, Growth, ABSENT, GROWTHS};

@@ -48,6 +48,23 @@ extern "C" {
         answer: *mut u64,
         answer_room: usize,
     );
+    fn bench_write_newick(
+        modes: usize,
+        tree: *const u16,
+        codes: usize,
+        text: *mut u8,
+        text_room: usize,
+        answer: *mut u64,
+        answer_room: usize,
+    );
+    fn bench_read_newick(
+        text: *const u8,
+        bytes: usize,
+        table: *mut u16,
+        table_room: usize,
+        answer: *mut u64,
+        answer_room: usize,
+    );
 }
 
 /// Resumes in the lent slices and returns six numbers: refusal, place, weight, trials, kept and new bytes.
@@ -139,6 +156,41 @@ pub fn tree_weight(modes: usize, tree: &[u16], terms: &[u16]) -> [u64; 3] {
             tree.len(),
             terms.as_ptr(),
             terms.len(),
+            answer.as_mut_ptr(),
+            answer.len(),
+        );
+    }
+    answer
+}
+
+/// Writes the tree into the lent text and returns three numbers: refusal, place, bytes written.
+pub fn write_newick(modes: usize, tree: &[u16], text: &mut [u8]) -> [u64; 3] {
+    let mut answer = [u64::MAX; 3];
+    // The library reads the tree, and writes the two slices within their lengths.
+    unsafe {
+        bench_write_newick(
+            modes,
+            tree.as_ptr(),
+            tree.len(),
+            text.as_mut_ptr(),
+            text.len(),
+            answer.as_mut_ptr(),
+            answer.len(),
+        );
+    }
+    answer
+}
+
+/// Reads the text into the lent table and returns three numbers: refusal, place, modes read.
+pub fn read_newick(text: &[u8], table: &mut [u16]) -> [u64; 3] {
+    let mut answer = [u64::MAX; 3];
+    // The library reads the text, and writes the two slices within their lengths.
+    unsafe {
+        bench_read_newick(
+            text.as_ptr(),
+            text.len(),
+            table.as_mut_ptr(),
+            table.len(),
             answer.as_mut_ptr(),
             answer.len(),
         );
