@@ -1,12 +1,13 @@
--- Document 01's example of the program: P3's input and what it prints, and texts that are malformed. One table, one claim.
+-- Document 01's example of the program: P3's input and what `hatt` and `newick` print for it, and texts that are malformed. One table, one claim.
 use mathlib.Core.Path.{_≡_, refl}
-use mathlib.Core.Bool.{Bool, true}
+use mathlib.Core.Bool.{Bool, true, _&&_}
 use mathlib.Core.List.{List, [], _∷_, _++_, flatMap}
 use Prim.Native.Nat.{ℕ}
 use Rattle.lists.specs.Members.{every, keep, leading, some-of, alike, firsts, firsts-after}
 use Rattle.lists.specs.Counting.{sum, same, occurrences}
 use Rattle.lists.specs.Ranges.{listed, ascends, ascends-from}
 use Rattle.lists.specs.Least.{least, lighter, least-of}
+use Rattle.lists.specs.Written.{written-at}
 use Rattle.terms.specs.Rows.{rows-of, term, terms-of}
 use Rattle.terms.specs.Good.{modes-good, good-indices, good-row, good-rows, checked}
 use Rattle.terms.specs.Weight.{weight-of, term-weight, odd-ones}
@@ -22,7 +23,16 @@ use Rattle.journal.specs.Lines.{lines-after, lines, kept-of}
 use Rattle.journal.specs.Obeying.{obeyed-texts, obeyed}
 use Rattle.journal.specs.Writing.{line-of as journal-line, greedy-lines, new-text}
 use Rattle.journal.specs.Resuming.{ending, with-journal, roomy, with-terms, resumed, hatt-run}
+use Rattle.tree.specs.Table.{nodes, child, place-of, parent-of, climb}
+use Rattle.tree.specs.OneTree.{root-of, leaves-once, absent-once, nodes-once, all-reached, one-tree}
+use Rattle.tree.specs.Pairs.{chain-end, pair-under, pair-right, pairs-right}
+use Rattle.tree.specs.Check.{codes-good, tree-checked}
+use Rattle.newick.specs.Grammar.{spelled}
+use Rattle.newick.specs.Writing.{end-shape, shape-under, newick-text}
+use Rattle.newick.specs.Laying.{row-over, laid-over, laid}
+use Rattle.newick.specs.Calls.{written-as, newick-written, modes-in}
 use Rattle.text.specs.Input.{modes-word, term-word, modes-line, term-line, well-formed, formed-from, formed, term-row, whole, said}
+use Rattle.text.specs.Running.{ended, ran-by, ran}
 use Rattle.text.specs.Output.{
   line-of,
   weight-word,
@@ -33,15 +43,17 @@ use Rattle.text.specs.Output.{
   node-line,
   node-lines,
   refusal-text,
+  done-text,
   printed,
-  answered,
   answer-text,
 }
+use Rattle.text.specs.NewickLine.{line-as, table-line, newick-printed, newick-answer-text}
 
--- A text and what is printed for it.
+-- A text, and what `hatt` and `newick` print for it.
 pub record Case : Type 0 where
   pub reads : List ℕ
   pub prints : List ℕ
+  pub draws : List ℕ
 
 abbrev tab : ℕ
 tab = 9
@@ -71,29 +83,38 @@ output3 =
     ++ ((110 ∷ 111 ∷ 100 ∷ 101 ∷ tab ∷ 49 ∷ tab ∷ 48 ∷ tab ∷ 53 ∷ tab ∷ 45 ∷ 10 ∷ [])
     ++ (110 ∷ 111 ∷ 100 ∷ 101 ∷ tab ∷ 48 ∷ tab ∷ 50 ∷ tab ∷ 51 ∷ tab ∷ 52 ∷ 10 ∷ [])))
 
+-- `((m0,m1,m2)n0,m3,e)n1;`.
+abbrev line3 : List ℕ
+line3 =
+    (40 ∷ 40 ∷ 109 ∷ 48 ∷ 44 ∷ 109 ∷ 49 ∷ 44 ∷ 109 ∷ 50 ∷ 41 ∷ 110 ∷ 48 ∷ [])
+    ++ (44 ∷ 109 ∷ 51 ∷ 44 ∷ 101 ∷ 41 ∷ 110 ∷ 49 ∷ 59 ∷ 10 ∷ [])
+
+-- A text that both refuse alike.
+abbrev both-refuse : List ℕ → List ℕ → List ℕ → Case
+both-refuse text number place = record { reads = text; prints = refused number place; draws = refused number place }
+
 -- The definitions print for the text what the case claims, with 256 modes and 2048 terms at most and room for them.
 unfoldable pub right : Case → Bool
-right case = alike (answer-text 256 2048 16384 1024 5392 (case .reads)) (case .prints)
+right case =
+    alike (answer-text 256 2048 16384 1024 5392 (case .reads)) (case .prints)
+    && alike (newick-answer-text 256 2048 16384 1024 5392 8191 (case .reads)) (case .draws)
 
 unfoldable pub examples : List Case
 examples =
-    record { reads = input3; prints = output3 }
+    record { reads = input3; prints = output3; draws = line3 }
     -- 18: empty, no LF at the end, no index, a leading zero, eight indices
-    ∷ record { reads = []; prints = refused (49 ∷ 56 ∷ []) (48 ∷ []) }
-    ∷ record { reads = modes (50 ∷ []) ++ (116 ∷ []); prints = refused (49 ∷ 56 ∷ []) (49 ∷ []) }
-    ∷ record { reads = modes (50 ∷ []) ++ (116 ∷ 101 ∷ 114 ∷ 109 ∷ 10 ∷ []); prints = refused (49 ∷ 56 ∷ []) (49 ∷ []) }
-    ∷ record { reads = modes (48 ∷ 50 ∷ []); prints = refused (49 ∷ 56 ∷ []) (48 ∷ []) }
-    ∷ record {
-      reads =
-          modes (50 ∷ [])
-          ++ term-of (48 ∷ tab ∷ 48 ∷ tab ∷ 48 ∷ tab ∷ 48 ∷ tab ∷ 48 ∷ tab ∷ 48 ∷ tab ∷ 48 ∷ tab ∷ 48 ∷ []);
-      prints = refused (49 ∷ 56 ∷ []) (49 ∷ []);
-    }
+    ∷ both-refuse [] (49 ∷ 56 ∷ []) (48 ∷ [])
+    ∷ both-refuse (modes (50 ∷ []) ++ (116 ∷ [])) (49 ∷ 56 ∷ []) (49 ∷ [])
+    ∷ both-refuse (modes (50 ∷ []) ++ (116 ∷ 101 ∷ 114 ∷ 109 ∷ 10 ∷ [])) (49 ∷ 56 ∷ []) (49 ∷ [])
+    ∷ both-refuse (modes (48 ∷ 50 ∷ [])) (49 ∷ 56 ∷ []) (48 ∷ [])
+    ∷ both-refuse
+    (modes (50 ∷ []) ++ term-of (48 ∷ tab ∷ 48 ∷ tab ∷ 48 ∷ tab ∷ 48 ∷ tab ∷ 48 ∷ tab ∷ 48 ∷ tab ∷ 48 ∷ tab ∷ 48 ∷ []))
+    (49 ∷ 56 ∷ []) (49 ∷ [])
     -- 1 and 4, which are no matter of form
-    ∷ record { reads = modes (48 ∷ []); prints = refused (49 ∷ []) (48 ∷ []) }
-    ∷ record { reads = modes (49 ∷ []) ++ term-of (50 ∷ []); prints = refused (52 ∷ []) (48 ∷ []) }
+    ∷ both-refuse (modes (48 ∷ [])) (49 ∷ []) (48 ∷ [])
+    ∷ both-refuse (modes (49 ∷ []) ++ term-of (50 ∷ [])) (52 ∷ []) (48 ∷ [])
     ∷ []
 
 pub examples-right : every right examples ≡ true
-unfolding examples right every keep leading some-of alike firsts firsts-after sum same occurrences listed ascends ascends-from least lighter rows-of term terms-of modes-good good-indices good-row good-rows checked weight-of term-weight odd-ones reduction rewriting sorted put-in replacement dropped next-parent among is-open z-end holder rows-after is-lawful three-open paired named entities pairs-with lawful-pairs weight-in candidates least-of chosen greedy finished run-weight trials merge-of code absent-leaf children walk rows-for flatpack is-digit value-after value leads-well is-number digits decimal fields-after fields word version header-text merge-text tabbed lines-after lines kept-of obeyed-texts obeyed journal-line greedy-lines new-text ending with-journal roomy with-terms resumed hatt-run modes-word term-word modes-line term-line well-formed formed-from formed term-row whole said line-of weight-word trials-word node-word refused-word code-text node-line node-lines refusal-text printed answered answer-text flatMap
+unfolding examples right every keep leading some-of alike firsts firsts-after sum same occurrences listed ascends ascends-from least lighter rows-of term terms-of modes-good good-indices good-row good-rows checked weight-of term-weight odd-ones reduction rewriting sorted put-in replacement dropped next-parent among is-open z-end holder rows-after is-lawful three-open paired named entities pairs-with lawful-pairs weight-in candidates least-of chosen greedy finished run-weight trials merge-of code absent-leaf children walk rows-for flatpack is-digit value-after value leads-well is-number digits decimal fields-after fields word version header-text merge-text tabbed lines-after lines kept-of obeyed-texts obeyed journal-line greedy-lines new-text ending with-journal roomy with-terms resumed hatt-run modes-word term-word modes-line term-line well-formed formed-from formed term-row whole said line-of weight-word trials-word node-word refused-word code-text node-line node-lines refusal-text done-text printed ended ran-by ran answer-text nodes child place-of parent-of climb root-of leaves-once absent-once nodes-once all-reached one-tree chain-end pair-under pair-right pairs-right codes-good tree-checked spelled end-shape shape-under newick-text row-over laid-over laid written-as newick-written modes-in line-as table-line newick-printed newick-answer-text written-at flatMap
 examples-right = refl

@@ -21,7 +21,7 @@ use Rattle.text.specs.declared.input.Said.{Said}
 use Rattle.text.specs.declared.input.Said.the-variants.{Given, Malformed}
 use Rattle.text.specs.declared.input.Terms.{Terms}
 use Rattle.text.specs.Input.{modes-line, well-formed, formed-from, formed, whole, said, given, malformed}
-use Rattle.text.specs.Output.{refusal-text, printed, answered, answer-text}
+use Rattle.text.specs.Running.{stopped, ended, ran-by, ran}
 use Rattle.text.specs.Reading.{modes-said, all-terms, TermsRead, meant-by, terms-given, Reads}
 
 eqb-behind : (n a b : ℕ) → eqb (n + a) (n + b) ≡ eqb a b
@@ -142,16 +142,16 @@ module _ (most : ℕ) (text numbers : List ℕ) (r : Said) (reads : Reads most (
     unfolding terms-given
     given-few = rw e at (reads .few)
 
-    pub given-answer : (modes-most work rows journal : ℕ)
-        → printed (hatt-run modes-most n (take (8 * count) numbers) work rows journal) ≡ answer-text modes-most most work rows journal text
-    unfolding answer-text answered meant-by
-    given-answer modes-most work rows journal =
+    pub given-ran : (modes-most work rows journal : ℕ)
+        → ended (hatt-run modes-most n (take (8 * count) numbers) work rows journal) ≡ ran modes-most most work rows journal text
+    unfolding ran ran-by meant-by
+    given-ran modes-most work rows journal =
         let says : given n (take (8 * count) numbers) ≡ said most text = rw e at (reads .says) in
         rw (← says)
 
-  pub malformed-answer : (line : ℕ) → r ≡ Malformed line → (modes-most work rows journal : ℕ)
-      → refusal-text (Badly line) ≡ answer-text modes-most most work rows journal text
-  unfolding answer-text answered meant-by
-  malformed-answer line e modes-most work rows journal =
+  pub malformed-ran : (line : ℕ) → r ≡ Malformed line → (modes-most work rows journal : ℕ)
+      → stopped (Badly line) ≡ ran modes-most most work rows journal text
+  unfolding ran ran-by meant-by
+  malformed-ran line e modes-most work rows journal =
       let says : malformed line ≡ said most text = rw e at (reads .says) in
       rw (← says)

@@ -5,5 +5,6 @@ pub mod FieldsCounted
 pub mod LineWords
 pub mod TermsAhead
 pub mod InputSaid
-pub mod Answered
+pub mod RunEnds
 pub mod LongInput
+pub mod LinePrinted

@@ -22,7 +22,8 @@ use Rattle.journal.proofs.Tabbed.{tabbed-fields}
 use Rattle.journal.proofs.LinesJoined.{lines-joined, kept-line, lines-one, lines-are-lines, line-cut}
 use Rattle.journal.proofs.LineSteps.{first-line-stands, next-line, no-next-line}
 use Rattle.text.specs.Input.{modes-word, term-word, modes-line, term-line, well-formed, formed-from, formed, whole, said, malformed}
-use Rattle.text.specs.Output.{answered, answer-text}
+use Rattle.text.specs.Running.{ran-by, ran}
+use Rattle.text.specs.Output.{printed, answer-text}
 
 -- A number has five digits at most.
 short-number : (field : List ℕ) → is-number field ≡ true → length field ≤ 5
@@ -197,8 +198,13 @@ cut-says most cut text h = go (ltb cut (length text)) refl
         ∙ sym (too-long most text (omega arith))
     go false e = ap (said most) (take-all cut text (ltb-false cut (length text) e))
 
--- And it is answered as the whole text is: a buffer of that many bytes and one is enough for an input of any length.
+-- And its run ends as that of the whole text does: a buffer of that many bytes and one is enough for an input of any length.
+pub cut-runs : (modes-most most work rows journal cut : ℕ) (text : List ℕ) → 12 + 47 * most < cut
+    → ran modes-most most work rows journal (take cut text) ≡ ran modes-most most work rows journal text
+unfolding ran
+cut-runs modes-most most work rows journal cut text h = ap (ran-by modes-most work rows journal) (cut-says most cut text h)
+
 pub cut-answers : (modes-most most work rows journal cut : ℕ) (text : List ℕ) → 12 + 47 * most < cut
     → answer-text modes-most most work rows journal (take cut text) ≡ answer-text modes-most most work rows journal text
 unfolding answer-text
-cut-answers modes-most most work rows journal cut text h = ap (answered modes-most work rows journal) (cut-says most cut text h)
+cut-answers modes-most most work rows journal cut text h = ap printed (cut-runs modes-most most work rows journal cut text h)

@@ -15,8 +15,7 @@ use Rattle.terms.specs.Rows.{rows-of}
 use Rattle.terms.proofs.RowSteps.{rows-more}
 use Rattle.journal.specs.Decimal.{decimal}
 use Rattle.journal.specs.Fields.{tabbed}
-use Rattle.text.specs.Output.{line-of, weight-word, trials-word, node-word, refused-word, code-text, node-line, node-lines, refusal-text}
-use Rattle.text.specs.Printing.{done-text}
+use Rattle.text.specs.Output.{line-of, weight-word, trials-word, node-word, refused-word, code-text, node-line, node-lines, refusal-text, done-text}
 
 -- What was written over the front stands there.
 pub front-is : (part before after : List ℕ) (end : ℕ) → end ≡ length part → after ≡ written-at 0 part before → end ≤ length before → take end after ≡ part

@@ -5,13 +5,11 @@ use Prim.Native.Nat.{ℕ, _/_}
 use lib.Dec.{eqb}
 use lib.ListN.{length}
 use Rattle.refusal.specs.declared.Refusal.{Refusal}
-use Rattle.refusal.specs.declared.Refusal.the-variants.{Malformed}
 use Rattle.refusal.specs.Numbers.{numberOf, placeOf}
 use Rattle.terms.specs.Rows.{rows-of}
 use Rattle.journal.specs.Decimal.{decimal}
 use Rattle.journal.specs.Fields.{tabbed}
-use Rattle.journal.specs.Resuming.{Outcome, done, refuses, hatt-run}
-use Rattle.text.specs.Input.{Said, given, malformed, said}
+use Rattle.text.specs.Running.{Ended, came, stopped, ran}
 
 -- A line: fields parted by tabs, and LF.
 unfoldable pub line-of : List (List ℕ) → List ℕ
@@ -46,18 +44,17 @@ node-lines rows = flatMap node-line (rows-of 4 (length rows / 4) rows)
 unfoldable pub refusal-text : Refusal → List ℕ
 refusal-text refusal = line-of (refused-word ∷ (decimal (numberOf refusal) ∷ (decimal (placeOf refusal) ∷ [])))
 
--- What a call's outcome prints as.
-unfoldable pub printed : Outcome → List ℕ
-printed (done ending) =
-    line-of (weight-word ∷ (decimal (ending .weight) ∷ []))
-    ++ (line-of (trials-word ∷ (decimal (ending .trials) ∷ [])) ++ node-lines (ending .rows))
-printed (refuses refusal) = refusal-text refusal
+-- A finished run: weight, trials, and the lines of its rows.
+unfoldable pub done-text : ℕ → ℕ → List ℕ → List ℕ
+done-text weight trials rows =
+    line-of (weight-word ∷ (decimal weight ∷ []))
+    ++ (line-of (trials-word ∷ (decimal trials ∷ [])) ++ node-lines rows)
 
--- 18 is "before any other number".
-unfoldable pub answered : ℕ → ℕ → ℕ → ℕ → Said → List ℕ
-answered modes-most work rows journal (given modes numbers) = printed (hatt-run modes-most modes numbers work rows journal)
-answered modes-most work rows journal (malformed line) = refusal-text (Malformed line)
+-- What a run's end prints as.
+unfoldable pub printed : Ended → List ℕ
+printed (came weight trials rows) = done-text weight trials rows
+printed (stopped refusal) = refusal-text refusal
 
 -- The program's answer to a text: with so many modes and terms at most, and so much room of its own for work, rows and journal.
 unfoldable pub answer-text : ℕ → ℕ → ℕ → ℕ → ℕ → List ℕ → List ℕ
-answer-text modes-most most work rows journal bytes = answered modes-most work rows journal (said most bytes)
+answer-text modes-most most work rows journal bytes = printed (ran modes-most most work rows journal bytes)

@@ -5,8 +5,7 @@ ghost use Prim.Native.Nat.{_+_, _*_, _/_, _≤_};
 ghost use lib.ListN.{length};
 ghost use Rattle.lists.specs.Written.{«written-at»};
 ghost use Rattle.journal.specs.Decimal.{decimal};
-ghost use Rattle.text.specs.Output.{«code-text», «node-line», «node-lines», «refusal-text»};
-ghost use Rattle.text.specs.Printing.{«done-text»};
+ghost use Rattle.text.specs.Output.{«code-text», «node-line», «node-lines», «refusal-text», «done-text»};
 use journal::putting;
 use refusal::Refusal;
 

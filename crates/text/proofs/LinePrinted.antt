@@ -1,0 +1,116 @@
+-- A tree's text written with a byte's room behind it, and the line that it is printed as.
+use mathlib.Core.Path.{_≡_, refl, ap, _∙_, sym}
+use mathlib.Core.Bool.{Bool, true, false, cond}
+use mathlib.Core.List.{List, [], _∷_, _++_, append-assoc}
+use Prim.Native.Nat.{ℕ, _+_, _*_, _/_, _<_, _≤_}
+use native.Mathlib.Omega.{arith}
+use borrow.Author.Tests.{leb-true}
+use lib.Dec.{leb}
+use lib.ListN.{length, take, drop, set, replicate, take-append-drop}
+use lib.Seq.{drop-append-le, length-take-le}
+use Rattle.lists.specs.Written.{written-at}
+use Rattle.lists.proofs.Written.{length-written, part-written}
+use Rattle.lists.proofs.Writes.{written-next}
+use Rattle.refusal.specs.declared.Refusal.{Refusal}
+use Rattle.refusal.specs.declared.Refusal.the-variants.{Room}
+use Rattle.tree.specs.declared.TreeChecked.{TreeChecked}
+use Rattle.tree.specs.declared.TreeChecked.the-variants.{Accepted, Refused as Unaccepted}
+use Rattle.tree.specs.Table.{absent}
+use Rattle.tree.specs.Check.{tree-checked}
+use Rattle.newick.specs.declared.writing.NewickWritten.{NewickWritten}
+use Rattle.newick.specs.declared.writing.NewickWritten.the-variants.{Written, Unwritten}
+use Rattle.newick.specs.Writing.{newick-text}
+use Rattle.newick.specs.Laying.{laid, laid-over}
+use Rattle.newick.specs.Calls.{written-as, newick-written, text-after, modes-in}
+use Rattle.text.specs.declared.running.Ran.{Ran}
+use Rattle.text.specs.declared.running.Ran.the-variants.{Done, Refused}
+use Rattle.text.specs.Running.{Ended, came, ended-as, Runs}
+use Rattle.text.specs.Output.{refusal-text}
+use Rattle.text.specs.NewickLine.{line-as, table-line, newick-printed, newick-answer-text}
+use Rattle.text.proofs.LongInput.{cut-runs}
+
+-- Written over the front of a list's front, a part is written over the list's.
+front-over : (part s : List ℕ) (room : ℕ) → length part ≤ room → room ≤ length s → written-at 0 part (take room s) ++ drop room s ≡ written-at 0 part s
+unfolding written-at
+front-over part s room h k =
+    let end = 0 + length part in
+    append-assoc part (drop end (take room s)) (drop room s)
+    ∙ ap (λ l. part ++ l)
+    (sym (drop-append-le end (take room s) (drop room s) (omega (arith, length-take-le room s k))) ∙ ap (drop end) (take-append-drop room s))
+
+-- What was written has the text's length and fits.
+pub record Fits (text : List ℕ) (room count : ℕ) : Type 0 where
+  pub exact : count ≡ length text
+  pub within : length text ≤ room
+
+written-fits : (checked : TreeChecked) (text : List ℕ) (room count : ℕ) → Written count ≡ written-as checked text room → Fits text room count
+unfolding written-as
+written-fits Accepted text room count e = go (leb (length text) room) refl e
+  where
+    go : (b : Bool) → leb (length text) room ≡ b → Written count ≡ cond b (Written (length text)) (Unwritten Room) → Fits text room count
+    go true f e = record { exact = cc; within = leb-true (length text) room f }
+    go false f e = let z : _≡_ {A = ℕ} 0 1 = cc in absurd (omega arith)
+written-fits (Unaccepted refusal) text room count e = let z : _≡_ {A = ℕ} 0 1 = cc in absurd (omega arith)
+
+module _ (most modes : ℕ) (table : List ℕ) (room : ℕ) where
+  abbrev text : List ℕ
+  text = newick-text modes table
+
+  abbrev means : NewickWritten
+  means = newick-written most modes table room
+
+  pub line-fits : (count : ℕ) → Written count ≡ means → Fits text room count
+  unfolding newick-written
+  line-fits count e = written-fits (tree-checked most modes table) text room count e
+
+  module _ (out : List ℕ) where
+    -- Written over the front of what is lent, the text is written over all of it.
+    pub after-front : room ≤ length out → (r : NewickWritten) → r ≡ means → text-after r text (take room out) ++ drop room out ≡ text-after r text out
+    unfolding text-after
+    after-front k (Written count) e = front-over text out room (line-fits count e .within) k
+    after-front k (Unwritten refusal) e = take-append-drop room out
+
+    -- LF behind the text makes the line.
+    pub written-line : room < length out → (count : ℕ) (after : List ℕ) → Written count ≡ means → after ≡ text-after (Written count) text out
+        → take (count + 1) (set after count 10) ≡ table-line most room modes table
+    unfolding text-after table-line line-as
+    written-line k count after e f =
+        let fits = line-fits count e in
+        let size : length after ≡ length out = ap length f ∙ length-written 0 text out (omega (arith, fits .within)) in
+        let front : take count after ≡ text = rw (f, fits .exact) (part-written 0 text out (omega (arith, fits .within))) in
+        written-next after count 10 (omega (arith, fits .exact, fits .within))
+        ∙ ap (λ l. l ++ (10 ∷ [])) front
+        ∙ ap (λ r. line-as r text) e
+
+  -- A refusal is printed as one.
+  pub refused-line : (refusal : Refusal) → Unwritten refusal ≡ means → refusal-text refusal ≡ table-line most room modes table
+  unfolding table-line line-as
+  refused-line refusal e = ap (λ r. line-as r text) e
+
+-- Rows laid over a table of their size are laid out.
+pub laid-in : (modes : ℕ) (rows before after : List ℕ) → length before ≡ 3 * modes → after ≡ laid-over (replicate (length before) absent) rows
+    → after ≡ laid modes rows
+unfolding laid
+laid-in modes rows before after size e = e ∙ ap (λ n. laid-over (replicate n absent) rows) size
+
+-- What is printed of a run, case by case.
+module _ (most room : ℕ) (means : Ended) (rows : List ℕ) (r : Ran) (runs : Runs most means rows r) where
+  pub refused-newick : (refusal : Refusal) → r ≡ Refused refusal → refusal-text refusal ≡ newick-printed most room means
+  unfolding ended-as newick-printed
+  refused-newick refusal e = ap (newick-printed most room) (rw e at (runs .says))
+
+  pub done-newick : (modes weight trials : ℕ) → r ≡ Done modes weight trials → 4 * modes ≤ length rows
+      → table-line most room modes (laid modes (take (4 * modes) rows)) ≡ newick-printed most room means
+  unfolding ended-as newick-printed modes-in
+  done-newick modes weight trials e k =
+      let front = take (4 * modes) rows in
+      let size : modes ≡ length front / 4 = omega (arith, length-take-le (4 * modes) rows k) in
+      let says : came weight trials front ≡ means = rw e at (runs .says) in
+      ap (λ n. table-line most room n (laid n front)) size ∙ ap (newick-printed most room) says
+
+-- A text cut behind the longest well-formed one is answered as the whole text is.
+pub cut-newick : (modes-most most work rows journal room cut : ℕ) (text : List ℕ) → 12 + 47 * most < cut
+    → newick-answer-text modes-most most work rows journal room (take cut text) ≡ newick-answer-text modes-most most work rows journal room text
+unfolding newick-answer-text
+cut-newick modes-most most work rows journal room cut text h =
+    ap (newick-printed modes-most room) (cut-runs modes-most most work rows journal cut text h)

@@ -1,0 +1,86 @@
+-- What was read says what the text says: it is malformed, or its terms are run.
+use mathlib.Core.Path.{sym}
+use Prim.Native.Nat.{_*_, _≤_}
+use native.Mathlib.Omega.{arith}
+use borrow.Author.Needs.{needs}
+use lib.Seq.{length-take-le}
+use lib.ListN.{length}
+use Rattle.refusal.specs.declared.Refusal.the-variants.{Malformed}
+use Rattle.text.proofs.InputSaid.{given-few, given-ran, malformed-ran}
+use Rattle.text.proofs.RunEnds.{stopped-runs, same-runs}
+use Rattle.text.proofs.running.run_read.Statement.{statement}
+use Rattle.text.proofs.running.run_read.Tie as tie
+
+read-input-requires : tie.Need-read-input-requires
+read-input-requires c κs = search needs
+
+enum-known-line : tie.Need-enum-known-line
+enum-known-line c = search needs
+
+enum-known-modes : tie.Need-enum-known-modes
+enum-known-modes c = search needs
+
+mul-end : tie.Need-mul-end
+mul-end c =
+    let start = c .before .before .before .before .before .before .before .before .before .before in
+    let read = c .before .before .before .before .before .read-input in
+    let told = c .before .modes .given in
+    omega (arith, given-few 2048 (start .args .input .now) _ _ (read .ensures) _ _ (told .1))
+
+slice-reshare-prefix-run-given : tie.Need-slice-reshare-prefix-run-given
+slice-reshare-prefix-run-given c =
+    let start = c .before .before .before .before .before .before .before .before .before .before in
+    let read = c .before .before .before .before .before .read-input in
+    let told = c .before .modes .given in
+    omega (arith, given-few 2048 (start .args .input .now) _ _ (read .ensures) _ _ (told .1), read .kept, start .pre .0)
+
+slice-aggregate-run-given : tie.Need-slice-aggregate-run-given
+slice-aggregate-run-given c =
+    let start = c .before .before .before .before .before .before .before .before .before .before .before in
+    let read = c .before .before .before .before .before .before .read-input in
+    let told = c .before .before .modes .given in
+    let room : 8 * told .0 .1 .0 ≤ length (read .last .1 .0) = omega (arith, given-few 2048 (start .args .input .now) _ _ (read .ensures) _ _ (told .1), read .kept, start .pre .0) in
+    sym (length-take-le (8 * told .0 .1 .0) (read .last .1 .0) room)
+
+run-given-requires : tie.Need-run-given-requires
+run-given-requires c κs = search needs
+
+same-length : tie.Need-same-length
+same-length c = search needs
+
+returns : tie.Need-returns
+returns c =
+    let start = c .before .before .before .before .before .before .before .before .before .before in
+    let read = c .before .before .before .before .before .read-input in
+    let told = c .before .line .given in
+    stopped-runs 256 _ _ (Malformed (told .0 .0)) (malformed-ran 2048 (start .args .input .now) _ _ (read .ensures) _ (told .1) 256 16384 1024 5392)
+
+same-length-2 : tie.Need-same-length-2
+same-length-2 c = search needs
+
+same-length-3 : tie.Need-same-length-3
+same-length-3 c = search needs
+
+returns-2 : tie.Need-returns-2
+returns-2 c =
+    let start = c .before .before .before .before .before .before .before .before .before .before .before .before .before .before .before in
+    let read = c .before .before .before .before .before .before .before .before .before .before .read-input in
+    let told = c .before .before .before .before .before .before .modes .given in
+    same-runs 256 _ _ _ _ (given-ran 2048 (start .args .input .now) _ _ (read .ensures) _ _ (told .1) 256 16384 1024 5392) (c .before .before .run-given .ensures)
+
+pub run-read-spec : {M : Type 1} → statement M
+run-read-spec =
+    tie.close
+    (tie.spec
+    read-input-requires
+    enum-known-line
+    enum-known-modes
+    mul-end
+    slice-reshare-prefix-run-given
+    slice-aggregate-run-given
+    run-given-requires
+    same-length
+    returns
+    same-length-2
+    same-length-3
+    returns-2)

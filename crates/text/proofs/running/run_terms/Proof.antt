@@ -1,0 +1,66 @@
+-- The answer is a refusal, or a run whose rows stand in front: either way it says what the definitions end in.
+use mathlib.Core.Path.{sym, _∙_}
+use borrow.Author.Needs.{needs}
+use Rattle.text.proofs.RunEnds.{refused-runs, done-runs}
+use Rattle.text.proofs.running.run_terms.Statement.{statement}
+use Rattle.text.proofs.running.run_terms.Tie as tie
+
+hatt-requires : tie.Need-hatt-requires
+hatt-requires c κs = search needs
+
+enum-known-refusal : tie.Need-enum-known-refusal
+enum-known-refusal c = search needs
+
+enum-known-found : tie.Need-enum-known-found
+enum-known-found c = search needs
+
+same-length : tie.Need-same-length
+same-length c = search needs
+
+same-length-2 : tie.Need-same-length-2
+same-length-2 c = search needs
+
+same-length-3 : tie.Need-same-length-3
+same-length-3 c = search needs
+
+returns : tie.Need-returns
+returns c =
+    let start = c .before .before .before .before .before .before .before .before .before .before .before .before .before .before .before .before .before in
+    let hatt = c .before .before .before .before .before .before .before .before .before .hatt in
+    let refusal = c .before .refusal .given in
+    let args = start .args in
+    refused-runs (args .modes) (args .numbers .now) _ _ _ (start .pre .0) (start .pre .1) (start .pre .2) (refusal .0 .0) _ (sym (refusal .1) ∙ hatt .ensures .answer)
+
+same-length-4 : tie.Need-same-length-4
+same-length-4 c = search needs
+
+same-length-5 : tie.Need-same-length-5
+same-length-5 c = search needs
+
+same-length-6 : tie.Need-same-length-6
+same-length-6 c = search needs
+
+returns-2 : tie.Need-returns-2
+returns-2 c =
+    let start = c .before .before .before .before .before .before .before .before .before .before .before .before .before .before .before .before .before in
+    let hatt = c .before .before .before .before .before .before .before .before .before .hatt in
+    let found = c .before .found .given in
+    let args = start .args in
+    done-runs (args .modes) (args .numbers .now) _ _ _ (start .pre .0) (start .pre .1) (start .pre .2) (args .rows .now) _ (found .0 .0) (start .pre .1)
+    (sym (found .1) ∙ hatt .ensures .answer) (hatt .ensures .rows-is)
+
+pub run-terms-spec : {M : Type 1} → statement M
+run-terms-spec =
+    tie.close
+    (tie.spec
+    hatt-requires
+    enum-known-refusal
+    enum-known-found
+    same-length
+    same-length-2
+    same-length-3
+    returns
+    same-length-4
+    same-length-5
+    same-length-6
+    returns-2)

@@ -1,0 +1,93 @@
+// The tree that a text's run ends in, printed as a Newick line.
+ghost use mathlib.Core.Path.{_≡_};
+ghost use Prim.Native.Nat.{_*_, _≤_};
+ghost use lib.ListN.{length, take};
+ghost use Rattle.newick.specs.Writing.{«newick-text»};
+ghost use Rattle.newick.specs.Laying.{laid};
+ghost use Rattle.newick.specs.Calls.{«newick-written», «text-after»};
+ghost use Rattle.text.specs.NewickLine.{«table-line», «newick-answer-text»};
+use crate::Printed;
+use crate::output;
+use crate::running;
+use crate::running::Ran;
+use newick::laying;
+use newick::writing;
+use newick::writing::NewickWritten;
+
+// A tree's text written over the front, with room for a byte behind it.
+fn write_text(out: &mut [u8], modes: usize, tree: &[u16]) -> NewickWritten
+    requires { ⌜ length (now out) ≡ 8192 ⌝ }
+    ensures { λ r. ⌜ r ≡ newick-written 256 modes (now (tree .entry)) 8191 ⌝ }
+    ensures { λ r. ⌜ now (out .exit) ≡ text-after r (newick-text modes (now (tree .entry))) (now (out .entry)) ⌝ }
+{
+    writing::write_newick(modes, tree, &mut out[..8191])
+}
+
+// A tree's line printed over the front; how many bytes that is.
+fn put_line(out: &mut [u8], modes: usize, tree: &[u16]) -> usize
+    requires { ⌜ length (now out) ≡ 8192 ⌝ }
+    ensures { λ r. ⌜ (take r (now (out .exit)) ≡ table-line 256 8191 modes (now (tree .entry))) × (r ≤ 8192) ⌝ }
+{
+    match write_text(out, modes, tree) {
+        NewickWritten::Unwritten(refusal) => output::put_refusal(out, refusal),
+        NewickWritten::Written(count) => {
+            out[count] = b'\n';
+            count + 1
+        }
+    }
+}
+
+// The line of rows, laid out in a lent table of their size.
+fn put_laid(out: &mut [u8], modes: usize, rows: &[u16], table: &mut [u16]) -> usize
+    requires { ⌜ (length (now out) ≡ 8192) × (length (now table) ≡ 3 * modes) ⌝ }
+    ensures { λ r. ⌜ (take r (now (out .exit)) ≡ table-line 256 8191 modes (laid modes (now (rows .entry)))) × (r ≤ 8192) ⌝ }
+{
+    laying::lay_rows(rows, table);
+    put_line(out, modes, table)
+}
+
+// The same in the front of a lent table for any.
+fn put_rows(out: &mut [u8], modes: usize, rows: &[u16], table: &mut [u16]) -> usize
+    requires { ⌜ (length (now out) ≡ 8192) × (modes ≤ 256) × (length (now table) ≡ 768) ⌝ }
+    ensures { λ r. ⌜ (take r (now (out .exit)) ≡ table-line 256 8191 modes (laid modes (now (rows .entry)))) × (r ≤ 8192) ⌝ }
+{
+    let end = 3 * modes;
+    put_laid(out, modes, rows, &mut table[..end])
+}
+
+// The answer to a text printed over the front, in lent room for its rows and its table; how many bytes that is.
+fn print_newick(input: &[u8], rows: &mut [u16], table: &mut [u16], out: &mut [u8]) -> usize
+    requires { ⌜ (length (now rows) ≡ 1024) × (length (now table) ≡ 768) × (length (now out) ≡ 8192) ⌝ }
+    ensures { λ r. ⌜ (take r (now (out .exit)) ≡ newick-answer-text 256 2048 16384 1024 5392 8191 (now (input .entry))) × (r ≤ 8192) ⌝ }
+{
+    match running::run_text(input, rows) {
+        Ran::Refused(refusal) => output::put_refusal(out, refusal),
+        Ran::Done(modes, _, _) => {
+            let end = 4 * modes;
+            put_rows(out, modes, &rows[..end], table)
+        }
+    }
+}
+
+// The same in room of its own.
+fn put_newick(input: &[u8], out: &mut [u8]) -> usize
+    requires { ⌜ length (now out) ≡ 8192 ⌝ }
+    ensures { λ r. ⌜ (take r (now (out .exit)) ≡ newick-answer-text 256 2048 16384 1024 5392 8191 (now (input .entry))) × (r ≤ 8192) ⌝ }
+{
+    let mut rows = [0u16; 1024];
+    let mut table = [0u16; 768];
+    print_newick(input, &mut rows, &mut table, out)
+}
+
+// The answer to a text as a Newick line.
+pub fn answer_newick(input: &[u8]) -> Printed
+    ensures { λ r. ⌜ take (r .count) (r .bytes) ≡ newick-answer-text 256 2048 16384 1024 5392 8191 (now (input .entry)) ⌝ }
+    ensures { λ r. ⌜ (r .count ≤ 8192) × (length (r .bytes) ≡ 8192) ⌝ }
+{
+    let mut bytes = [0u8; 8192];
+    let count = put_newick(input, &mut bytes);
+    Printed {
+        bytes: bytes,
+        count: count,
+    }
+}
