@@ -7,15 +7,12 @@ use Rattle.lists.specs.Counting.{same, occurrences}
 use Rattle.lists.specs.Members.{every, some-of, leading, alike}
 use Rattle.lists.specs.Ranges.{listed}
 use Rattle.lists.specs.Written.{written-at}
-use Rattle.refusal.specs.Numbers.{numberOf, placeOf}
 use Rattle.terms.specs.Good.{modes-good}
 use Rattle.journal.specs.Decimal.{is-digit, value-after, value, leads-well, is-number, digits, decimal}
 use Rattle.tree.specs.Table.{absent, nodes, child, place-of, parent-of, climb}
 use Rattle.tree.specs.OneTree.{root-of, leaves-once, absent-once, nodes-once, all-reached, one-tree}
 use Rattle.tree.specs.Pairs.{chain-end, pair-under, pair-right, pairs-right}
 use Rattle.tree.specs.Check.{codes-good, tree-checked}
-use Rattle.newick.specs.declared.reading.NewickRead.{NewickRead}
-use Rattle.newick.specs.declared.reading.NewickRead.the-variants.{Read, Unread}
 use Rattle.newick.specs.Grammar.{spelled}
 use Rattle.newick.specs.Writing.{end-shape, shape-under, newick-text}
 use Rattle.newick.specs.Reading.{
@@ -34,7 +31,7 @@ use Rattle.newick.specs.Reading.{
   text-read,
 }
 use Rattle.newick.specs.Laying.{in-range, code-of, row-over, laid-over, laid}
-use Rattle.newick.specs.Calls.{modes-in, table-in, taken-as, read-as, newick-read}
+use Rattle.newick.specs.Calls.{read-numbers, modes-in, table-in, taken-as, read-as, newick-read}
 
 -- "P3's tree is `((m0,m1,m2)n0,m3,e)n1;` with no spaces."
 abbrev tree3 : List ℕ
@@ -47,15 +44,11 @@ pub written3 : newick-text 2 tree3 ≡ text3
 unfolding newick-text spelled shape-under end-shape root-of climb parent-of place-of leading child decimal digits
 written3 = refl
 
--- A text read into so much room, and what the call says of it: a refusal's number, 0 for none, its place, and the modes read.
+-- A text read into so much room, and the numbers that the call answers.
 pub record Case : Type 0 where
   pub text : List ℕ
   pub room : ℕ
   pub shown : List ℕ
-
-unfoldable pub says : NewickRead → List ℕ
-says (Read modes) = 0 ∷ 0 ∷ modes ∷ []
-says (Unread refusal) = numberOf refusal ∷ placeOf refusal ∷ 0 ∷ []
 
 -- Texts of at most one node.
 abbrev cases : List Case
@@ -85,6 +78,6 @@ cases =
     ∷ record { text = 40 ∷ 109 ∷ 49 ∷ 44 ∷ 109 ∷ 48 ∷ 44 ∷ 101 ∷ 41 ∷ 110 ∷ 48 ∷ 59 ∷ []; room = 3; shown = 16 ∷ 0 ∷ 0 ∷ [] }
     ∷ []
 
-pub cases-hold : every (λ case. alike (says (newick-read 1 (case .text) (case .room))) (case .shown)) cases ≡ true
-unfolding says newick-read read-as taken-as modes-in table-in laid laid-over row-over in-range code-of text-read node-read inside named child-by numbered number-digits digits-on marked expected byte-at follows leaf-name written-at tree-checked codes-good modes-good one-tree root-of leaves-once absent-once nodes-once all-reached nodes child place-of parent-of climb chain-end pair-under pair-right pairs-right is-number is-digit value value-after leads-well every some-of leading alike listed occurrences same
+pub cases-hold : every (λ case. alike (read-numbers (newick-read 1 (case .text) (case .room))) (case .shown)) cases ≡ true
+unfolding newick-read read-as taken-as modes-in table-in laid laid-over row-over in-range code-of text-read node-read inside named child-by numbered number-digits digits-on marked expected byte-at follows leaf-name written-at tree-checked codes-good modes-good one-tree root-of leaves-once absent-once nodes-once all-reached nodes child place-of parent-of climb chain-end pair-under pair-right pairs-right is-number is-digit value value-after leads-well every some-of leading alike listed occurrences same
 cases-hold = refl

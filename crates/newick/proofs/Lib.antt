@@ -18,8 +18,10 @@ pub mod DigitsTheSame
 pub mod ReadTheSame
 pub mod Beginnings
 pub mod ShapeBegun
+pub mod HigherRead
 pub mod TextBegun
 pub mod TextStops
+pub mod FormRefused
 pub mod TextCrowded
 pub mod NumberAhead
 pub mod PartsRead

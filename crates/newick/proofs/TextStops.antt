@@ -1,22 +1,21 @@
--- A text refused by 19: up to the place such a text begins, and with the byte at the place none is accepted.
+-- A text refused by 19: up to the place such a text begins, and with the byte at the place none begins so.
 use mathlib.Core.Path.{_≡_, refl, ap, _∙_, sym}
 use mathlib.Core.Bool.{Bool, true, false, cond}
 use mathlib.Core.List.{List, [], _++_}
 use mathlib.Core.Logic.{inl, inr}
-use Prim.Native.Nat.{ℕ, suc, _<_, _≤_}
+use Prim.Native.Nat.{ℕ, suc, _+_, _<_, _≤_}
 use native.Mathlib.Omega.{arith}
 use borrow.Author.Tests.{eqb-false, ne-eqb}
 use lib.Dec.{eqb}
 use lib.ListN.{length, take, length-append, List·getD-eq-default, List·getD-append}
 use lib.Seq.{length-take-le, getD-take}
-use Rattle.refusal.specs.declared.Refusal.the-variants.{NewickForm}
-use Rattle.newick.specs.declared.reading.NewickRead.the-variants.{Read, Unread}
 use Rattle.newick.specs.Reading.{Reading, got, stuck, crowded, follows, byte-at, node-read, text-read}
-use Rattle.newick.specs.Calls.{newick-read, read-as}
 use Rattle.newick.specs.Stops.{StopsAt}
+use Rattle.newick.proofs.Shapes.{name-of, rows-in}
 use Rattle.newick.proofs.DigitsTheSame.{Alike}
 use Rattle.newick.proofs.ReadTheSame.{reach, Same, same-marked, same-node}
-use Rattle.newick.proofs.WholeText.{root-read}
+use Rattle.newick.proofs.HigherRead.{higher-read}
+use Rattle.newick.proofs.WholeText.{root-read, text-ahead}
 use Rattle.newick.proofs.TextBegun.{TextBegun, root-short, root-whole}
 
 -- Reading a text stops before it is whole, or behind the `;` where more stands.
@@ -112,8 +111,7 @@ module _ (most : ℕ) (text : List ℕ) (place : ℕ) where
           more-behind name rows (same (rw e (omega arith)) ∙ e)
           (λ p. absurd (omega (arith, length-append (take (suc place) text) beyond, length-take-le (suc place) text h)))
 
-pub text-stops : (most : ℕ) (text : List ℕ) (place : ℕ) → text-read most text ≡ stuck place → StopsAt most text place
-unfolding newick-read read-as
+pub text-stops : (most : ℕ) (text : List ℕ) (place : ℕ) → text-read most text ≡ stuck place → StopsAt text place
 text-stops most text place e =
     let s = text-stuck most text place e in
     let b = front-begun most text place s in
@@ -121,11 +119,17 @@ text-stops most text place e =
       within = stuck-within most text place s;
       shape = b .0 .shape;
       rest = b .0 .rest;
-      more = b .1;
       begins = b .0 .spells;
+      more = b .1;
       no-further =
-          λ h beyond room modes f.
-          let g : Unread (NewickForm place) ≡ Read modes = rw (stuck-again most text place s h beyond) at f in
+          λ h other beyond spells.
+          let begun = take (suc place) text ++ beyond in
+          let stops = stuck-again most text place s h beyond in
+          let enough = most + length (rows-in other) in
+          let few : (p : ℕ) → text-read most begun ≡ crowded p → ⊥ =
+          λ p f. let g : stuck place ≡ crowded p = sym stops ∙ f in let z : _≡_ {A = ℕ} 0 1 = cc in omega arith in
+          let g : got (name-of other) (rows-in other) (length begun) ≡ stuck place =
+          sym (text-ahead enough other begun spells (omega arith)) ∙ higher-read begun most enough (omega arith) few ∙ stops in
           let z : _≡_ {A = ℕ} 0 1 = cc in
           omega arith;
     }

@@ -1,13 +1,14 @@
 -- "reading gives 19 …, or 1 at a 257th `(` if that stands first; then 15, …, 16, and 5 where the table is below 3n; writing gives 1, 13 to
 -- 16, then 5 where the text's exact length doesn't fit."
 use mathlib.Core.Bool.{cond}
-use mathlib.Core.List.{List, [], map}
+use mathlib.Core.List.{List, [], _∷_, map}
 use Prim.Native.Nat.{ℕ, _*_, _/_}
 use lib.Dec.{leb}
 use lib.ListN.{length}
 use Rattle.lists.specs.Members.{every}
 use Rattle.lists.specs.Written.{written-at}
 use Rattle.refusal.specs.declared.Refusal.the-variants.{Room, NotOneTree, NewickForm, TooManyNodes}
+use Rattle.refusal.specs.Numbers.{numberOf, placeOf}
 use Rattle.tree.specs.declared.TreeChecked.{TreeChecked}
 use Rattle.tree.specs.declared.TreeChecked.the-variants.{Accepted, Refused}
 use Rattle.tree.specs.Check.{tree-checked}
@@ -18,6 +19,15 @@ use Rattle.newick.specs.declared.reading.NewickRead.the-variants.{Read, 
 use Rattle.newick.specs.Writing.{newick-text}
 use Rattle.newick.specs.Reading.{Reading, got, stuck, crowded, text-read}
 use Rattle.newick.specs.Laying.{in-range, code-of, laid}
+
+-- "Each returns its number and a place, zeros elsewhere": refusal, place, and the bytes written or the modes read.
+abbrev pub written-numbers : NewickWritten → List ℕ
+written-numbers (Written count) = 0 ∷ (0 ∷ (count ∷ []))
+written-numbers (Unwritten refusal) = numberOf refusal ∷ (placeOf refusal ∷ (0 ∷ []))
+
+abbrev pub read-numbers : NewickRead → List ℕ
+read-numbers (Read modes) = 0 ∷ (0 ∷ (modes ∷ []))
+read-numbers (Unread refusal) = numberOf refusal ∷ (placeOf refusal ∷ (0 ∷ []))
 
 -- Writing: the check's refusal, then 5.
 unfoldable pub written-as : TreeChecked → List ℕ → ℕ → NewickWritten

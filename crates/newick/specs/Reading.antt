@@ -73,8 +73,8 @@ inside child text rows at =
     follows (marked 44 text (child rows at))
     (λ x rows at. follows (marked 44 text (child rows at)) (λ y rows at. follows (marked 41 text (child rows at)) (λ z rows at. named text rows at x y z)))
 
--- A node, so many of which may still stand one within the other. With `most` nodes in all and so many of them not around this one, it is
--- one too many where as many are closed as may still stand.
+-- A node, where `height` is how many nodes the text may have less those that stand around this one: it is one too many where as many
+-- are closed already.
 unfoldable pub node-read : ℕ → List ℕ → List ℕ → ℕ → Reading
 node-read zero text rows at = expected 40 text at (crowded at)
 node-read (suc height) text rows at =
