@@ -1,4 +1,4 @@
--- 19 is a matter of form alone: a call gives it exactly where reading its text stops.
+-- 19, and 1 with a place, are matters of form alone: what a call says by them it says of its text.
 use mathlib.Core.Path.{_≡_}
 use mathlib.Core.Bool.{Bool, true, false, cond}
 use mathlib.Core.List.{List}
@@ -7,7 +7,8 @@ use native.Mathlib.Omega.{arith}
 use lib.Dec.{eqb, ltb, leb}
 use lib.ListN.{length}
 use Rattle.lists.specs.Members.{every}
-use Rattle.refusal.specs.declared.Refusal.the-variants.{Room, Modes, TreeLength, ChildCode, NotOneTree, WrongPair, NewickForm}
+use Rattle.refusal.specs.declared.Refusal.{Refusal}
+use Rattle.refusal.specs.declared.Refusal.the-variants.{Room, Modes, TreeLength, ChildCode, NotOneTree, WrongPair, NewickForm, TooManyNodes}
 use Rattle.terms.specs.Good.{modes-good}
 use Rattle.tree.specs.declared.TreeChecked.{TreeChecked}
 use Rattle.tree.specs.declared.TreeChecked.the-variants.{Accepted, Refused}
@@ -19,58 +20,100 @@ use Rattle.newick.specs.Reading.{Reading, got, stuck, crowded, text-read
 use Rattle.newick.specs.Laying.{in-range}
 use Rattle.newick.specs.Calls.{modes-in, table-in, taken-as, read-as, newick-read}
 use Rattle.newick.specs.Stops.{StopsAt}
+use Rattle.newick.specs.Crowded.{CrowdedAt}
 use Rattle.newick.proofs.TextStops.{text-stops}
+use Rattle.newick.proofs.TextCrowded.{text-crowded}
 
--- The check of a tree never gives it.
-check-other : (most modes : ℕ) (table : List ℕ) (place : ℕ) → tree-checked most modes table ≡ Refused (NewickForm place) → ⊥
-unfolding tree-checked
-check-other most modes table place =
-    go (modes-good most modes) (eqb (length table) (3 * modes)) (ltb (codes-good modes table) (length table)) (one-tree modes table)
-    (ltb (pairs-right modes table) modes)
-  where
-    go : (m w c o p : Bool)
-        → cond m
-        (cond w
-        (cond c (Refused (ChildCode (codes-good modes table)))
-        (cond o (cond p (Refused (WrongPair (pairs-right modes table))) Accepted) (Refused NotOneTree)))
-        (Refused TreeLength))
-        (Refused Modes)
-        ≡ Refused (NewickForm place)
-        → ⊥
-    go false w c o p e = let z : _≡_ {A = ℕ} 0 1 = cc in omega arith
-    go true false c o p e = let z : _≡_ {A = ℕ} 0 1 = cc in omega arith
-    go true true true o p e = let z : _≡_ {A = ℕ} 0 1 = cc in omega arith
-    go true true false false p e = let z : _≡_ {A = ℕ} 0 1 = cc in omega arith
-    go true true false true true e = let z : _≡_ {A = ℕ} 0 1 = cc in omega arith
-    go true true false true false e = let z : _≡_ {A = ℕ} 0 1 = cc in omega arith
+-- A refusal that is none of those of a tree, nor 5.
+record OfForm (refusal : Refusal) : Type 0 where
+  modes : Modes ≡ refusal → ⊥
+  size : TreeLength ≡ refusal → ⊥
+  code : (index : ℕ) → ChildCode index ≡ refusal → ⊥
+  one : NotOneTree ≡ refusal → ⊥
+  pair : (k : ℕ) → WrongPair k ≡ refusal → ⊥
+  room : Room ≡ refusal → ⊥
 
-taken-other : (checked : TreeChecked) (modes room place : ℕ) → (checked ≡ Refused (NewickForm place) → ⊥)
-    → taken-as checked modes room ≡ Unread (NewickForm place) → ⊥
-unfolding taken-as
-taken-other Accepted modes room place other = go (leb (3 * modes) room)
-  where
-    go : (b : Bool) → cond b (Read modes) (Unread Room) ≡ Unread (NewickForm place) → ⊥
-    go true e = let z : _≡_ {A = ℕ} 0 1 = cc in omega arith
-    go false e = let z : _≡_ {A = ℕ} 0 1 = cc in omega arith
-taken-other (Refused refusal) modes room place other = λ e. other cc
+stuck-form : (place : ℕ) → OfForm (NewickForm place)
+stuck-form place =
+    record {
+      modes = λ e. let z : _≡_ {A = ℕ} 0 1 = cc in omega arith;
+      size = λ e. let z : _≡_ {A = ℕ} 0 1 = cc in omega arith;
+      code = λ index e. let z : _≡_ {A = ℕ} 0 1 = cc in omega arith;
+      one = λ e. let z : _≡_ {A = ℕ} 0 1 = cc in omega arith;
+      pair = λ k e. let z : _≡_ {A = ℕ} 0 1 = cc in omega arith;
+      room = λ e. let z : _≡_ {A = ℕ} 0 1 = cc in omega arith;
+    }
 
-module _ (most room place : ℕ) where
-  read-stuck : (reading : Reading) → read-as most reading room ≡ Unread (NewickForm place) → reading ≡ stuck place
+crowded-form : (place : ℕ) → OfForm (TooManyNodes place)
+crowded-form place =
+    record {
+      modes = λ e. let z : _≡_ {A = ℕ} 0 1 = cc in omega arith;
+      size = λ e. let z : _≡_ {A = ℕ} 0 1 = cc in omega arith;
+      code = λ index e. let z : _≡_ {A = ℕ} 0 1 = cc in omega arith;
+      one = λ e. let z : _≡_ {A = ℕ} 0 1 = cc in omega arith;
+      pair = λ k e. let z : _≡_ {A = ℕ} 0 1 = cc in omega arith;
+      room = λ e. let z : _≡_ {A = ℕ} 0 1 = cc in omega arith;
+    }
+
+module _ (refusal : Refusal) (form : OfForm refusal) where
+  -- The check of a tree never gives it.
+  check-other : (most modes : ℕ) (table : List ℕ) → tree-checked most modes table ≡ Refused refusal → ⊥
+  unfolding tree-checked
+  check-other most modes table =
+      go (modes-good most modes) (eqb (length table) (3 * modes)) (ltb (codes-good modes table) (length table)) (one-tree modes table)
+      (ltb (pairs-right modes table) modes)
+    where
+      go : (m w c o p : Bool)
+          → cond m
+          (cond w
+          (cond c (Refused (ChildCode (codes-good modes table)))
+          (cond o (cond p (Refused (WrongPair (pairs-right modes table))) Accepted) (Refused NotOneTree)))
+          (Refused TreeLength))
+          (Refused Modes)
+          ≡ Refused refusal
+          → ⊥
+      go false w c o p e = form .modes cc
+      go true false c o p e = form .size cc
+      go true true true o p e = form .code (codes-good modes table) cc
+      go true true false false p e = form .one cc
+      go true true false true true e = form .pair (pairs-right modes table) cc
+      go true true false true false e = let z : _≡_ {A = ℕ} 0 1 = cc in omega arith
+
+  taken-other : (checked : TreeChecked) (modes room : ℕ) → (checked ≡ Refused refusal → ⊥) → taken-as checked modes room ≡ Unread refusal → ⊥
+  unfolding taken-as
+  taken-other Accepted modes room other = go (leb (3 * modes) room)
+    where
+      go : (b : Bool) → cond b (Read modes) (Unread Room) ≡ Unread refusal → ⊥
+      go true e = let z : _≡_ {A = ℕ} 0 1 = cc in omega arith
+      go false e = form .room cc
+  taken-other (Refused given) modes room other = λ e. other cc
+
+  -- Nor does what was read to its end.
+  read-other : (most room name : ℕ) (rows : List ℕ) (at : ℕ) → read-as most (got name rows at) room ≡ Unread refusal → ⊥
   unfolding read-as
-  read-stuck (got name rows at) =
-      go (every (in-range (modes-in rows)) rows)
+  read-other most room name rows at = go (every (in-range (modes-in rows)) rows)
     where
       go : (b : Bool)
-          → cond b (taken-as (tree-checked most (modes-in rows) (table-in rows)) (modes-in rows) room) (Unread NotOneTree) ≡ Unread (NewickForm place)
-          → got name rows at ≡ stuck place
+          → cond b (taken-as (tree-checked most (modes-in rows) (table-in rows)) (modes-in rows) room) (Unread NotOneTree) ≡ Unread refusal → ⊥
       go true e =
-          absurd
-          (taken-other (tree-checked most (modes-in rows) (table-in rows)) (modes-in rows) room place
-          (check-other most (modes-in rows) (table-in rows) place) e)
-      go false e = let z : _≡_ {A = ℕ} 0 1 = cc in absurd (omega arith)
-  read-stuck (stuck other) = λ e. cc
-  read-stuck (crowded other) = λ e. let z : _≡_ {A = ℕ} 0 1 = cc in absurd (omega arith)
+          taken-other (tree-checked most (modes-in rows) (table-in rows)) (modes-in rows) room (check-other most (modes-in rows) (table-in rows)) e
+      go false e = form .one cc
 
-  pub form-refused : (text : List ℕ) → newick-read most text room ≡ Unread (NewickForm place) → StopsAt text place
-  unfolding newick-read
-  form-refused text e = text-stops most text place (read-stuck (text-read most text) e)
+module _ (most : ℕ) (text : List ℕ) (room place : ℕ) where
+  pub form-refused : newick-read most text room ≡ Unread (NewickForm place) → StopsAt text place
+  unfolding newick-read read-as
+  form-refused e = text-stops most text place (go (text-read most text) e)
+    where
+      go : (r : Reading) → read-as most r room ≡ Unread (NewickForm place) → r ≡ stuck place
+      go (got name rows at) f = absurd (read-other (NewickForm place) (stuck-form place) most room name rows at f)
+      go (stuck other) f = cc
+      go (crowded other) f = let z : _≡_ {A = ℕ} 0 1 = cc in absurd (omega arith)
+
+  pub crowd-refused : newick-read most text room ≡ Unread (TooManyNodes place) → CrowdedAt most text place
+  unfolding newick-read read-as
+  crowd-refused e = text-crowded most text place (go (text-read most text) e)
+    where
+      go : (r : Reading) → read-as most r room ≡ Unread (TooManyNodes place) → r ≡ crowded place
+      go (got name rows at) f = absurd (read-other (TooManyNodes place) (crowded-form place) most room name rows at f)
+      go (stuck other) f = let z : _≡_ {A = ℕ} 0 1 = cc in absurd (omega arith)
+      go (crowded other) f = cc

@@ -21,8 +21,10 @@ pub mod ShapeBegun
 pub mod HigherRead
 pub mod TextBegun
 pub mod TextStops
-pub mod FormRefused
+pub mod Opened
+pub mod ChildrenCrowd
 pub mod TextCrowded
+pub mod FormRefused
 pub mod NumberAhead
 pub mod PartsRead
 pub mod LayingRows
@@ -33,4 +35,5 @@ pub mod ShapeTable
 pub mod UnderShape
 pub mod ReadWritten
 pub mod WrittenRead
+pub mod AcceptedTexts
 pub mod Examples

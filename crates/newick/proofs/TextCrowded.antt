@@ -1,94 +1,138 @@
--- A text refused for a node too many: a `(` stands at the place.
-use mathlib.Core.Path.{_≡_, _∙_, sym}
+-- A text refused for a node too many: a `(` stands at the place, and before it as many as may stand.
+use mathlib.Core.Path.{_≡_, refl, ap, _∙_, sym}
 use mathlib.Core.Bool.{Bool, true, false, cond}
 use mathlib.Core.List.{List, []}
 use mathlib.Core.Logic.{⊎-elim}
-use Prim.Native.Nat.{ℕ, zero, suc, _*_}
+use Prim.Native.Nat.{ℕ, zero, suc, _+_, _*_, _≤_}
 use native.Mathlib.Omega.{arith}
+use borrow.Author.Tests.{ltb-true, ltb-false}
 use lib.Dec.{eqb, ltb}
-use lib.ListN.{length}
-use Rattle.newick.specs.Reading.{Reading, got, stuck, crowded, follows, byte-at, expected, marked, child-by, named, inside, node-read, text-read}
-use Rattle.newick.proofs.ReadingParts.{expected-either, ChildWay, absent-read, leaf-read, leaf-lacks, node-next, child-way, NameWay, name-read, name-lacks, letter-lacks, name-way}
-
--- Reading that ends crowded ends at a `(`.
-abbrev Opens : List ℕ → Reading → Type 0
-Opens text reading = (place : ℕ) → reading ≡ crowded place → byte-at text place ≡ 40
+use lib.ListN.{length, take, drop, length-append, length-drop}
+use lib.Seq.{take-at}
+use Rattle.lists.specs.Counting.{same, occurrences}
+use Rattle.newick.specs.Reading.{Reading, got, stuck, crowded, byte-at, expected, child-by, inside, node-read, child-read, text-read}
+use Rattle.newick.specs.Crowded.{CrowdedAt}
+use Rattle.newick.proofs.DigitsStand.{byte-stands}
+use Rattle.newick.proofs.ReadingParts.{expected-either, expected-got, ChildWay, absent-read, leaf-read, leaf-lacks, node-next, child-way}
+use Rattle.newick.proofs.ShapeRead.{child-spelled}
+use Rattle.newick.proofs.Opened.{opened-none, opened-byte, opened-then}
+use Rattle.newick.proofs.ChildrenCrowd.{MarkCrowded, child-crowded, behind-crowded, mark-crowded, Beyond, Children, inside-crowds, inside-few}
 
 module _ (text : List ℕ) where
-  opens-follows : (reading : Reading) (next : ℕ → List ℕ → ℕ → Reading) → Opens text reading
-      → ((name : ℕ) (rows : List ℕ) (at : ℕ) → Opens text (next name rows at)) → Opens text (follows reading next)
-  unfolding follows
-  opens-follows (got name rows at) next o on place e = on name rows at place e
-  opens-follows (stuck p) next o on place e = o place e
-  opens-follows (crowded p) next o on place e = o place e
+  -- Children are read by their nodes.
+  abbrev Few : ℕ → Type 0
+  Few height =
+      (rows : List ℕ) (at closed name : ℕ) (after : List ℕ) (end : ℕ) → length rows ≡ 4 * closed → closed ≤ height
+      → node-read height text rows at ≡ got name after end → length after ≤ 4 * height
 
-  opens-expected : (byte at : ℕ) (next : Reading) → (byte-at text at ≡ byte → Opens text next) → Opens text (expected byte text at next)
-  opens-expected byte at next o place e =
-      ⊎-elim (λ r. o (r .0) place (sym (r .1) ∙ e))
-      (λ r.
-      let f = r .1 in
-      let z : _≡_ {A = ℕ} 0 1 = cc in
-      absurd (omega arith))
-      (expected-either byte text at next)
+  abbrev Crowds : ℕ → Type 0
+  Crowds height =
+      (rows : List ℕ) (at closed place : ℕ) → length rows ≡ 4 * closed → closed ≤ height → node-read height text rows at ≡ crowded place
+      → Beyond text at place closed height
 
-  opens-got : (name : ℕ) (rows : List ℕ) (at : ℕ) → Opens text (got name rows at)
-  opens-got name rows at place e = let z : _≡_ {A = ℕ} 0 1 = cc in absurd (omega arith)
+  module _ (height : ℕ) (few : Few height) (crowds : Crowds height) where
+    by-nodes : Children text (child-by (node-read height text) text) height
+    unfolding child-read
+    by-nodes =
+        record {
+          spells = λ rows at name after end e. child-spelled height text rows at name after end e;
+          few = λ rows at closed name after end size h e. child-few rows at closed name after end size h e (child-way (node-read height text) text rows at);
+          crowds = λ rows at closed place size h e. child-crowds rows at closed place size h e (child-way (node-read height text) text rows at);
+        }
+      where
+        child-few : (rows : List ℕ) (at closed name : ℕ) (after : List ℕ) (end : ℕ) → length rows ≡ 4 * closed → closed ≤ height
+            → child-by (node-read height text) text rows at ≡ got name after end → ChildWay (node-read height text) text rows at → length after ≤ 4 * height
+        child-few rows at closed name after end size h e (absent-read byte f) = let s : rows ≡ after = cc in rw (← s) (omega arith)
+        child-few rows at closed name after end size h e (leaf-read number last byte n f) = let s : rows ≡ after = cc in rw (← s) (omega arith)
+        child-few rows at closed name after end size h e (leaf-lacks byte f) = let z : _≡_ {A = ℕ} 0 1 = cc in absurd (omega arith)
+        child-few rows at closed name after end size h e (node-next f) = few rows at closed name after end size h (sym f ∙ e)
 
-  opens-marked : (byte : ℕ) (child : Reading) → Opens text child → Opens text (marked byte text child)
-  unfolding marked
-  opens-marked byte child o =
-      opens-follows child _ o (λ name rows at. opens-expected byte at (got name rows (suc at)) (λ e. opens-got name rows (suc at)))
+        child-crowds : (rows : List ℕ) (at closed place : ℕ) → length rows ≡ 4 * closed → closed ≤ height
+            → child-by (node-read height text) text rows at ≡ crowded place → ChildWay (node-read height text) text rows at → Beyond text at place closed height
+        child-crowds rows at closed place size h e (absent-read byte f) = let z : _≡_ {A = ℕ} 0 1 = cc in absurd (omega arith)
+        child-crowds rows at closed place size h e (leaf-read number last byte n f) = let z : _≡_ {A = ℕ} 0 1 = cc in absurd (omega arith)
+        child-crowds rows at closed place size h e (leaf-lacks byte f) = let z : _≡_ {A = ℕ} 0 1 = cc in absurd (omega arith)
+        child-crowds rows at closed place size h e (node-next f) = crowds rows at closed place size h (sym f ∙ e)
 
-  opens-child : (on-to-node : List ℕ → ℕ → Reading) → ((rows : List ℕ) (at : ℕ) → Opens text (on-to-node rows at)) → (rows : List ℕ) (at : ℕ)
-      → Opens text (child-by on-to-node text rows at)
-  opens-child on-to-node nodes rows at place e = go (child-way on-to-node text rows at)
-    where
-      go : ChildWay on-to-node text rows at → byte-at text place ≡ 40
-      go (absent-read byte f) = let z : _≡_ {A = ℕ} 0 1 = cc in absurd (omega arith)
-      go (leaf-read number end byte n f) = let z : _≡_ {A = ℕ} 0 1 = cc in absurd (omega arith)
-      go (leaf-lacks byte f) = let z : _≡_ {A = ℕ} 0 1 = cc in absurd (omega arith)
-      go (node-next f) = nodes rows at place (sym f ∙ e)
+  -- A node that opens at a place where another `(` would be one too many.
+  at-once : (at closed height place : ℕ) → byte-at text at ≡ 40 → crowded at ≡ crowded place → closed ≡ height → Beyond text at place closed height
+  at-once at closed height place opens e full =
+      let here : at ≡ place = cc in
+      rw (← here) (record { opens = opens; count = 0; opened = opened-none text at; all = omega (arith, full) })
 
-  opens-named : (rows : List ℕ) (at x y z : ℕ) → Opens text (named text rows at x y z)
-  opens-named rows at x y z place e = go (name-way text rows at x y z)
-    where
-      go : NameWay text rows at x y z → byte-at text place ≡ 40
-      go (name-read label end letter n f) = let z : _≡_ {A = ℕ} 0 1 = cc in absurd (omega arith)
-      go (name-lacks letter f) = let z : _≡_ {A = ℕ} 0 1 = cc in absurd (omega arith)
-      go (letter-lacks f) = let z : _≡_ {A = ℕ} 0 1 = cc in absurd (omega arith)
+  opens-first : (at closed height place : ℕ) → byte-at text at ≡ 40 → Beyond text (suc at) place closed height → Beyond text at place closed (suc height)
+  unfolding same
+  opens-first at closed height place opens b =
+      record {
+        opens = b .opens;
+        count = 1 + b .count;
+        opened = opened-then text (opened-byte text at 40 opens (omega arith)) (b .opened);
+        all = omega (arith, b .all);
+      }
 
-  opens-inside : (child : List ℕ → ℕ → Reading) → ((rows : List ℕ) (at : ℕ) → Opens text (child rows at)) → (rows : List ℕ) (at : ℕ)
-      → Opens text (inside child text rows at)
-  unfolding inside
-  opens-inside child children rows at =
-      opens-follows (marked 44 text (child rows at)) _ (opens-marked 44 (child rows at) (children rows at))
-      (λ x rows at.
-      opens-follows (marked 44 text (child rows at)) _ (opens-marked 44 (child rows at) (children rows at))
-      (λ y rows at.
-      opens-follows (marked 41 text (child rows at)) _ (opens-marked 41 (child rows at) (children rows at)) (λ z rows at. opens-named rows at x y z)))
+  crowded-either : (at place : ℕ) (next : Reading) → expected 40 text at next ≡ crowded place → (byte-at text at ≡ 40) × (next ≡ crowded place)
+  crowded-either at place next e =
+      ⊎-elim (λ r. (r .0, sym (r .1) ∙ e)) (λ r. let f = r .1 in let z : _≡_ {A = ℕ} 0 1 = cc in absurd (omega arith)) (expected-either 40 text at next)
 
-  opens-here : (at : ℕ) → byte-at text at ≡ 40 → Opens text (crowded at)
-  opens-here at opens place e = let p : at ≡ place = cc in rw p at opens
-
-  opens-node : (height : ℕ) (rows : List ℕ) (at : ℕ) → Opens text (node-read height text rows at)
+  node-both : (height : ℕ) → Few height × Crowds height
   unfolding node-read
-  opens-node zero rows at = opens-expected 40 at (crowded at) (opens-here at)
-  opens-node (suc height) rows at =
-      opens-expected 40 at _
-      (go (ltb (length rows) (4 * suc height))
-      (opens-inside (child-by (node-read height text) text) (opens-child (node-read height text) (opens-node height)) rows (suc at)))
+  node-both zero = (
+    λ rows at closed name after end size h e.
+        let f = expected-got 40 text at (crowded at) name after end e .1 in
+        let z : _≡_ {A = ℕ} 0 1 = cc in
+        absurd (omega arith),
+    λ rows at closed place size h e.
+        let f = crowded-either at place (crowded at) e in
+        at-once at closed 0 place (f .0) (f .1) (omega arith),
+  )
+  node-both (suc height) =
+      let below = node-both height in
+      let children = by-nodes height (below .0) (below .1) in (
+        λ rows at closed name after end size h e.
+            few children rows at closed name after end size h (ltb (length rows) (4 * suc height)) refl (expected-got 40 text at _ name after end e .1),
+        λ rows at closed place size h e.
+            let f = crowded-either at place _ e in
+            crowds children rows at closed place size h (f .0) (ltb (length rows) (4 * suc height)) refl (f .1),
+      )
     where
-      go : (b : Bool) → Opens text (inside (child-by (node-read height text) text) text rows (suc at)) → byte-at text at ≡ 40
-          → Opens text (cond b (inside (child-by (node-read height text) text) text rows (suc at)) (crowded at))
-      go true o opens = o
-      go false o opens = opens-here at opens
+      few : Children text (child-by (node-read height text) text) height → (rows : List ℕ) (at closed name : ℕ) (after : List ℕ) (end : ℕ)
+          → length rows ≡ 4 * closed → closed ≤ suc height → (b : Bool) → ltb (length rows) (4 * suc height) ≡ b
+          → cond b (inside (child-by (node-read height text) text) text rows (suc at)) (crowded at) ≡ got name after end → length after ≤ 4 * suc height
+      few children rows at closed name after end size h true q e =
+          let low = ltb-true (length rows) (4 * suc height) q in
+          inside-few text (child-by (node-read height text) text) height children rows (suc at) closed name after end size (omega arith) e
+      few children rows at closed name after end size h false q e = let z : _≡_ {A = ℕ} 0 1 = cc in absurd (omega arith)
 
-pub text-crowded : (most : ℕ) (text : List ℕ) (place : ℕ) → text-read most text ≡ crowded place → byte-at text place ≡ 40
-unfolding text-read
-text-crowded most text place e =
-    opens-follows text (marked 59 text (node-read most text [] 0)) _ (opens-marked text 59 (node-read most text [] 0) (opens-node text most [] 0))
-    (λ name rows at. go (eqb at (length text)) name rows at) place e
+      crowds : Children text (child-by (node-read height text) text) height → (rows : List ℕ) (at closed place : ℕ) → length rows ≡ 4 * closed
+          → closed ≤ suc height → byte-at text at ≡ 40 → (b : Bool) → ltb (length rows) (4 * suc height) ≡ b
+          → cond b (inside (child-by (node-read height text) text) text rows (suc at)) (crowded at) ≡ crowded place → Beyond text at place closed (suc height)
+      crowds children rows at closed place size h opens true q e =
+          let low = ltb-true (length rows) (4 * suc height) q in
+          opens-first at closed height place opens
+          (inside-crowds text (child-by (node-read height text) text) height children rows (suc at) closed place size (omega arith) e)
+      crowds children rows at closed place size h opens false q e =
+          let full = ltb-false (length rows) (4 * suc height) q in
+          at-once at closed (suc height) place opens e (omega arith)
+
+pub text-crowded : (most : ℕ) (text : List ℕ) (place : ℕ) → text-read most text ≡ crowded place → CrowdedAt most text place
+unfolding text-read byte-at
+text-crowded most text place e = go (mark-crowded 59 text (node-read most text [] 0) _ place e)
   where
-    go : (b : Bool) (name : ℕ) (rows : List ℕ) (at : ℕ) → Opens text (cond b (got name rows at) (stuck at))
-    go true name rows at = opens-got text name rows at
-    go false name rows at = λ p f. let z : _≡_ {A = ℕ} 0 1 = cc in absurd (omega arith)
+    beyond : Beyond text 0 place 0 most → CrowdedAt most text place
+    beyond b =
+        let o = b .opened in
+        let within = byte-stands text place 40 (b .opens) (omega arith) .0 in
+        let size : length (o .front) ≡ place =
+        omega (arith, ap length (o .ahead), length-append (o .front) (drop place text), length-drop place text) in
+        record {
+          opens = b .opens;
+          before = ap (λ l. occurrences 40 (take place l)) (o .ahead) ∙ ap (occurrences 40) (take-at (o .front) (drop place text) place size) ∙ o .count-is ∙ omega (arith, b .all);
+        }
+
+    go : MarkCrowded 59 text (node-read most text [] 0) (λ name rows at. cond (eqb at (length text)) (got name rows at) (stuck at)) place → CrowdedAt most text place
+    go (child-crowded f) = beyond (node-both text most .1 [] 0 0 place refl (omega arith) f)
+    go (behind-crowded name rows end f mark g) = absurd (whether (eqb (suc end) (length text)) g)
+      where
+        whether : (b : Bool) → cond b (got name rows (suc end)) (stuck (suc end)) ≡ crowded place → ⊥
+        whether true g = let z : _≡_ {A = ℕ} 0 1 = cc in omega arith
+        whether false g = let z : _≡_ {A = ℕ} 0 1 = cc in omega arith

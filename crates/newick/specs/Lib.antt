@@ -6,4 +6,5 @@ pub mod Laying
 pub mod Calls
 pub mod RoundTrip
 pub mod Stops
+pub mod Crowded
 pub mod Promises

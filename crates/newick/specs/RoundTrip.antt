@@ -17,3 +17,9 @@ pub record IsWritten (most : ℕ) (text : List ℕ) (room modes : ℕ) : Type 0 
   pub accepted : tree-checked most modes (newick-table most text) ≡ Accepted
   pub text-is : newick-text modes (newick-table most text) ≡ text
   pub roomy : 3 * modes ≤ room
+
+-- A text is the writing of an accepted tree of so many modes.
+pub record Writes (most : ℕ) (text : List ℕ) (modes : ℕ) : Type 0 where
+  pub table : List ℕ
+  pub accepted : tree-checked most modes table ≡ Accepted
+  pub text-is : newick-text modes table ≡ text
