@@ -1,4 +1,4 @@
-//! Links the proved libraries that `tests/library/build` wrote.
+//! Links the proved libraries that `install/native` wrote.
 
 fn main() {
     let archives = format!("{}/../../target/native", env!("CARGO_MANIFEST_DIR"));
