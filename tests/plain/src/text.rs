@@ -80,7 +80,12 @@ fn read_named(line: &[u8], word: &[u8]) -> Option<Vec<u16>> {
 
 /// "Fields: greedy weight; trials; label, X, Y, Z codes."
 fn print_answer(done: Done, rows: &[u16]) -> String {
-    let mut printed = format!("weight\t{}\ntrials\t{}\n", done.weight, done.trials);
+    format!("weight\t{}\ntrials\t{}\n", done.weight, done.trials) + &node_lines(rows)
+}
+
+/// A line for each row: "label, X, Y, Z codes".
+pub fn node_lines(rows: &[u16]) -> String {
+    let mut printed = String::new();
     for row in rows.chunks(4) {
         let [x, y, z] = [row[1], row[2], row[3]].map(print_code);
         printed += &format!("node\t{}\t{x}\t{y}\t{z}\n", row[0]);
