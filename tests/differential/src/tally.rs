@@ -75,11 +75,11 @@ impl fmt::Display for Tally {
             writeln!(formatter, "{made:>8} {kind}: {disagreed} disagreed")?;
         }
         let all: u64 = self.counts.iter().map(|count| count.made).sum();
-        writeln!(formatter, "{all:>8} in all")?;
-        match &self.smallest {
-            Some((_, description)) => writeln!(formatter, "smallest disagreement: {description}"),
-            None => writeln!(formatter, "no disagreement"),
-        }
+        let found = match &self.smallest {
+            Some((_, description)) => format!("smallest disagreement: {description}"),
+            None => "no disagreement".to_string(),
+        };
+        writeln!(formatter, "{all:>8} in all; {found}")
     }
 }
 
