@@ -28,7 +28,7 @@ fn agrees_in(case: &[u8], tree: &mut [u16], terms: &mut [u16], rows: &mut [u16])
     agrees_on(
         case,
         codes.end,
-        row::wide(modes),
+        entities::wide(modes),
         &tree[0..count],
         terms,
         rows,
@@ -61,7 +61,7 @@ fn agrees_on(
     same_answer(
         modes,
         tree,
-        row::wide(heuristic),
+        entities::wide(heuristic),
         &terms[0..numbers],
         weight,
         &rows[0..count],
@@ -148,7 +148,7 @@ fn same_row(rows: &[u16], table: &[u16], label: usize) -> bool {
     if table.len() < to + 3 {
         return false;
     }
-    if row::wide(rows[from]) != label {
+    if entities::wide(rows[from]) != label {
         return false;
     }
     if rows[from + 1] != table[to] {

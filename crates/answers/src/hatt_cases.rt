@@ -6,7 +6,6 @@ use crate::recorded::Recorded;
 use journal::numbers::Field;
 use journal::resuming;
 use journal::resuming::Answer;
-use terms::row;
 
 // The case is read whole and the library answers the same.
 pub fn agrees(case: &[u8]) -> bool {
@@ -32,7 +31,7 @@ fn agrees_in(case: &[u8], terms: &mut [u16], rows: &mut [u16]) -> bool {
         return false;
     }
     same_answer(
-        row::wide(modes),
+        entities::wide(modes),
         &terms[0..numbers],
         weight,
         &rows[0..count],

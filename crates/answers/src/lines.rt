@@ -1,6 +1,7 @@
 // Lines of the recorded answers: a word, and behind each tab a number or the dash of the absent child.
 ghost use Prim.Native.Nat.{_≤_, _<_};
 ghost use lib.ListN.{length};
+use entities::codes;
 use journal::header;
 use journal::lookup;
 use journal::numbers;
@@ -30,7 +31,7 @@ fn field_end(text: &[u8], from: usize) -> usize
 // The number that a field says; the dash is the absent child's code.
 fn read_code(field: &[u8]) -> Field {
     if header::same_bytes(field, b"-") {
-        return Field::Number(65535, 0);
+        return Field::Number(codes::ABSENT, 0);
     }
     let mut number = [0u16; 1];
     if !numbers::read_numbers(field, &mut number) {

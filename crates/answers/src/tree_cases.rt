@@ -2,7 +2,6 @@
 use crate::lines;
 use journal::numbers::Field;
 use refusal::Refusal;
-use terms::row;
 use tree::TreeChecked;
 use tree::TreeWeighed;
 use tree::weight;
@@ -39,7 +38,7 @@ fn agrees_in(case: &[u8], tree: &mut [u16], terms: &mut [u16]) -> bool {
     same_answer(
         case,
         read.end,
-        row::wide(modes),
+        entities::wide(modes),
         &tree[0..count],
         &terms[0..numbers],
     )
@@ -82,10 +81,10 @@ fn same_refusal(case: &[u8], from: usize, number: usize, place: usize) -> bool {
     if line.end != case.len() {
         return false;
     }
-    if row::wide(recorded[0]) != number {
+    if entities::wide(recorded[0]) != number {
         return false;
     }
-    row::wide(recorded[1]) == place
+    entities::wide(recorded[1]) == place
 }
 
 // What the check of the tree says.

@@ -32,9 +32,9 @@ use Rattle.refusal.specs.declared.Refusal.the-variants.{
   TooManyNodes,
 }
 use Rattle.refusal.specs.Numbers.{numberOf, placeOf}
+use Rattle.entities.specs.declared.Triple.{Triple}
 use Rattle.terms.specs.Rows.{terms-of}
 use Rattle.terms.specs.Good.{modes-good, good-rows, checked}
-use Rattle.terms.specs.declared.row.Triple.{Triple}
 use Rattle.terms.specs.declared.given.Checked.{Checked}
 use Rattle.terms.specs.declared.given.Checked.the-variants.{Good, Refused as BadTerms}
 use Rattle.merging.specs.Lawful.{three-open, paired}

@@ -5,10 +5,10 @@ use Prim.Native.Nat.{ℕ, _+_, _*_}
 use lib.ListN.{length}
 use Rattle.lists.specs.Members.{alike}
 use Rattle.refusal.specs.Numbers.{numberOf, placeOf}
+use Rattle.entities.specs.Codes.{absent}
 use Rattle.merging.specs.Trials.{trial-total}
 use Rattle.journal.specs.Resuming.{Outcome, resumed}
 use Rattle.journal.specs.Promises.{numbers-of, returned, rows-then, journal-then}
-use Rattle.tree.specs.Table.{absent}
 use Rattle.tree.specs.Check.{tree-checked}
 use Rattle.tree.specs.Weight.{tree-weighed}
 use Rattle.tree.specs.declared.TreeWeighed.{TreeWeighed}

@@ -5,9 +5,9 @@ use mathlib.Core.List.{List}
 use Prim.Native.Nat.{ℕ}
 use native.Mathlib.Omega.{arith}
 use Rattle.refusal.specs.declared.Refusal.{Refusal}
+use Rattle.entities.specs.declared.Triple.{Triple}
 use Rattle.terms.specs.Rows.{terms-of}
 use Rattle.terms.specs.Good.{modes-good, checked}
-use Rattle.terms.specs.declared.row.Triple.{Triple}
 use Rattle.terms.specs.declared.given.Checked.{Checked}
 use Rattle.terms.specs.declared.given.Checked.the-variants.{Good, Refused as BadTerms}
 use Rattle.journal.specs.Obeying.{Obeyed, went, refused, obeyed}

@@ -8,9 +8,9 @@ use lib.Dec.{leb}
 use lib.ListN.{length, take, length-take}
 use lib.Seq.{take-take}
 use Rattle.lists.proofs.Tests.{both}
+use Rattle.entities.specs.declared.Triple.{Triple}
 use Rattle.terms.specs.Rows.{terms-of}
 use Rattle.terms.specs.Good.{modes-good}
-use Rattle.terms.specs.declared.row.Triple.{Triple}
 use Rattle.terms.proofs.RowSteps.{length-terms}
 use Rattle.terms.proofs.StaysGood.{accepted}
 use Rattle.merging.specs.Trials.{trial-total}

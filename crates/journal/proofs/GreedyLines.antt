@@ -10,7 +10,7 @@ use lib.ListN.{length, take, length-append}
 use Rattle.lists.specs.Members.{every}
 use Rattle.lists.proofs.Every.{every-cons}
 use Rattle.lists.proofs.Joined.{flatMap-joined}
-use Rattle.terms.specs.declared.row.Triple.{Triple}
+use Rattle.entities.specs.declared.Triple.{Triple}
 use Rattle.merging.specs.Choice.{weight-in, chosen}
 use Rattle.merging.specs.Run.{greedy}
 use Rattle.merging.proofs.RunLawful.{greedy-length}

@@ -6,7 +6,7 @@ use native.Mathlib.Omega.{arith}
 use lib.Dec.{eqb}
 use lib.ListN.{length, length-append}
 use Rattle.lists.proofs.Tests.{whichever}
-use Rattle.terms.specs.declared.row.Triple.{Triple}
+use Rattle.entities.specs.declared.Triple.{Triple}
 use Rattle.merging.specs.Lawful.{LawfulHistory}
 use Rattle.merging.specs.Choice.{weight-in, chosen}
 use Rattle.merging.proofs.RunLawful.{chosen-lawful}

@@ -8,7 +8,7 @@ use lib.ListN.{length, getD, drop}
 use Rattle.lists.specs.Ranges.{listed}
 use Rattle.lists.proofs.Joined.{flatMap-joined}
 use Rattle.lists.proofs.Listed.{listed-more}
-use Rattle.terms.specs.declared.row.Triple.{Triple}
+use Rattle.entities.specs.declared.Triple.{Triple}
 use Rattle.merging.specs.declared.run.Run.{Run}
 use Rattle.merging.specs.Choice.{chosen}
 use Rattle.merging.specs.Recorded.{merge-at, recorded}

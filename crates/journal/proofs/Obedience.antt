@@ -20,7 +20,7 @@ use Rattle.refusal.specs.declared.Refusal.the-variants.{
   WeightUntrue,
   LineAfterLast,
 }
-use Rattle.terms.specs.declared.row.Triple.{Triple}
+use Rattle.entities.specs.declared.Triple.{Triple}
 use Rattle.merging.specs.Lawful.{Lawful, LawfulHistory, three-open, paired, is-lawful}
 use Rattle.merging.specs.Choice.{weight-in}
 use Rattle.merging.specs.Flatpack.{merge-of}

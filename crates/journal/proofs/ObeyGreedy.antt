@@ -7,7 +7,7 @@ use native.Mathlib.Omega.{arith}
 use borrow.Author.Tests.{lt-ltb, eq-eqb}
 use lib.ListN.{length, take}
 use Rattle.lists.proofs.Tests.{both}
-use Rattle.terms.specs.declared.row.Triple.{Triple}
+use Rattle.entities.specs.declared.Triple.{Triple}
 use Rattle.terms.proofs.WeightBound.{weight-at-most}
 use Rattle.terms.proofs.NoTwoEqual.{fewer-terms}
 use Rattle.merging.specs.History.{next-parent, is-open, rows-after}

@@ -8,7 +8,7 @@ use borrow.Author.Tests.{eqb-true}
 use lib.Dec.{eqb}
 use lib.ListN.{length, getD, length-drop}
 use Rattle.lists.proofs.Every.{every-at}
-use Rattle.terms.specs.declared.row.Triple.{Triple}
+use Rattle.entities.specs.declared.Triple.{Triple}
 use Rattle.merging.specs.Choice.{weight-in}
 use Rattle.merging.specs.Flatpack.{merge-of}
 use Rattle.journal.specs.Lines.{lines, is-line}

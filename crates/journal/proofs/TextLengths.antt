@@ -2,7 +2,7 @@
 use Prim.Native.Nat.{ℕ, _<_, _≤_}
 use native.Mathlib.Omega.{arith}
 use lib.ListN.{length}
-use Rattle.terms.specs.declared.row.Triple.{Triple}
+use Rattle.entities.specs.declared.Triple.{Triple}
 use Rattle.journal.specs.Fields.{header-text, merge-text}
 use Rattle.journal.proofs.Digits.{few-digits}
 use Rattle.journal.proofs.Texts.{length-header, length-merge}

@@ -6,7 +6,7 @@ use Prim.Native.Nat.{ℕ}
 use lib.Dec.{eqb}
 use Rattle.lists.specs.Members.{every}
 use Rattle.lists.proofs.Every.{every-cons, every-uncons, every-append}
-use Rattle.terms.specs.declared.row.Triple.{Triple}
+use Rattle.entities.specs.declared.Triple.{Triple}
 use Rattle.journal.specs.Decimal.{is-digit, decimal}
 use Rattle.journal.specs.Lines.{is-line}
 use Rattle.journal.specs.Fields.{word, version, tabbed, header-text, merge-text}

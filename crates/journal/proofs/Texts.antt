@@ -6,7 +6,7 @@ use native.Mathlib.Omega.{arith}
 use lib.ListN.{length, length-append}
 use Rattle.lists.specs.Written.{written-at}
 use Rattle.lists.proofs.Behind.{Wrote, then-wrote, field-wrote}
-use Rattle.terms.specs.declared.row.Triple.{Triple}
+use Rattle.entities.specs.declared.Triple.{Triple}
 use Rattle.journal.specs.Decimal.{decimal}
 use Rattle.journal.specs.Fields.{word, version, header-text, tabbed, merge-text}
 

@@ -5,7 +5,7 @@ use Prim.Native.Nat.{ℕ, _-_}
 use lib.Dec.{eqb}
 use lib.ListN.{length, getD, take, drop}
 use Rattle.lists.specs.Members.{every, alike}
-use Rattle.terms.specs.declared.row.Triple.{Triple}
+use Rattle.entities.specs.declared.Triple.{Triple}
 use Rattle.journal.specs.declared.header.Header.{Header}
 use Rattle.journal.specs.declared.header.Header.the-variants.{Is as HeaderIs, Broken as HeaderBroken}
 use Rattle.journal.specs.declared.merge_line.Merge.{Merge}

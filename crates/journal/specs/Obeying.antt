@@ -14,7 +14,7 @@ use Rattle.refusal.specs.declared.Refusal.the-variants.{
   WeightUntrue,
   LineAfterLast,
 }
-use Rattle.terms.specs.declared.row.Triple.{Triple}
+use Rattle.entities.specs.declared.Triple.{Triple}
 use Rattle.merging.specs.Lawful.{three-open, paired}
 use Rattle.merging.specs.Choice.{weight-in}
 use Rattle.journal.specs.declared.header.Header.{Header}

@@ -6,9 +6,9 @@ use lib.Dec.{leb}
 use lib.ListN.{length}
 use Rattle.refusal.specs.declared.Refusal.{Refusal}
 use Rattle.refusal.specs.declared.Refusal.the-variants.{Modes, Room}
+use Rattle.entities.specs.declared.Triple.{Triple}
 use Rattle.terms.specs.Rows.{terms-of}
 use Rattle.terms.specs.Good.{modes-good, checked}
-use Rattle.terms.specs.declared.row.Triple.{Triple}
 use Rattle.terms.specs.declared.given.Checked.{Checked}
 use Rattle.terms.specs.declared.given.Checked.the-variants.{Good, Refused as BadTerms}
 use Rattle.merging.specs.Run.{finished, run-weight, trials}

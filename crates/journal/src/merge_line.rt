@@ -2,7 +2,7 @@
 ghost use mathlib.Core.Path.{_≡_};
 ghost use Rattle.journal.specs.Fields.{«merge-of-line»};
 use crate::numbers;
-use terms::row::Triple;
+use entities::Triple;
 
 // What a merge line says.
 pub struct MergeLine {

@@ -6,8 +6,8 @@ ghost use Rattle.lists.specs.Written.{«written-at»};
 ghost use Rattle.merging.specs.State.{Whole};
 ghost use Rattle.journal.specs.NewLines.{«noted-line», «noted-text», «first-text», «all-noted»};
 use crate::writing;
+use entities::Triple;
 use merging::run::Run;
-use terms::row::Triple;
 
 // The line of one step written at this place; the place after it.
 fn put_step(run: Run, step: usize, journal: &mut [u8], at: usize) -> usize

@@ -20,7 +20,6 @@ use merging::lawful;
 use merging::run;
 use merging::run::Run;
 use refusal::Refusal;
-use terms::row;
 use terms::weight;
 
 // Nothing refused so far, or why.
@@ -41,7 +40,7 @@ fn obey_merge(run: Run, rows: &mut [u16], said: MergeLine, line: usize) -> Obeyi
     requires { ⌜ run .step < run .modes ⌝ }
     ensures { λ r. ⌜ ((terms : List (List ℕ)) → Holds 769 256 terms (now (rows .entry)) run → Obeys 769 256 terms (obeyed-merge (run .modes) terms (history-of run) line said) (run .modes) (run .live) (now (rows .entry)) (now (rows .exit)) r) ⌝ }
 {
-    if row::wide(said.step) != run.step {
+    if entities::wide(said.step) != run.step {
         return Obeying {
             verdict: Verdict::Refused(Refusal::StepNotNext(line)),
             run: run,
@@ -60,7 +59,7 @@ fn obey_merge(run: Run, rows: &mut [u16], said: MergeLine, line: usize) -> Obeyi
         };
     }
     let weight = weight::weight(rows, run.live, said.triple);
-    if row::wide(said.weight) != weight {
+    if entities::wide(said.weight) != weight {
         return Obeying {
             verdict: Verdict::Refused(Refusal::WeightUntrue(line)),
             run: run,
@@ -98,10 +97,10 @@ fn obey_header(modes: usize, live: usize, bytes: &[u8]) -> Verdict
 {
     match header::read_header(bytes) {
         Header::Is(n, t) => {
-            if row::wide(n) != modes {
+            if entities::wide(n) != modes {
                 return Verdict::Refused(Refusal::Header);
             }
-            if row::wide(t) != live {
+            if entities::wide(t) != live {
                 return Verdict::Refused(Refusal::Header);
             }
             Verdict::Fine

@@ -5,7 +5,7 @@ ghost use lib.ListN.{length};
 ghost use Rattle.lists.specs.Written.{«written-at»};
 ghost use Rattle.journal.specs.Fields.{«header-text», «merge-text»};
 use crate::putting;
-use terms::row::Triple;
+use entities::Triple;
 
 // The merge line written over the front; how many bytes it has.
 pub fn put_merge(out: &mut [u8], step: u16, triple: Triple, weight: u16) -> usize

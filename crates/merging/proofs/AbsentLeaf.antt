@@ -6,7 +6,7 @@ use native.Mathlib.Omega.{arith}
 use lib.ListN.{length}
 use Rattle.lists.specs.Counting.{same}
 use Rattle.lists.proofs.Sums.{same-one, same-none, one-same}
-use Rattle.terms.specs.declared.row.Triple.{Triple}
+use Rattle.entities.specs.declared.Triple.{Triple}
 use Rattle.merging.specs.History.{z-end, holder}
 use Rattle.merging.specs.Lawful.{LawfulHistory}
 use Rattle.merging.specs.Flatpack.{absent-leaf}
@@ -23,10 +23,10 @@ unpaired-once modes history lawful =
     (λ e. apart (one-holder modes history lawful entity (holder modes history (2 * modes)) o (held .is-held) (e ∙ sym (held .end)))))
     ∙ same-one (z-end modes history (holder modes history (2 * modes))) (2 * modes) (held .end)
 
-pub absent : (modes : ℕ) (history : List Triple) → LawfulHistory modes history → length history ≡ modes → 1 ≤ modes
+pub absent-leaf-last : (modes : ℕ) (history : List Triple) → LawfulHistory modes history → length history ≡ modes → 1 ≤ modes
     → absent-leaf modes history ≡ 2 * modes
 unfolding absent-leaf
-absent modes history lawful all some-modes =
+absent-leaf-last modes history lawful all some-modes =
     let root : 2 * modes + length history ≡ 3 * modes = omega arith in
     let last = root-sum modes history lawful all some-modes (λ entity. same (z-end modes history entity) (2 * modes)) in
     let once = unpaired-once modes history lawful in

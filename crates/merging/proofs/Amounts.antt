@@ -11,7 +11,7 @@ use lib.Dec.{eqb}
 use lib.ListN.{length}
 use Rattle.lists.proofs.Tests.{same-or-not}
 use Rattle.lists.proofs.Totals.{total}
-use Rattle.terms.specs.declared.row.Triple.{Triple}
+use Rattle.entities.specs.declared.Triple.{Triple}
 use Rattle.merging.specs.History.{next-parent, is-open}
 use Rattle.merging.specs.Lawful.{Lawful, LawfulHistory}
 use Rattle.merging.specs.Flatpack.{merge-of}

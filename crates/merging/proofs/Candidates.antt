@@ -10,7 +10,7 @@ use Rattle.lists.proofs.Listed.{map-listed}
 use Rattle.lists.proofs.Kept.{keep-map, keep-none}
 use Rattle.lists.proofs.Joined.{map-flatMap}
 use Rattle.lists.proofs.Ranges.{listed-step, listed-end, keep-on, keep-done, keep-same}
-use Rattle.terms.specs.declared.row.Triple.{Triple}
+use Rattle.entities.specs.declared.Triple.{Triple}
 use Rattle.merging.specs.declared.lawful.Couple.the-variants.{Of, Nothing}
 use Rattle.merging.specs.History.{next-parent}
 use Rattle.merging.specs.Lawful.{named, is-lawful, entities, pairs-with, lawful-pairs}

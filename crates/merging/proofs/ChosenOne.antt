@@ -4,7 +4,7 @@ use mathlib.Core.List.{List}
 use mathlib.Core.Logic.{⊎-elim}
 use Prim.Native.Nat.{ℕ}
 use native.Mathlib.Omega.{arith}
-use Rattle.terms.specs.declared.row.Triple.{Triple}
+use Rattle.entities.specs.declared.Triple.{Triple}
 use Rattle.merging.specs.Lawful.{LawfulHistory, Pair, named}
 use Rattle.merging.specs.Choice.{weight-in, Before, first-name, Chosen}
 use Rattle.merging.proofs.Names.{same-pair, named-triple, first-names}

@@ -8,7 +8,7 @@ use lib.ListN.{length}
 use Rattle.lists.specs.Least.{least, least-of}
 use Rattle.lists.proofs.Tests.{same-or-not}
 use Rattle.lists.proofs.Least.{FirstLeast, least-first, least-map}
-use Rattle.terms.specs.declared.row.Triple.{Triple}
+use Rattle.entities.specs.declared.Triple.{Triple}
 use Rattle.merging.specs.Lawful.{Lawful, LawfulHistory, Pair, named, lawful-pairs}
 use Rattle.merging.specs.Choice.{weight-in, candidates, chosen, Before, first-name, Chosen}
 use Rattle.merging.proofs.Names.{Names, Sooner, pair-lawful, names-named, named-triple, names-listed, pairs-ascend, first-names, first-lowest}

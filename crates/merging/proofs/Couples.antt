@@ -7,7 +7,7 @@ use native.Mathlib.Omega.{arith}
 use borrow.Author.Tests.{eq-eqb, ne-eqb}
 use lib.Dec.{eqb}
 use Rattle.lists.proofs.Tests.{not-so}
-use Rattle.terms.specs.declared.row.Triple.{Triple}
+use Rattle.entities.specs.declared.Triple.{Triple}
 use Rattle.merging.specs.History.{next-parent, is-open, z-end, holder}
 use Rattle.merging.specs.Lawful.{Pair, named, is-lawful, three-open, paired}
 use Rattle.merging.specs.Couples.{x-of, y-of, coupled, ends-pair, free}

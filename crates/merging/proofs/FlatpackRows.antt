@@ -8,14 +8,15 @@ use lib.ListN.{length}
 use Rattle.lists.specs.Counting.{sum, same, occurrences}
 use Rattle.lists.proofs.Totals.{total, total-same}
 use Rattle.lists.proofs.Sums.{sum-of, occurrences-flatMap, same-none, total-once}
-use Rattle.terms.specs.declared.row.Triple.{Triple}
+use Rattle.entities.specs.declared.Triple.{Triple}
+use Rattle.entities.specs.Codes.{absent, code}
+use Rattle.entities.proofs.ChildCodes.{code-absent, same-code}
 use Rattle.merging.specs.History.{next-parent}
 use Rattle.merging.specs.Lawful.{LawfulHistory}
-use Rattle.merging.specs.Flatpack.{merge-of, code, children, rows-for, flatpack}
+use Rattle.merging.specs.Flatpack.{merge-of, children, rows-for, flatpack}
 use Rattle.merging.proofs.OpenSums.{open-sum, parent-after, open-start, open-step, root-sum}
-use Rattle.merging.proofs.AbsentLeaf.{absent}
+use Rattle.merging.proofs.AbsentLeaf.{absent-leaf-last}
 use Rattle.merging.proofs.Amounts.{newest-merge, older-merge, node}
-use Rattle.merging.proofs.Codes.{code-absent, same-code}
 use Rattle.merging.proofs.Walk.{labels-of, walk-sum, walk-length}
 
 -- The weight of a triple's three.
@@ -65,7 +66,7 @@ module _ (modes : ℕ) (history : List Triple) (lawful : LawfulHistory modes his
       let triple = merge-of history label in
       let coded : (child : ℕ) → child < 2 * modes + 1 + label → same (code modes (2 * modes) child) (code modes (2 * modes) entity) ≡ same child entity =
       λ child l. same-code modes small child entity (omega arith) within in
-      rw (absent modes history lawful all some-modes, coded (triple .x) (n .x-before), coded (triple .y) (n .y-before), coded (triple .z) (n .z-before))
+      rw (absent-leaf-last modes history lawful all some-modes, coded (triple .x) (n .x-before), coded (triple .y) (n .y-before), coded (triple .z) (n .z-before))
       (omega arith)
 
   pub child-once : (entity : ℕ) → entity < 3 * modes
@@ -84,5 +85,5 @@ module _ (modes : ℕ) (history : List Triple) (lawful : LawfulHistory modes his
       let once = total-once (2 * modes + 1 + modes) entity (omega arith) in
       omega arith
 
-  pub absent-once : occurrences 65535 (flatMap (children modes history) (labels-of modes history)) ≡ 1
+  pub absent-once : occurrences absent (flatMap (children modes history) (labels-of modes history)) ≡ 1
   absent-once = rw (code-absent modes) at (child-once (2 * modes) (omega arith))

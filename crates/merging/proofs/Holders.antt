@@ -8,7 +8,7 @@ use native.Mathlib.Omega.{arith}
 use borrow.Author.Tests.{eqb-true, eqb-false, eq-eqb, ne-eqb, leb-true, le-leb, not-true}
 use lib.Dec.{eqb}
 use Rattle.lists.proofs.Tests.{both, either, neither, same-or-not}
-use Rattle.terms.specs.declared.row.Triple.{Triple}
+use Rattle.entities.specs.declared.Triple.{Triple}
 use Rattle.merging.specs.History.{next-parent, among, is-open, z-end, holder}
 use Rattle.merging.specs.Lawful.{Lawful, LawfulHistory}
 

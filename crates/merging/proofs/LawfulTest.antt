@@ -5,7 +5,7 @@ use mathlib.Core.List.{List}
 use Prim.Native.Nat.{ℕ}
 use borrow.Author.Tests.{eqb-true, eqb-false, eq-eqb, ne-eqb, ltb-true, lt-ltb, not-true}
 use Rattle.lists.proofs.Tests.{both}
-use Rattle.terms.specs.declared.row.Triple.{Triple}
+use Rattle.entities.specs.declared.Triple.{Triple}
 use Rattle.merging.specs.Lawful.{Lawful, is-lawful, three-open, paired}
 
 module _ (modes : ℕ) (history : List Triple) (triple : Triple) where

@@ -20,7 +20,6 @@ pub mod PairCount
 pub mod RunLawful
 pub mod TrialTotals
 pub mod Amounts
-pub mod Codes
 pub mod Walk
 pub mod FlatpackRows
 pub mod Walking

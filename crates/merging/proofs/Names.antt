@@ -10,7 +10,7 @@ use lib.Dec.{eqb}
 use Rattle.lists.proofs.Tests.{same-or-not}
 use Rattle.lists.proofs.Membership.{kept, of-kept, joined, of-joined, counted}
 use Rattle.lists.proofs.Ordered.{Ascending, counted-ascends, kept-ascends, map-ascends, joined-ascends}
-use Rattle.terms.specs.declared.row.Triple.{Triple}
+use Rattle.entities.specs.declared.Triple.{Triple}
 use Rattle.merging.specs.History.{next-parent, z-end, holder}
 use Rattle.merging.specs.Lawful.{Lawful, LawfulHistory, is-lawful, Pair, named, entities, pairs-with, lawful-pairs}
 use Rattle.merging.specs.Choice.{first-name}

@@ -13,7 +13,7 @@ use Rattle.lists.specs.Counting.{same}
 use Rattle.lists.proofs.Tests.{same-or-not}
 use Rattle.lists.proofs.Totals.{total, without, without-here, without-there, total-same, total-none, total-apart}
 use Rattle.lists.proofs.Sums.{one-if, same-one, same-none, sum-map, sum-listed, length-keep, length-flatMap}
-use Rattle.terms.specs.declared.row.Triple.{Triple}
+use Rattle.entities.specs.declared.Triple.{Triple}
 use Rattle.merging.specs.History.{next-parent, is-open, z-end}
 use Rattle.merging.specs.Lawful.{LawfulHistory, is-lawful, Pair, named, entities, pairs-with, lawful-pairs}
 use Rattle.merging.proofs.LawfulTest.{lawful-test}

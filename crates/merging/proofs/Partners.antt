@@ -7,7 +7,7 @@ use Prim.Native.Nat.{ℕ, _+_, _-_, _*_, _%_, _<_}
 use native.Mathlib.Omega.{arith}
 use borrow.Author.Tests.{eq-eqb, ne-eqb}
 use Rattle.lists.proofs.Tests.{same-or-not, not-so}
-use Rattle.terms.specs.declared.row.Triple.{Triple}
+use Rattle.entities.specs.declared.Triple.{Triple}
 use Rattle.merging.specs.History.{is-open, z-end, holder}
 use Rattle.merging.specs.Lawful.{Lawful, LawfulHistory, is-lawful, Pair, named}
 use Rattle.merging.proofs.LawfulTest.{test-lawful}

@@ -8,7 +8,7 @@ use native.Mathlib.Omega.{arith}
 use lib.ListN.{length, set}
 use lib.Seq.{getD-set-same, getD-set-other}
 use Rattle.lists.proofs.Tests.{same-or-not}
-use Rattle.terms.specs.declared.row.Triple.{Triple}
+use Rattle.entities.specs.declared.Triple.{Triple}
 use Rattle.merging.specs.Flatpack.{merge-of}
 use Rattle.merging.specs.Recorded.{merge-at, recorded}
 use Rattle.merging.proofs.Amounts.{newest-merge, older-merge}

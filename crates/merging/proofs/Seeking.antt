@@ -4,7 +4,7 @@ use mathlib.Core.List.{List, [], _∷_, _++_}
 use Prim.Native.Nat.{ℕ, _<_}
 use Rattle.lists.specs.Least.{least}
 use Rattle.lists.proofs.Least.{least-map-joined, least-found}
-use Rattle.terms.specs.declared.row.Triple.{Triple}
+use Rattle.entities.specs.declared.Triple.{Triple}
 use Rattle.merging.specs.declared.choice.Best.{Best}
 use Rattle.merging.specs.Couples.{weighed, seek}
 

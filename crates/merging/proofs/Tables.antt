@@ -11,7 +11,7 @@ use Rattle.lists.specs.Ranges.{listed}
 use Rattle.lists.proofs.Listed.{listed-at}
 use Rattle.lists.proofs.Tests.{eqb-either}
 use Rattle.lists.proofs.Writes.{after-write}
-use Rattle.terms.specs.declared.row.Triple.{Triple}
+use Rattle.entities.specs.declared.Triple.{Triple}
 use Rattle.merging.specs.History.{next-parent, among, is-open, z-end, holder}
 use Rattle.merging.specs.Couples.{OpensAre, EndsAre, HoldersAre, Tied}
 

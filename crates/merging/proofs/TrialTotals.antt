@@ -5,7 +5,7 @@ use Prim.Native.Nat.{ℕ, zero, suc, _+_, _-_, _*_}
 use native.Mathlib.Nat.{mul-add, add-mul, mul-assoc, suc-mul, mul-suc, mul-div-right}
 use native.Mathlib.Omega.{arith}
 use lib.ListN.{length}
-use Rattle.terms.specs.declared.row.Triple.{Triple}
+use Rattle.entities.specs.declared.Triple.{Triple}
 use Rattle.merging.specs.Lawful.{LawfulHistory, lawful-pairs}
 use Rattle.merging.specs.Choice.{chosen}
 use Rattle.merging.specs.Run.{trials}

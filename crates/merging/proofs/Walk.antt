@@ -13,11 +13,12 @@ use Rattle.lists.proofs.Tests.{both}
 use Rattle.lists.proofs.Totals.{total, total-same, total-none, total-ones, total-parts}
 use Rattle.lists.proofs.Sums.{sum-of, sum-append, sum-keep, sum-length, sum-occurrences, total-once, total-never}
 use Rattle.lists.proofs.Every.{every-append, keeps-passing}
-use Rattle.terms.specs.declared.row.Triple.{Triple}
+use Rattle.entities.specs.declared.Triple.{Triple}
+use Rattle.entities.specs.Codes.{absent, code}
+use Rattle.entities.proofs.ChildCodes.{code-absent, code-leaf, code-node, entity-cases}
 use Rattle.merging.specs.Lawful.{LawfulHistory}
-use Rattle.merging.specs.Flatpack.{merge-of, code, children, walk}
-use Rattle.merging.proofs.AbsentLeaf.{absent}
-use Rattle.merging.proofs.Codes.{code-absent, code-leaf, code-node, entity-cases}
+use Rattle.merging.specs.Flatpack.{merge-of, children, walk}
+use Rattle.merging.proofs.AbsentLeaf.{absent-leaf-last}
 use Rattle.merging.proofs.Amounts.{amount, amount-leaf, amount-root, node}
 
 -- A rule on labels as a weight of entities: a leaf weighs nothing.
@@ -62,7 +63,7 @@ module _ (modes : ℕ) (history : List Triple) (lawful : LawfulHistory modes his
       entity-cases modes
       (λ entity. cond (ltb (code modes (2 * modes) entity) modes) (below rule (code modes (2 * modes) entity)) 0
       ≡ amount modes history (on-nodes modes rule) entity)
-      (rw (code-absent modes, le-ltb 65535 modes (omega arith), leaf-amount rule (2 * modes) (omega arith)) refl)
+      (rw (code-absent modes, le-ltb absent modes (omega arith), leaf-amount rule (2 * modes) (omega arith)) refl)
       (λ leaf h. rw (code-leaf modes leaf h, le-ltb (leaf + modes) modes (omega arith), leaf-amount rule leaf (omega arith)) refl)
       (λ label h. rw (code-node modes label, lt-ltb label modes h) refl)
 
@@ -76,7 +77,7 @@ module _ (modes : ℕ) (history : List Triple) (lawful : LawfulHistory modes his
       let x = child (triple .x) (omega (arith, n .x-before)) in
       let y = child (triple .y) (omega (arith, n .y-before)) in
       let z = child (triple .z) (omega (arith, n .z-before)) in
-      rw (sum-keep (below rule) (λ child. ltb child modes) (children modes history label), absent modes history lawful all some-modes)
+      rw (sum-keep (below rule) (λ child. ltb child modes) (children modes history label), absent-leaf-last modes history lawful all some-modes)
       (rw (x, y, z, n .under (on-nodes modes rule), on-node modes rule label) (omega arith))
 
   -- With a turn for each node under the queue, the walk has them all.

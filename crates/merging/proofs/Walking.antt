@@ -17,7 +17,7 @@ use Rattle.lists.proofs.Steps.{drop-step}
 use Rattle.lists.proofs.Every.{every-at, every-append, keeps-passing}
 use Rattle.lists.proofs.Written.{length-written}
 use Rattle.lists.proofs.Behind.{written-behind-front}
-use Rattle.terms.specs.declared.row.Triple.{Triple}
+use Rattle.entities.specs.declared.Triple.{Triple}
 use Rattle.merging.specs.Lawful.{LawfulHistory}
 use Rattle.merging.specs.Flatpack.{children, walk, rows-for, flatpack}
 use Rattle.merging.proofs.Walk.{labels-of, walk-length}

@@ -4,7 +4,7 @@ use mathlib.Core.List.{List, map}
 use mathlib.Core.Logic.{_⊎_}
 use Prim.Native.Nat.{ℕ, _≤_, _<_, min}
 use Rattle.lists.specs.Least.{least-of}
-use Rattle.terms.specs.declared.row.Triple.{Triple}
+use Rattle.entities.specs.declared.Triple.{Triple}
 use Rattle.terms.specs.Weight.{weight-of}
 use Rattle.merging.specs.History.{rows-after}
 use Rattle.merging.specs.Lawful.{Lawful, Pair, named, lawful-pairs}

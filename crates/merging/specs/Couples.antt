@@ -8,7 +8,7 @@ use lib.ListN.{getD}
 use Rattle.lists.specs.Least.{least}
 use Rattle.lists.specs.Members.{keep}
 use Rattle.lists.specs.Ranges.{listed}
-use Rattle.terms.specs.declared.row.Triple.{Triple}
+use Rattle.entities.specs.declared.Triple.{Triple}
 use Rattle.terms.specs.Rows.{terms-of}
 use Rattle.terms.specs.Weight.{weight-of}
 use Rattle.merging.specs.declared.choice.Best.{Best}

@@ -1,21 +1,16 @@
 -- "Rows are (label, X, Y, Z), label = step, breadth first from the root, children queued X, Y, Z."
-use mathlib.Core.Bool.{cond}
 use mathlib.Core.List.{List, [], _∷_, _++_, flatMap}
 use Prim.Native.Nat.{ℕ, zero, suc, _+_, _-_, _*_}
-use lib.Dec.{eqb, ltb}
+use lib.Dec.{ltb}
 use lib.ListN.{length, getD}
 use Rattle.lists.specs.Members.{keep}
-use Rattle.terms.specs.declared.row.Triple.{Triple}
+use Rattle.entities.specs.declared.Triple.{Triple}
+use Rattle.entities.specs.Codes.{code}
 use Rattle.merging.specs.History.{z-end}
 
 -- The merge of a step; the history has the newest first.
 unfoldable pub merge-of : List Triple → ℕ → Triple
 merge-of history step = getD history (length history - suc step) (record { x = 0; y = 0; z = 0 })
-
--- "A child code is 0..n-1 for a node, n..3n-1 for leaf code minus n, or 65535 for the one absent child", which is the leaf `end`.
-unfoldable pub code : ℕ → ℕ → ℕ → ℕ
-code modes end entity =
-    cond (eqb entity end) 65535 (cond (ltb entity (2 * modes + 1)) (entity + modes) (entity - (2 * modes + 1)))
 
 -- "After n steps the last parent is the root. The absent child replaces the end of its z-chain."
 unfoldable pub absent-leaf : ℕ → List Triple → ℕ

@@ -1,15 +1,16 @@
 -- The state of a run is its history: the merges so far, newest first. Everything else is read off it.
 use mathlib.Core.Bool.{Bool, cond, not, _&&_, _||_}
 use mathlib.Core.List.{List, [], _∷_}
-use Prim.Native.Nat.{ℕ, _+_, _*_}
+use Prim.Native.Nat.{ℕ, _*_}
 use lib.Dec.{eqb, leb}
 use lib.ListN.{length}
-use Rattle.terms.specs.declared.row.Triple.{Triple}
+use Rattle.entities.specs.declared.Triple.{Triple}
+use Rattle.entities.specs.Parents.{parent-number}
 use Rattle.terms.specs.Reduction.{reduction}
 
 -- "Its parent is 2n+1+i": the entity that the next merge makes.
 unfoldable pub next-parent : ℕ → List Triple → ℕ
-next-parent modes history = 2 * modes + 1 + length history
+next-parent modes history = parent-number modes (length history)
 
 -- The entity is one of the triple's three.
 unfoldable pub among : Triple → ℕ → Bool

@@ -6,7 +6,7 @@ use Prim.Native.Nat.{ℕ, _+_, _-_, _*_, _%_, _<_}
 use lib.Dec.{eqb, ltb}
 use Rattle.lists.specs.Members.{keep}
 use Rattle.lists.specs.Ranges.{listed}
-use Rattle.terms.specs.declared.row.Triple.{Triple}
+use Rattle.entities.specs.declared.Triple.{Triple}
 use Rattle.merging.specs.History.{next-parent, is-open, z-end, holder}
 
 -- The sentence, a field a fact.

@@ -1,4 +1,4 @@
--- What document 01 says of merges: entities, lawful triples, the choice of a step, the run, its rows and its trials.
+-- What document 01 says of merges: open entities, lawful triples, the choice of a step, the run, its rows and its trials.
 pub mod History
 pub mod Lawful
 pub mod Couples

@@ -2,7 +2,7 @@
 use mathlib.Core.List.{List, [], _∷_}
 use Prim.Native.Nat.{ℕ, zero, suc}
 use lib.ListN.{getD}
-use Rattle.terms.specs.declared.row.Triple.{Triple}
+use Rattle.entities.specs.declared.Triple.{Triple}
 
 -- The merge that the tables hold for a step.
 unfoldable pub merge-at : List ℕ → List ℕ → List ℕ → ℕ → Triple

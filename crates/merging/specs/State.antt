@@ -4,7 +4,7 @@ use mathlib.Core.Bool.{false, true}
 use mathlib.Core.List.{List, _++_}
 use Prim.Native.Nat.{ℕ, _+_, _-_, _*_, _≤_, _<_}
 use lib.ListN.{length, getD, set, drop, replicate}
-use Rattle.terms.specs.declared.row.Triple.{Triple}
+use Rattle.entities.specs.declared.Triple.{Triple}
 use Rattle.terms.specs.Rows.{Held, terms-of}
 use Rattle.merging.specs.declared.run.Run.{Run}
 use Rattle.merging.specs.History.{rows-after}

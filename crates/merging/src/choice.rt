@@ -4,7 +4,7 @@ ghost use mathlib.Core.Bool.{cond};
 ghost use mathlib.Core.List.{List, [], _∷_};
 ghost use Prim.Native.Nat.{ℕ, _+_, _≤_, _<_};
 ghost use lib.ListN.{getD, length};
-ghost use Rattle.terms.specs.declared.row.Triple.{Triple as Three};
+ghost use Rattle.entities.specs.declared.Triple.{Triple as Three};
 ghost use Rattle.terms.specs.Rows.{Held};
 ghost use Rattle.terms.specs.Weight.{OddOf};
 ghost use Rattle.merging.specs.History.{«next-parent»};
@@ -22,7 +22,7 @@ ghost use Rattle.merging.specs.Couples.{
 };
 use crate::lawful;
 use crate::lawful::Couple;
-use terms::row::Triple;
+use entities::Triple;
 use terms::weight;
 
 // The lightest triple so far and its weight.

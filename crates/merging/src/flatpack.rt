@@ -9,32 +9,11 @@ ghost use Rattle.lists.specs.Members.{keep};
 ghost use Rattle.lists.specs.Written.{«written-at»};
 ghost use Rattle.merging.specs.Lawful.{LawfulHistory};
 ghost use Rattle.merging.specs.Recorded.{recorded};
-ghost use Rattle.merging.specs.Flatpack.{
-  code as «code-of»,
-  children as «children-of»,
-  «absent-leaf»,
-  flatpack,
-};
+ghost use Rattle.merging.specs.Flatpack.{children as «children-of», «absent-leaf», flatpack};
 ghost use Rattle.merging.specs.State.{«history-of», Holds};
-use crate::entity;
 use crate::run::Run;
-use terms::row;
-use terms::row::Triple;
-
-// The child code of an entity; the leaf at the root's z-end is the absent child.
-pub fn code(modes: usize, end: u16, entity: u16) -> u16
-    requires { ⌜ modes ≤ 256 ⌝ }
-    ensures { λ r. ⌜ r ≡ code-of modes end entity ⌝ }
-{
-    if entity == end {
-        return 65535;
-    }
-    let leaves = entity::next_parent(modes, 0);
-    if entity < leaves {
-        return entity + modes as u16;
-    }
-    entity - leaves
-}
+use entities::Triple;
+use entities::codes;
 
 // The codes of a node's three children.
 fn children<'a>(
@@ -50,11 +29,11 @@ fn children<'a>(
     requires { ⌜ end ≡ absent-leaf modes (recorded (now xs) (now ys) (now zs) modes) ⌝ }
     ensures { λ r. ⌜ r .x ∷ (r .y ∷ (r .z ∷ [])) ≡ children-of modes (recorded (now (xs .entry)) (now (ys .entry)) (now (zs .entry)) modes) label ⌝ }
 {
-    let at = row::wide(label);
+    let at = entities::wide(label);
     Triple {
-        x: code(modes, end, xs[at]),
-        y: code(modes, end, ys[at]),
-        z: code(modes, end, zs[at]),
+        x: codes::code(modes, end, xs[at]),
+        y: codes::code(modes, end, ys[at]),
+        z: codes::code(modes, end, zs[at]),
     }
 }
 
@@ -75,7 +54,7 @@ fn queue_node(labels: &mut [u16], tail: usize, modes: usize, child: u16) -> usiz
     requires { ⌜ tail < length (now labels) ⌝ }
     ensures { λ r. ⌜ (tail ≤ r) × (r ≤ tail + 1) × (take r (now (labels .exit)) ≡ take tail (now (labels .entry)) ++ cond (ltb child modes) (child ∷ []) []) ⌝ }
 {
-    if row::wide(child) < modes {
+    if entities::wide(child) < modes {
         labels[tail] = child;
         return tail + 1;
     }

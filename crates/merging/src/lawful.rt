@@ -4,7 +4,7 @@ ghost use mathlib.Core.Bool.{true};
 ghost use mathlib.Core.List.{List};
 ghost use Prim.Native.Nat.{ℕ, _≤_, _<_};
 ghost use lib.ListN.{getD};
-ghost use Rattle.terms.specs.declared.row.Triple.{Triple as Three};
+ghost use Rattle.entities.specs.declared.Triple.{Triple as Three};
 ghost use Rattle.merging.specs.History.{«next-parent», «is-open», «z-end»};
 ghost use Rattle.merging.specs.Lawful.{«three-open», paired as «paired-in»};
 ghost use Rattle.merging.specs.Couples.{
@@ -18,8 +18,7 @@ ghost use Rattle.merging.specs.Couples.{
   HoldersAre,
   Tied,
 };
-use terms::row;
-use terms::row::Triple;
+use entities::Triple;
 
 // x and y of the triples that an entity names.
 pub struct Named {
@@ -38,7 +37,7 @@ pub fn marked(opens: &[bool; 769], entity: u16) -> bool
     ensures { λ r. ⌜ (r ≡ true → entity < 769) ⌝ }
     ensures { λ r. ⌜ ((modes : ℕ) (history : List Three) → next-parent modes history ≤ 769 → OpensAre 769 modes history (now (opens .entry)) → r ≡ is-open modes history entity) ⌝ }
 {
-    let at = row::wide(entity);
+    let at = entities::wide(entity);
     if 769 <= at {
         return false;
     }
@@ -64,8 +63,8 @@ fn end_of(ends: &[u16; 769], entity: u16) -> usize
     requires { ⌜ entity < 769 ⌝ }
     ensures { λ r. ⌜ (r < 65536) × (r ≡ getD (now (ends .entry)) entity 0) ⌝ }
 {
-    let at = row::wide(entity);
-    row::wide(ends[at])
+    let at = entities::wide(entity);
+    entities::wide(ends[at])
 }
 
 // x's z-end is an even 2k below 2n and y's is 2k+1.

@@ -11,10 +11,9 @@ ghost use Rattle.merging.specs.Run.{finished as «finished-from»};
 ghost use Rattle.merging.specs.State.{«history-of», Holds, EntitiesMerged, Noted, Ready, Went};
 use crate::choice;
 use crate::choice::Best;
-use crate::entity;
+use entities::Triple;
+use entities::parents;
 use terms::reduction;
-use terms::row;
-use terms::row::Triple;
 
 // What a run holds: a mark, a z-end and a holder for every entity, and x, y, z and the weight of every merge.
 pub struct Run {
@@ -38,7 +37,7 @@ fn identity() -> [u16; 769]
     let mut table = [0u16; 769];
     let mut at: u16 = 0;
     while at < 769 {
-        let place = row::wide(at);
+        let place = entities::wide(at);
         table[place] = at;
         at += 1;
     }
@@ -90,13 +89,13 @@ impl Run {
         requires { ⌜ getD (self .ends) (triple .z) 0 < 769 ⌝ }
         ensures { λ r. ⌜ EntitiesMerged triple self r ⌝ }
     {
-        let parent = entity::next_parent(self.modes, self.step);
-        let x = row::wide(triple.x);
-        let y = row::wide(triple.y);
-        let z = row::wide(triple.z);
-        let at = row::wide(parent);
+        let parent = parents::parent_number(self.modes, self.step);
+        let x = entities::wide(triple.x);
+        let y = entities::wide(triple.y);
+        let z = entities::wide(triple.z);
+        let at = entities::wide(parent);
         let end = self.ends[z];
-        let leaf = row::wide(end);
+        let leaf = entities::wide(end);
         self.opens[x] = false;
         self.opens[y] = false;
         self.opens[z] = false;
@@ -125,7 +124,7 @@ impl Run {
         requires { ⌜ ((terms : List (List ℕ)) × Ready 769 256 terms (now rows) self triple weight) ⌝ }
         ensures { λ r. ⌜ ((terms : List (List ℕ)) → Ready 769 256 terms (now (rows .entry)) self triple weight → Went 769 256 terms (triple ∷ history-of self) self (now (rows .entry)) r (now (rows .exit))) ⌝ }
     {
-        let parent = entity::next_parent(self.modes, self.step);
+        let parent = parents::parent_number(self.modes, self.step);
         let kept = reduction::reduce_hamiltonian(rows, self.live, parent, triple);
         let sum = self.weight + weight;
         let mut next = self.entities_merged(triple)
@@ -141,7 +140,7 @@ impl Run {
         requires { ⌜ self .step < self .modes ⌝ }
         ensures { λ r. ⌜ ((terms : List (List ℕ)) → Holds 769 256 terms (now (rows .entry)) self → Went 769 256 terms (chosen (self .modes) terms (history-of self) ∷ history-of self) self (now (rows .entry)) r (now (rows .exit))) ⌝ }
     {
-        let count = entity::next_parent(self.modes, self.step);
+        let count = parents::parent_number(self.modes, self.step);
         let best = choice::choose(
             &self.opens,
             &self.ends,

@@ -10,8 +10,9 @@ use lib.Seq.{ext-getD}
 use Rattle.lists.specs.Counting.{occurrences}
 use Rattle.lists.proofs.Totals.{total-same, total-ones}
 use Rattle.lists.proofs.Pigeonholes.{counted-all}
+use Rattle.entities.specs.Codes.{absent}
 use Rattle.tree.specs.declared.TreeChecked.the-variants.{Accepted}
-use Rattle.tree.specs.Table.{absent, child}
+use Rattle.tree.specs.Table.{child}
 use Rattle.tree.specs.OneTree.{root-of}
 use Rattle.tree.specs.Check.{tree-checked}
 use Rattle.tree.proofs.Under.{met}

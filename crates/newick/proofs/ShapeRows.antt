@@ -8,7 +8,7 @@ use borrow.Author.Tests.{lt-ltb, le-ltb, le-leb, lt-leb, ne-eqb, ltb-true, leb-t
 use lib.Dec.{ltb}
 use Rattle.lists.specs.Members.{every}
 use Rattle.lists.proofs.Every.{every-cons, every-uncons, every-append, every-parts}
-use Rattle.tree.specs.Table.{absent}
+use Rattle.entities.specs.Codes.{absent}
 use Rattle.newick.specs.Grammar.{Shape, leaf, none, node, numbers-fit}
 use Rattle.newick.specs.Reading.{leaf-name, absent-name}
 use Rattle.newick.specs.Laying.{in-range, code-of}

@@ -9,7 +9,7 @@ use lib.Dec.{ltb}
 use lib.ListN.{length, length-append}
 use Rattle.lists.specs.Members.{every}
 use Rattle.lists.proofs.Every.{every-cons, every-append}
-use Rattle.tree.specs.Table.{absent}
+use Rattle.entities.specs.Codes.{absent}
 use Rattle.newick.specs.Grammar.{Shape, leaf, none, node, numbers-fit}
 use Rattle.newick.specs.Writing.{end-shape, shape-under}
 use Rattle.newick.specs.Laying.{code-of}

@@ -12,9 +12,11 @@ use Rattle.lists.specs.Members.{every}
 use Rattle.lists.proofs.Every.{every-cons, every-append}
 use Rattle.lists.proofs.Totals.{total, total-same, total-add, total-parts, total-pairs}
 use Rattle.lists.proofs.Sums.{sum-of, sum-append, sum-listed}
+use Rattle.lists.proofs.SumOnce.{sum-once}
+use Rattle.entities.specs.Codes.{absent}
 use Rattle.journal.specs.Decimal.{decimal}
 use Rattle.tree.specs.declared.TreeChecked.the-variants.{Accepted}
-use Rattle.tree.specs.Table.{absent, nodes, child}
+use Rattle.tree.specs.Table.{nodes, child}
 use Rattle.tree.specs.OneTree.{root-of}
 use Rattle.tree.specs.Check.{codes-good, tree-checked}
 use Rattle.tree.specs.Accepted.{under}
@@ -23,7 +25,6 @@ use Rattle.tree.proofs.AcceptedParts.{accepted-parts}
 use Rattle.tree.proofs.AcceptedTree.{accepted-tree}
 use Rattle.newick.specs.Grammar.{spelled}
 use Rattle.newick.specs.Writing.{end-shape, shape-under, newick-text, mode-length, text-length}
-use Rattle.lists.proofs.SumOnce.{sum-once}
 use Rattle.newick.proofs.ShapeText.{end-absent, end-leaf, shape-end, under-length}
 use Rattle.newick.proofs.WholeUnder.{whole-under, accepted-whole}
 

@@ -8,7 +8,7 @@ use lib.ListN.{length, take, replicate, length-append}
 use lib.Seq.{length-take-le}
 use Rattle.lists.specs.Members.{every}
 use Rattle.refusal.specs.declared.Refusal.the-variants.{NotOneTree, NewickForm, TooManyNodes}
-use Rattle.tree.specs.Table.{absent}
+use Rattle.entities.specs.Codes.{absent}
 use Rattle.tree.specs.Check.{tree-checked}
 use Rattle.newick.specs.declared.reading.NewickRead.the-variants.{Unread}
 use Rattle.newick.specs.Reading.{got, stuck, crowded, text-read}

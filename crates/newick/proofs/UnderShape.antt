@@ -11,7 +11,8 @@ use lib.ListN.{length, getD}
 use Rattle.lists.specs.Counting.{occurrences}
 use Rattle.lists.proofs.Tests.{either}
 use Rattle.lists.proofs.Sums.{same-none, occurrences-append}
-use Rattle.tree.specs.Table.{absent, child}
+use Rattle.entities.specs.Codes.{absent}
+use Rattle.tree.specs.Table.{child}
 use Rattle.tree.specs.Check.{codes-good}
 use Rattle.tree.proofs.TableSteps.{code-good}
 use Rattle.tree.proofs.Under.{met, met-leaf, met-none, met-node}

@@ -15,9 +15,10 @@ use Rattle.lists.proofs.Sums.{one-same}
 use Rattle.lists.proofs.Totals.{total-ones}
 use Rattle.lists.proofs.Pigeonholes.{values-same, counted-all, counted-with}
 use Rattle.refusal.specs.declared.Refusal.the-variants.{Room, NotOneTree}
+use Rattle.entities.specs.Codes.{absent}
 use Rattle.tree.specs.declared.TreeChecked.{TreeChecked}
 use Rattle.tree.specs.declared.TreeChecked.the-variants.{Accepted, Refused}
-use Rattle.tree.specs.Table.{absent, child}
+use Rattle.tree.specs.Table.{child}
 use Rattle.tree.specs.OneTree.{root-of}
 use Rattle.tree.specs.Check.{tree-checked}
 use Rattle.tree.proofs.Under.{met-top}

@@ -5,7 +5,7 @@ use Prim.Native.Nat.{ℕ, _+_, _-_, _*_}
 use lib.Dec.{eqb, ltb, leb}
 use lib.ListN.{length, replicate}
 use Rattle.lists.specs.Written.{written-at}
-use Rattle.tree.specs.Table.{absent}
+use Rattle.entities.specs.Codes.{absent}
 use Rattle.newick.specs.Reading.{absent-name}
 
 -- A name is a label below n, a leaf below 2n or the absent child's: else "a node or leaf number is out of range".

@@ -5,8 +5,9 @@ use Prim.Native.Nat.{ℕ, zero, suc, _+_, _-_, _*_}
 use lib.Dec.{eqb, ltb}
 use lib.ListN.{length}
 use Rattle.lists.specs.Counting.{sum}
+use Rattle.entities.specs.Codes.{absent}
 use Rattle.journal.specs.Decimal.{decimal}
-use Rattle.tree.specs.Table.{absent, nodes, child}
+use Rattle.tree.specs.Table.{nodes, child}
 use Rattle.tree.specs.OneTree.{root-of}
 use Rattle.newick.specs.Grammar.{Shape, leaf, none, node, spelled}
 

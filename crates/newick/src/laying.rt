@@ -4,11 +4,10 @@ ghost use mathlib.Core.Bool.{true};
 ghost use mathlib.Core.List.{[], _∷_};
 ghost use Prim.Native.Nat.{_≤_};
 ghost use lib.ListN.{length, replicate};
-ghost use Rattle.tree.specs.Table.{absent};
+ghost use Rattle.entities.specs.Codes.{absent};
 ghost use Rattle.newick.specs.Laying.{«in-range», «code-of», «row-over», «laid-over»};
 ghost use Rattle.newick.specs.Promises.{Coded};
-use terms::row;
-use tree::table;
+use entities::codes;
 
 // A name read before the number of modes was known, as a number to count with.
 fn wide(name: u32) -> usize
@@ -43,7 +42,7 @@ fn code_of(modes: usize, name: usize) -> u16
         return name as u16;
     }
     if name == 131072 {
-        return 65535;
+        return codes::ABSENT;
     }
     (modes + (name - 65536)) as u16
 }
@@ -71,7 +70,7 @@ fn clear_table(table: &mut [u16])
 {
     let mut at = 0;
     while at < table.len() {
-        table[at] = 65535;
+        table[at] = codes::ABSENT;
         at += 1;
     }
 }
@@ -100,7 +99,7 @@ pub fn lay_rows(rows: &[u16], table: &mut [u16])
         let at = 4 * done;
         lay_row(
             table,
-            row::wide(rows[at]),
+            entities::wide(rows[at]),
             rows[at + 1],
             rows[at + 2],
             rows[at + 3],

@@ -11,6 +11,7 @@ ghost use Rattle.newick.specs.Grammar.{spelled};
 ghost use Rattle.newick.specs.Writing.{«end-shape», «shape-under», «newick-text»};
 ghost use Rattle.newick.specs.Calls.{«newick-written», «written-as», «text-after»};
 use crate::length;
+use entities::codes;
 use journal::putting;
 use refusal::Refusal;
 use tree::TreeChecked;
@@ -40,7 +41,7 @@ fn put_end(text: &mut [u8], at: usize, modes: usize, code: usize) -> usize
     ensures { λ r. ⌜ r ≡ at + length (spelled (end-shape modes code)) ⌝ }
     ensures { λ r. ⌜ now (text .exit) ≡ written-at at (spelled (end-shape modes code)) (now (text .entry)) ⌝ }
 {
-    if code == table::ABSENT {
+    if code == codes::ABSENT as usize {
         text[at] = b'e';
         return at + 1;
     }

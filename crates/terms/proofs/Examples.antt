@@ -6,7 +6,7 @@ use Prim.Native.Nat.{ℕ}
 use lib.Dec.{eqb}
 use Rattle.lists.specs.Counting.{sum, same, occurrences}
 use Rattle.lists.specs.Members.{every, keep, some-of, alike, firsts-after, firsts}
-use Rattle.terms.specs.declared.row.Triple.{Triple}
+use Rattle.entities.specs.declared.Triple.{Triple}
 use Rattle.terms.specs.Weight.{odd-ones, term-weight, weight-of}
 use Rattle.terms.specs.Reduction.{replacement, put-in, sorted, rewriting, dropped, reduction}
 

@@ -8,7 +8,7 @@ use lib.ListN.{length, getD, length-map}
 use Rattle.lists.specs.Members.{keep, alike, firsts}
 use Rattle.lists.proofs.Alike.{alike-self}
 use Rattle.lists.proofs.Firsts.{fewer-kept, fewer-firsts, no-two-like}
-use Rattle.terms.specs.declared.row.Triple.{Triple}
+use Rattle.entities.specs.declared.Triple.{Triple}
 use Rattle.terms.specs.Reduction.{rewriting, dropped, reduction}
 
 module _ (triple : Triple) (parent : ℕ) (terms : List (List ℕ)) where

@@ -11,7 +11,7 @@ use lib.Seq.{drop-drop, getD-drop}
 use Rattle.lists.specs.Members.{keep, some-of, alike, firsts, firsts-after}
 use Rattle.lists.specs.Written.{written-at}
 use Rattle.lists.proofs.Written.{length-written, take-written, from-written, getD-before}
-use Rattle.terms.specs.declared.row.Triple.{Triple}
+use Rattle.entities.specs.declared.Triple.{Triple}
 use Rattle.terms.specs.Rows.{Held, rows-of, term, terms-of}
 use Rattle.terms.specs.Reduction.{rewriting, dropped, stays, addition, reduction}
 use Rattle.terms.specs.Promises.{RowReduced, Reduced}

@@ -9,7 +9,7 @@ use borrow.Author.Count.{below-more}
 use lib.ListN.{length, getD, take, drop}
 use Rattle.lists.specs.Written.{written-at}
 use Rattle.lists.proofs.Written.{length-written, take-written, part-written, drop-written, getD-before, getD-within}
-use Rattle.terms.specs.declared.row.Triple.{Triple}
+use Rattle.entities.specs.declared.Triple.{Triple}
 use Rattle.terms.specs.Rows.{Held, rows-of, term, terms-of}
 use Rattle.terms.specs.Reduction.{rewriting, stays, addition}
 use Rattle.terms.specs.Promises.{Rewritten, RowReduced}

@@ -6,7 +6,7 @@ use native.Mathlib.Omega.{arith}
 use borrow.Rule.Slice.PartMut.{putMid, postOf}
 use lib.ListN.{length, getD, take, length-take, List·getD-append, length-drop}
 use lib.Seq.{drop-at, take-at, getD-take, length-take-le}
-use Rattle.terms.specs.declared.row.Triple.{Triple}
+use Rattle.entities.specs.declared.Triple.{Triple}
 use Rattle.terms.specs.Rows.{term}
 use Rattle.terms.specs.Reduction.{rewriting}
 use Rattle.terms.specs.Promises.{Rewritten}

@@ -8,7 +8,7 @@ use lib.ListN.{length, getD, take, drop, set, drop-of-length-le, length-append, 
 use lib.Seq.{drop-length, set-split, drop-set-lt, drop-drop, drop-at, take-take, getD-take, length-take-le}
 use Rattle.lists.proofs.Steps.{drop-step, part-to-end}
 use Rattle.lists.proofs.Writes.{written-next}
-use Rattle.terms.specs.declared.row.Triple.{Triple}
+use Rattle.entities.specs.declared.Triple.{Triple}
 use Rattle.terms.specs.Reduction.{put-in, replacement, sorted, rewriting}
 use Rattle.terms.proofs.SortedRight.{length-put-in, length-sorted}
 

@@ -7,7 +7,7 @@ use borrow.Author.Tests.{ne-eqb}
 use Rattle.lists.specs.Counting.{occurrences}
 use Rattle.lists.specs.Ranges.{ascends}
 use Rattle.lists.proofs.Counting.{occurs-not}
-use Rattle.terms.specs.declared.row.Triple.{Triple}
+use Rattle.entities.specs.declared.Triple.{Triple}
 use Rattle.terms.specs.Reduction.{replacement, sorted, rewriting}
 use Rattle.terms.proofs.SortedRight.{sorted-already}
 

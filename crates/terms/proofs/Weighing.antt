@@ -7,7 +7,7 @@ use native.Mathlib.Omega.{arith}
 use lib.Dec.{eqb}
 use lib.ListN.{take, drop}
 use Rattle.lists.specs.Counting.{sum, occurrences}
-use Rattle.terms.specs.declared.row.Triple.{Triple}
+use Rattle.entities.specs.declared.Triple.{Triple}
 use Rattle.terms.specs.Rows.{term, terms-of}
 use Rattle.terms.specs.Weight.{odd-ones, term-weight, weight-of}
 use Rattle.terms.proofs.RowSteps.{terms-step, terms-end}

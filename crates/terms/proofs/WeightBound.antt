@@ -7,7 +7,7 @@ use lib.Dec.{eqb}
 use lib.ListN.{length}
 use Rattle.lists.proofs.Tests.{whichever}
 use Rattle.lists.proofs.Counting.{sum-of-ones}
-use Rattle.terms.specs.declared.row.Triple.{Triple}
+use Rattle.entities.specs.declared.Triple.{Triple}
 use Rattle.terms.specs.Weight.{odd-ones, term-weight, weight-of}
 
 pub term-weight-at-most : (triple : Triple) (term : List ℕ) → term-weight triple term ≤ 1

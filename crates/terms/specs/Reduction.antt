@@ -5,7 +5,7 @@ use mathlib.Core.List.{List, [], _∷_, map}
 use Prim.Native.Nat.{ℕ, min, max}
 use lib.Dec.{eqb}
 use Rattle.lists.specs.Members.{every, keep, some-of, alike, firsts}
-use Rattle.terms.specs.declared.row.Triple.{Triple}
+use Rattle.entities.specs.declared.Triple.{Triple}
 
 -- "each of the three numbers becomes the parent".
 unfoldable pub replacement : Triple → ℕ → ℕ → ℕ

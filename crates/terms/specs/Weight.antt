@@ -6,7 +6,7 @@ use Prim.Native.Nat.{ℕ, _+_, _*_, _%_, _<_}
 use lib.Dec.{eqb}
 use lib.ListN.{getD, take, drop}
 use Rattle.lists.specs.Counting.{sum, occurrences}
-use Rattle.terms.specs.declared.row.Triple.{Triple}
+use Rattle.entities.specs.declared.Triple.{Triple}
 use Rattle.terms.specs.Rows.{term}
 
 -- "of the three, count those that occur an odd number of times".

@@ -25,7 +25,7 @@ fn good_indices(modes: usize, indices: &[u16]) -> bool
             return false;
         }
         // an index below 2n has a half below n; twice the modes may not fit
-        if modes <= row::wide(index) / 2 {
+        if modes <= entities::wide(index) / 2 {
             return false;
         }
         low = index;
@@ -39,7 +39,7 @@ fn good_row(modes: usize, numbers: &[u16]) -> bool
     requires { ⌜ length (now numbers) ≡ 8 ⌝ }
     ensures { λ r. ⌜ r ≡ good-row (2 * modes) (now (numbers .entry)) ⌝ }
 {
-    let count = row::wide(numbers[0]);
+    let count = entities::wide(numbers[0]);
     if count < 1 {
         return false;
     }

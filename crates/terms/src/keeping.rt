@@ -17,7 +17,7 @@ fn mark_of(term: &[u16]) -> usize
     let mut mark: usize = 0;
     let mut at = 0;
     while at < term.len() {
-        mark = (773 * mark + row::wide(term[at])) % 16384;
+        mark = (773 * mark + entities::wide(term[at])) % 16384;
         at += 1;
     }
     mark

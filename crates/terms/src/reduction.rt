@@ -9,7 +9,7 @@ ghost use Rattle.terms.specs.Marks.{Marked};
 use crate::copying;
 use crate::keeping;
 use crate::row;
-use crate::row::Triple;
+use entities::Triple;
 
 fn smaller(a: u16, b: u16) -> u16
     ensures { λ r. ⌜ r ≡ min a b ⌝ }
@@ -73,7 +73,7 @@ fn rewrite_row(row: &mut [u16], triple: Triple, parent: u16)
     requires { ⌜ getD (now row) 0 0 < length (now row) ⌝ }
     ensures { λ r. ⌜ Rewritten triple parent (now (row .entry)) (now (row .exit)) ⌝ }
 {
-    let end = row::wide(row[0]) + 1;
+    let end = entities::wide(row[0]) + 1;
     rewrite(&mut row[1..end], triple, parent);
 }
 

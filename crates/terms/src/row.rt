@@ -6,20 +6,6 @@ ghost use lib.ListN.{length, getD, take, drop};
 ghost use Rattle.lists.specs.Members.{every, alike};
 ghost use Rattle.terms.specs.Rows.{term};
 
-// Three entities: a node's children under X, Y and Z.
-pub struct Triple {
-    pub x: u16,
-    pub y: u16,
-    pub z: u16,
-}
-
-// The number as an index.
-pub fn wide(number: u16) -> usize
-    ensures { λ r. ⌜ (r ≡ number) × (r < 65536) ⌝ }
-{
-    number as usize
-}
-
 // The row at this place of rows that stand one after the other.
 pub fn row_at(rows: &[u16], place: usize) -> &[u16]
     requires { ⌜ 8 * place + 8 ≤ length (now rows) ⌝ }
@@ -35,7 +21,7 @@ pub fn term_of(row: &[u16]) -> &[u16]
     requires { ⌜ getD (now row) 0 0 < length (now row) ⌝ }
     ensures { λ r. ⌜ now r ≡ term (now (row .entry)) ⌝ }
 {
-    let end = wide(row[0]) + 1;
+    let end = entities::wide(row[0]) + 1;
     &row[1..end]
 }
 

@@ -6,7 +6,7 @@ ghost use Rattle.lists.specs.Counting.{same as «one-if-same», occurrences};
 ghost use Rattle.terms.specs.Rows.{Held, «terms-of»};
 ghost use Rattle.terms.specs.Weight.{OddOf, «term-weight», «weight-of»};
 use crate::row;
-use crate::row::Triple;
+use entities::Triple;
 
 // 1 where the two numbers are the same, else 0.
 fn same(number: u16, other: u16) -> usize

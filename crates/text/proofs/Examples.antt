@@ -8,6 +8,7 @@ use Rattle.lists.specs.Counting.{sum, same, occurrences}
 use Rattle.lists.specs.Ranges.{listed, ascends, ascends-from}
 use Rattle.lists.specs.Least.{least, lighter, least-of}
 use Rattle.lists.specs.Written.{written-at}
+use Rattle.entities.specs.Codes.{code}
 use Rattle.terms.specs.Rows.{rows-of, term, terms-of}
 use Rattle.terms.specs.Good.{modes-good, good-indices, good-row, good-rows, checked}
 use Rattle.terms.specs.Weight.{weight-of, term-weight, odd-ones}
@@ -16,7 +17,7 @@ use Rattle.merging.specs.History.{next-parent, among, is-open, z-end, holder, r
 use Rattle.merging.specs.Lawful.{is-lawful, three-open, paired, named, entities, pairs-with, lawful-pairs}
 use Rattle.merging.specs.Choice.{weight-in, candidates, chosen}
 use Rattle.merging.specs.Run.{greedy, finished, run-weight, trials}
-use Rattle.merging.specs.Flatpack.{merge-of, code, absent-leaf, children, walk, rows-for, flatpack}
+use Rattle.merging.specs.Flatpack.{merge-of, absent-leaf, children, walk, rows-for, flatpack}
 use Rattle.journal.specs.Decimal.{is-digit, value-after, value, leads-well, is-number, digits, decimal}
 use Rattle.journal.specs.Fields.{fields-after, fields, word, version, header-text, merge-text, tabbed}
 use Rattle.journal.specs.Lines.{lines-after, lines, kept-of}

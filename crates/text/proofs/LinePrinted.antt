@@ -13,9 +13,9 @@ use Rattle.lists.proofs.Written.{length-written, part-written}
 use Rattle.lists.proofs.Writes.{written-next}
 use Rattle.refusal.specs.declared.Refusal.{Refusal}
 use Rattle.refusal.specs.declared.Refusal.the-variants.{Room}
+use Rattle.entities.specs.Codes.{absent}
 use Rattle.tree.specs.declared.TreeChecked.{TreeChecked}
 use Rattle.tree.specs.declared.TreeChecked.the-variants.{Accepted, Refused as Unaccepted}
-use Rattle.tree.specs.Table.{absent}
 use Rattle.tree.specs.Check.{tree-checked}
 use Rattle.newick.specs.declared.writing.NewickWritten.{NewickWritten}
 use Rattle.newick.specs.declared.writing.NewickWritten.the-variants.{Written, Unwritten}

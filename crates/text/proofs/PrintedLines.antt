@@ -11,6 +11,7 @@ use Rattle.lists.proofs.Behind.{Wrote, wrote-none, then-wrote}
 use Rattle.lists.proofs.Joined.{flatMap-joined}
 use Rattle.refusal.specs.declared.Refusal.{Refusal}
 use Rattle.refusal.specs.Numbers.{numberOf, placeOf}
+use Rattle.entities.specs.Codes.{absent}
 use Rattle.terms.specs.Rows.{rows-of}
 use Rattle.terms.proofs.RowSteps.{rows-more}
 use Rattle.journal.specs.Decimal.{decimal}
@@ -22,13 +23,13 @@ pub front-is : (part before after : List ℕ) (end : ℕ) → end ≡ length par
 front-is part before after end e w room = rw (w, e) (part-written 0 part before (omega arith))
 
 -- A code is `-` or its number.
-pub code-absent : (code : ℕ) → code ≡ 65535 → code-text code ≡ 45 ∷ []
+pub code-absent : (code : ℕ) → code ≡ absent → code-text code ≡ 45 ∷ []
 unfolding code-text
-code-absent code e = rw (eq-eqb code 65535 e)
+code-absent code e = rw (eq-eqb code absent e)
 
-pub code-number : (code : ℕ) → (code ≡ 65535 → ⊥) → code-text code ≡ decimal code
+pub code-number : (code : ℕ) → (code ≡ absent → ⊥) → code-text code ≡ decimal code
 unfolding code-text
-code-number code e = rw (ne-eqb code 65535 e)
+code-number code e = rw (ne-eqb code absent e)
 
 four : (row : List ℕ) → length row ≡ 4 → row ≡ getD row 0 0 ∷ (getD row 1 0 ∷ (getD row 2 0 ∷ (getD row 3 0 ∷ [])))
 four [] e = absurd (omega arith)

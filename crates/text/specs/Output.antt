@@ -6,6 +6,7 @@ use lib.Dec.{eqb}
 use lib.ListN.{length}
 use Rattle.refusal.specs.declared.Refusal.{Refusal}
 use Rattle.refusal.specs.Numbers.{numberOf, placeOf}
+use Rattle.entities.specs.Codes.{absent}
 use Rattle.terms.specs.Rows.{rows-of}
 use Rattle.journal.specs.Decimal.{decimal}
 use Rattle.journal.specs.Fields.{tabbed}
@@ -30,7 +31,7 @@ refused-word = 114 ∷ (101 ∷ (102 ∷ (117 ∷ (115 ∷ (101 ∷ (100 ∷ [])
 
 -- "65535 for the one absent child. Text writes "-" for it."
 unfoldable pub code-text : ℕ → List ℕ
-code-text code = cond (eqb code 65535) (45 ∷ []) (decimal code)
+code-text code = cond (eqb code absent) (45 ∷ []) (decimal code)
 
 -- The line of one row: label, X, Y, Z.
 unfoldable pub node-line : List ℕ → List ℕ

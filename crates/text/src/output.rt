@@ -6,6 +6,7 @@ ghost use lib.ListN.{length};
 ghost use Rattle.lists.specs.Written.{«written-at»};
 ghost use Rattle.journal.specs.Decimal.{decimal};
 ghost use Rattle.text.specs.Output.{«code-text», «node-line», «node-lines», «refusal-text», «done-text»};
+use entities::codes;
 use journal::putting;
 use refusal::Refusal;
 
@@ -15,7 +16,7 @@ fn put_code(out: &mut [u8], at: usize, code: u16, mark: u8) -> usize
     ensures { λ r. ⌜ (r ≡ at + (length (code-text code) + 1)) × (r ≤ at + 6) ⌝ }
     ensures { λ r. ⌜ now (out .exit) ≡ written-at at (code-text code ++ (mark ∷ [])) (now (out .entry)) ⌝ }
 {
-    if code == 65535 {
+    if code == codes::ABSENT {
         return putting::put_bytes(out, at, &[b'-', mark]);
     }
     putting::put_field(out, at, code as u64, mark)

@@ -10,8 +10,9 @@ use native.Mathlib.Omega.{arith}
 use borrow.Author.Tests.{ltb-true, ltb-false, not-true}
 use lib.Dec.{eqb, ltb}
 use lib.ListN.{getD}
+use Rattle.entities.specs.Codes.{absent}
 use Rattle.tree.specs.declared.TreeChecked.the-variants.{Accepted}
-use Rattle.tree.specs.Table.{absent, child}
+use Rattle.tree.specs.Table.{child}
 use Rattle.tree.specs.Pairs.{chain-end}
 use Rattle.tree.specs.Check.{tree-checked}
 use Rattle.tree.specs.Accepted.{PairUnder}

@@ -12,8 +12,9 @@ use Rattle.lists.specs.Counting.{same, occurrences}
 use Rattle.lists.proofs.Leading.{leading-all}
 use Rattle.lists.proofs.Sums.{same-none}
 use Rattle.lists.proofs.Replaced.{occurrences-map, place-of-member}
+use Rattle.entities.specs.Codes.{absent}
 use Rattle.tree.specs.declared.TreeChecked.the-variants.{Accepted}
-use Rattle.tree.specs.Table.{absent, child, place-of, parent-of, climb}
+use Rattle.tree.specs.Table.{child, place-of, parent-of, climb}
 use Rattle.tree.specs.OneTree.{root-of}
 use Rattle.tree.specs.Pairs.{chain-end}
 use Rattle.tree.specs.Check.{codes-good, tree-checked}

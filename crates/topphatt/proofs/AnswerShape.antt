@@ -13,9 +13,9 @@ use Rattle.lists.proofs.Tests.{same-or-not}
 use Rattle.lists.proofs.Sums.{same-one, same-none}
 use Rattle.lists.proofs.Replaced.{occurrences-map}
 use Rattle.lists.proofs.Occurring.{occurs-twice}
-use Rattle.merging.specs.Flatpack.{code}
+use Rattle.entities.specs.Codes.{code, absent}
 use Rattle.tree.specs.declared.TreeChecked.the-variants.{Accepted}
-use Rattle.tree.specs.Table.{absent, place-of}
+use Rattle.tree.specs.Table.{place-of}
 use Rattle.tree.specs.Check.{tree-checked}
 use Rattle.tree.proofs.Standing.{place-within, stands-there}
 use Rattle.tree.proofs.AcceptedTree.{accepted-says}

@@ -9,8 +9,9 @@ use lib.Dec.{eqb}
 use lib.ListN.{length, getD, set, length-set}
 use lib.Seq.{getD-set-same, getD-set-other}
 use Rattle.lists.proofs.Tests.{not-so}
+use Rattle.entities.specs.Codes.{absent}
 use Rattle.tree.specs.declared.TreeChecked.the-variants.{Accepted}
-use Rattle.tree.specs.Table.{absent, child}
+use Rattle.tree.specs.Table.{child}
 use Rattle.tree.specs.Check.{tree-checked}
 use Rattle.tree.proofs.EachHosts.{each-hosts, pair-children}
 use Rattle.topphatt.specs.Slots.{pair-of, slot-of, slot, unfixed, leaf-of}

@@ -11,7 +11,7 @@ use Rattle.lists.proofs.Membership.{of-joined}
 use Rattle.lists.proofs.Ordered.{Ascending, map-ascends, joined-ascends}
 use Rattle.lists.proofs.Narrowing.{any-ascends}
 use Rattle.lists.proofs.Least.{FirstLeast, least-of-first}
-use Rattle.terms.specs.declared.row.Triple.{Triple}
+use Rattle.entities.specs.declared.Triple.{Triple}
 use Rattle.terms.specs.Weight.{weight-of}
 use Rattle.topphatt.specs.Nodes.{active}
 use Rattle.topphatt.specs.Choices.{choices-at}

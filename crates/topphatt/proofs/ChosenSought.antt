@@ -7,7 +7,7 @@ use lib.ListN.{length}
 use Rattle.lists.specs.Least.{least, least-of}
 use Rattle.lists.proofs.Joined.{map-flatMap}
 use Rattle.lists.proofs.Least.{least-found}
-use Rattle.terms.specs.declared.row.Triple.{Triple}
+use Rattle.entities.specs.declared.Triple.{Triple}
 use Rattle.terms.specs.Weight.{weight-of}
 use Rattle.terms.proofs.WeightBound.{weight-at-most}
 use Rattle.topphatt.specs.declared.choice.Selection.{Selection}

@@ -9,12 +9,12 @@ use Rattle.lists.specs.Members.{every, keep, leading, some-of, alike, firsts, f
 use Rattle.lists.specs.Ranges.{listed, ascends, ascends-from}
 use Rattle.lists.specs.Least.{least, lighter, least-of}
 use Rattle.lists.specs.Written.{written-at}
+use Rattle.entities.specs.Codes.{code, absent}
 use Rattle.terms.specs.Rows.{rows-of, term, terms-of}
 use Rattle.terms.specs.Good.{modes-good, good-indices, good-row, good-rows, checked}
 use Rattle.terms.specs.Weight.{odd-ones, term-weight, weight-of}
 use Rattle.terms.specs.Reduction.{replacement, put-in, sorted, rewriting, dropped, reduction}
-use Rattle.merging.specs.Flatpack.{code}
-use Rattle.tree.specs.Table.{absent, nodes, child, place-of, parent-of, climb}
+use Rattle.tree.specs.Table.{nodes, child, place-of, parent-of, climb}
 use Rattle.tree.specs.OneTree.{root-of, leaves-once, absent-once, nodes-once, all-reached, one-tree}
 use Rattle.tree.specs.Pairs.{chain-end, pair-under, pair-right, pairs-right}
 use Rattle.tree.specs.Check.{codes-good, tree-checked}

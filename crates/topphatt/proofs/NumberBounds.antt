@@ -11,7 +11,7 @@ use lib.ListN.{getD}
 use Rattle.lists.specs.Members.{some-of}
 use Rattle.lists.specs.Ranges.{listed}
 use Rattle.lists.proofs.Membership.{of-kept, of-joined, counted-below}
-use Rattle.terms.specs.declared.row.Triple.{Triple}
+use Rattle.entities.specs.declared.Triple.{Triple}
 use Rattle.tree.specs.Table.{child}
 use Rattle.topphatt.specs.Slots.{pair-of, parity-of, leaf-slot, slot-of, slot, unfixed, leaf-of}
 use Rattle.topphatt.specs.Choices.{unassigned, without, numbers, with-z, choices, choices-at}

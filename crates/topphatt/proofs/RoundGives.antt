@@ -10,9 +10,10 @@ use lib.ListN.{getD, set}
 use lib.Seq.{getD-set-same, getD-set-other}
 use Rattle.lists.specs.Counting.{occurrences}
 use Rattle.lists.proofs.Occurring.{none-occurs}
-use Rattle.terms.specs.declared.row.Triple.{Triple}
+use Rattle.entities.specs.declared.Triple.{Triple}
+use Rattle.entities.specs.Codes.{absent}
 use Rattle.tree.specs.declared.TreeChecked.the-variants.{Accepted}
-use Rattle.tree.specs.Table.{absent, child}
+use Rattle.tree.specs.Table.{child}
 use Rattle.tree.specs.Check.{tree-checked}
 use Rattle.topphatt.specs.Slots.{pair-of, parity-of, slot-of, slot, unfixed, leaf-of}
 use Rattle.topphatt.specs.Nodes.{active}

@@ -7,7 +7,7 @@ use native.Mathlib.Omega.{arith}
 use borrow.Author.Tests.{ltb-true}
 use lib.ListN.{length, getD}
 use Rattle.lists.proofs.Parts.{read-within}
-use Rattle.terms.specs.declared.row.Triple.{Triple}
+use Rattle.entities.specs.declared.Triple.{Triple}
 use Rattle.topphatt.specs.Slots.{slot-of, leaf-slot, slots, unfixed, pair-of, parity-of}
 use Rattle.topphatt.specs.Seeking.{SlotsAre}
 use Rattle.topphatt.proofs.SlotCases.{slot-leaf}

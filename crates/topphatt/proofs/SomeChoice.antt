@@ -13,8 +13,9 @@ use Rattle.lists.proofs.Tests.{same-or-not}
 use Rattle.lists.proofs.Membership.{kept, joined}
 use Rattle.lists.proofs.Ordered.{Ascending, counted-ascends, kept-ascends}
 use Rattle.lists.proofs.Narrowing.{some-member, member-of-some}
+use Rattle.entities.specs.Codes.{absent}
 use Rattle.tree.specs.declared.TreeChecked.the-variants.{Accepted}
-use Rattle.tree.specs.Table.{absent, child}
+use Rattle.tree.specs.Table.{child}
 use Rattle.tree.specs.Pairs.{chain-end}
 use Rattle.tree.specs.Check.{tree-checked}
 use Rattle.tree.proofs.TableSteps.{chain-rests}

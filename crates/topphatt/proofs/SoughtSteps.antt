@@ -12,7 +12,7 @@ use Rattle.lists.proofs.Steps.{drop-step}
 use Rattle.lists.proofs.Kept.{keep-joined}
 use Rattle.lists.proofs.Joined.{flatMap-joined}
 use Rattle.lists.proofs.Least.{ahead, behind, least-joined, least-map-joined}
-use Rattle.terms.specs.declared.row.Triple.{Triple}
+use Rattle.entities.specs.declared.Triple.{Triple}
 use Rattle.topphatt.specs.declared.choice.Selection.{Selection}
 use Rattle.topphatt.specs.Slots.{leaf-of}
 use Rattle.topphatt.specs.Choices.{with-z, without, choices-at}

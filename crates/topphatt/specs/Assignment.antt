@@ -6,7 +6,7 @@ use Prim.Native.Nat.{ℕ, _*_, _<_, _≤_}
 use lib.ListN.{length, getD}
 use Rattle.lists.specs.Counting.{occurrences}
 use Rattle.lists.specs.Members.{keep}
-use Rattle.tree.specs.Table.{absent}
+use Rattle.entities.specs.Codes.{absent}
 use Rattle.tree.specs.Check.{tree-checked}
 use Rattle.tree.specs.declared.TreeChecked.the-variants.{Accepted}
 use Rattle.topphatt.specs.Slots.{slot, unfixed}

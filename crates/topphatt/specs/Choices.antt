@@ -5,7 +5,7 @@ use Prim.Native.Nat.{ℕ}
 use lib.Dec.{eqb}
 use Rattle.lists.specs.Members.{keep, some-of}
 use Rattle.lists.specs.Ranges.{listed}
-use Rattle.terms.specs.declared.row.Triple.{Triple}
+use Rattle.entities.specs.declared.Triple.{Triple}
 use Rattle.topphatt.specs.Slots.{slot, unfixed, leaf-of}
 
 -- The modes that no pair has yet, ascending.

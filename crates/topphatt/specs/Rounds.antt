@@ -1,9 +1,10 @@
 -- "The rows are reduced to 2n+1+node. … The end is when no mode is unassigned."
 use mathlib.Core.Bool.{cond}
 use mathlib.Core.List.{List}
-use Prim.Native.Nat.{ℕ, zero, suc, _+_, _*_, _/_}
+use Prim.Native.Nat.{ℕ, zero, suc, _+_, _/_}
 use lib.Dec.{eqb}
 use lib.ListN.{length, set, replicate}
+use Rattle.entities.specs.Parents.{parent-number}
 use Rattle.terms.specs.Weight.{weight-of}
 use Rattle.terms.specs.Reduction.{reduction}
 use Rattle.tree.specs.Table.{child}
@@ -41,7 +42,7 @@ unfoldable pub after : ℕ → List ℕ → Choice → Rounds → Rounds
 after modes table choice state = record {
   round = suc (state .round);
   assigned = fixed-by modes table choice (state .assigned);
-  rows = reduction (choice .triple) (2 * modes + 1 + choice .node) (state .rows);
+  rows = reduction (choice .triple) (parent-number modes (choice .node)) (state .rows);
   weight = state .weight + weight-of (choice .triple) (state .rows);
 }
 

@@ -5,7 +5,7 @@ use Prim.Native.Nat.{ℕ, suc, _+_, _-_, _*_, _≤_, _<_}
 use lib.ListN.{length, getD}
 use Rattle.lists.specs.Least.{least}
 use Rattle.lists.specs.Written.{written-at}
-use Rattle.terms.specs.declared.row.Triple.{Triple}
+use Rattle.entities.specs.declared.Triple.{Triple}
 use Rattle.terms.specs.Rows.{Held, terms-of}
 use Rattle.terms.specs.Weight.{weight-of}
 use Rattle.topphatt.specs.declared.choice.Selection.{Selection}

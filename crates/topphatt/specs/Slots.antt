@@ -4,6 +4,7 @@ use mathlib.Core.List.{List, [], _∷_}
 use Prim.Native.Nat.{ℕ, _+_, _-_, _*_, _/_, _%_}
 use lib.Dec.{ltb}
 use lib.ListN.{getD}
+use Rattle.entities.specs.Parents.{parent-number}
 use Rattle.tree.specs.Table.{child}
 
 -- The pair k of the given tree whose leaf 2k or 2k+1 has this code.
@@ -21,7 +22,7 @@ leaf-slot modes mode parity = cond (ltb mode modes) (2 * mode + parity) (3 * mod
 -- "a child stands as 2n+1+child; empty as 2n". `assigned` has the mode of each pair of the given tree, or n where it has none yet; so "A Z leaf fixes its partner's slot too".
 unfoldable pub slot-of : ℕ → List ℕ → ℕ → ℕ
 slot-of modes assigned code =
-    cond (ltb code modes) (2 * modes + 1 + code)
+    cond (ltb code modes) (parent-number modes code)
     (cond (ltb code (3 * modes)) (leaf-slot modes (getD assigned (pair-of modes code) modes) (parity-of modes code))
     (2 * modes))
 

@@ -15,8 +15,7 @@ ghost use Rattle.topphatt.specs.Choice.{packed as «packed-number»};
 ghost use Rattle.topphatt.specs.Seeking.{standing, worst, sought, «sought-over»};
 use crate::nodes;
 use crate::slots;
-use terms::row;
-use terms::row::Triple;
+use entities::Triple;
 use terms::weight;
 
 // The best choice so far: its weight, its node, and the numbers that the node's three slots are to stand as.
@@ -290,7 +289,7 @@ fn best_at<'a>(
     requires { ⌜ now free ≡ unassigned modes (now assigned) ⌝ }
     ensures { λ r. ⌜ r ≡ sought-over modes (now (tree .entry)) (now (assigned .entry)) (terms-of 8 live (now (rows .entry))) best (node ∷ []) ⌝ }
 {
-    let at = slots::slots(modes, tree, assigned, row::wide(node));
+    let at = slots::slots(modes, tree, assigned, entities::wide(node));
     best_of_slots(rows, live, free, modes, node, at, best)
 }
 

@@ -3,20 +3,19 @@ ghost use mathlib.Core.Path.{_≡_};
 ghost use Prim.Native.Nat.{_*_, _≤_, _<_};
 ghost use lib.ListN.{length, replicate};
 ghost use Rattle.lists.specs.Written.{«written-at»};
+ghost use Rattle.entities.specs.Codes.{code};
 ghost use Rattle.terms.specs.Rows.{Held, «terms-of»};
 ghost use Rattle.terms.specs.Good.{checked};
-ghost use Rattle.merging.specs.Flatpack.{code};
 ghost use Rattle.topphatt.specs.Slots.{«slot-of»};
 ghost use Rattle.topphatt.specs.Rounds.{ended};
 ghost use Rattle.topphatt.specs.Answer.{«answer-table», outcome, «with-terms», «with-room»};
 ghost use Rattle.topphatt.specs.Promises.{Assigns};
 ghost use Rattle.topphatt.specs.Seeking.{Distances, Tabled};
-use merging::flatpack;
+use entities::codes;
 use refusal::Refusal;
 use terms::copying;
 use terms::given;
 use terms::given::Checked;
-use terms::row;
 use tree::TreeChecked;
 
 pub mod choice;
@@ -35,8 +34,8 @@ fn answer_code(modes: usize, assigned: &[u16], given: u16) -> u16
     requires { ⌜ (modes ≤ 256) × (length (now assigned) ≡ modes) ⌝ }
     ensures { λ r. ⌜ r ≡ code modes (2 * modes) (slot-of modes (now (assigned .entry)) given) ⌝ }
 {
-    let slot = slots::slot_of(modes, assigned, row::wide(given));
-    flatpack::code(modes, (2 * modes) as u16, slot)
+    let slot = slots::slot_of(modes, assigned, entities::wide(given));
+    codes::code(modes, (2 * modes) as u16, slot)
 }
 
 // The codes of the slots, where the given tree has its own, into the front of the table.

@@ -19,8 +19,7 @@ ghost use Rattle.topphatt.specs.Nodes.{
 };
 ghost use Rattle.topphatt.specs.Seeking.{Distances};
 use crate::slots;
-use terms::row;
-use terms::row::Triple;
+use entities::Triple;
 use tree::table;
 
 // How many steps up from a node lead to the root; so many are counted at most.
@@ -60,7 +59,7 @@ fn is_fixed(modes: usize, slot: u16) -> bool
     if slots::unfixed(modes, slot) {
         return false;
     }
-    row::wide(slot) != 2 * modes
+    entities::wide(slot) != 2 * modes
 }
 
 // Every slot of the node is a fixed leaf, a child or, under Z, empty.
@@ -127,7 +126,7 @@ fn distance_at(modes: usize, distances: &[usize], node: u16) -> usize
     requires { ⌜ (modes ≤ length (now distances)) × (node < modes) ⌝ }
     ensures { λ r. ⌜ ((table : List ℕ) → Distances modes table (now (distances .entry)) → r ≡ distance-of table modes node) ⌝ }
 {
-    let at = row::wide(node);
+    let at = entities::wide(node);
     distances[at]
 }
 
@@ -188,8 +187,11 @@ fn alike_nodes(modes: usize, tree: &[u16], assigned: &[u16], node: u16, other: u
     requires { ⌜ (modes ≤ 256) × (length (now assigned) ≡ modes) × (length (now tree) ≡ 3 * modes) × (node < modes) × (other < modes) ⌝ }
     ensures { λ r. ⌜ r ≡ alike (slots-at modes (now (tree .entry)) (now (assigned .entry)) node) (slots-at modes (now (tree .entry)) (now (assigned .entry)) other) ⌝ }
 {
-    let at = slots::slots(modes, tree, assigned, row::wide(node));
-    same_slots(at, slots::slots(modes, tree, assigned, row::wide(other)))
+    let at = slots::slots(modes, tree, assigned, entities::wide(node));
+    same_slots(
+        at,
+        slots::slots(modes, tree, assigned, entities::wide(other)),
+    )
 }
 
 // One of the first so many nodes has the same slots as this one.

@@ -12,9 +12,8 @@ use crate::choice;
 use crate::choice::Selection;
 use crate::nodes;
 use crate::slots;
-use merging::entity;
+use entities::parents;
 use terms::reduction;
-use terms::row;
 use terms::weight;
 use tree::table;
 
@@ -43,7 +42,7 @@ fn fix_all(modes: usize, tree: &[u16], selection: Selection, assigned: &mut [u16
     requires { ⌜ (modes ≤ 256) × (length (now assigned) ≡ modes) × (length (now tree) ≡ 3 * modes) × (selection .«min_parent» < modes) ⌝ }
     ensures { λ r. ⌜ Fixed modes (now (tree .entry)) (choice-of selection) (now (assigned .entry)) (now (assigned .exit)) ⌝ }
 {
-    let node = row::wide(selection.min_parent);
+    let node = entities::wide(selection.min_parent);
     fix(modes, tree, node, 0, selection.leaf_indices.x, assigned);
     fix(modes, tree, node, 1, selection.leaf_indices.y, assigned);
     fix(modes, tree, node, 2, selection.leaf_indices.z, assigned);
@@ -115,7 +114,7 @@ fn round<'a>(
     let selection = choose(modes, tree, distances, heuristic, rows, assigned, progress);
     let weight = chosen_weight(rows, progress.live, selection);
     fix_all(modes, tree, selection, assigned);
-    let parent = entity::next_parent(modes, row::wide(selection.min_parent));
+    let parent = parents::parent_number(modes, entities::wide(selection.min_parent));
     let live = reduction::reduce_hamiltonian(rows, progress.live, parent, selection.leaf_indices);
     Progress {
         round: progress.round + 1,

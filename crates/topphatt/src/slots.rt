@@ -10,8 +10,8 @@ ghost use Rattle.topphatt.specs.Slots.{
   unfixed as «is-unfixed»,
   «leaf-of» as «leaf-taken»,
 };
-use terms::row;
-use terms::row::Triple;
+use entities::Triple;
+use entities::parents;
 use tree::table;
 
 // A leaf's number once its pair has a mode; until then a number behind all others.
@@ -31,14 +31,14 @@ pub fn slot_of(modes: usize, assigned: &[u16], code: usize) -> u16
     ensures { λ r. ⌜ (r ≡ slot-of modes (now (assigned .entry)) code) × (r ≤ 3 * modes + 2) ⌝ }
 {
     if code < modes {
-        return (2 * modes + 1 + code) as u16;
+        return parents::parent_number(modes, code);
     }
     if 3 * modes <= code {
         return (2 * modes) as u16;
     }
     let leaf = code - modes;
     let pair = leaf / 2;
-    leaf_slot(modes, row::wide(assigned[pair]), leaf % 2)
+    leaf_slot(modes, entities::wide(assigned[pair]), leaf % 2)
 }
 
 // The slot of a node under X (edge 0), Y (1) or Z (2).
@@ -66,7 +66,7 @@ pub fn unfixed(modes: usize, slot: u16) -> bool
     requires { ⌜ modes ≤ 256 ⌝ }
     ensures { λ r. ⌜ r ≡ is-unfixed modes slot ⌝ }
 {
-    3 * modes < row::wide(slot)
+    3 * modes < entities::wide(slot)
 }
 
 // The leaf that an unfixed slot takes of a mode: its parity.

@@ -13,8 +13,9 @@ use Rattle.lists.specs.Members.{every}
 use Rattle.lists.proofs.Every.{every-cons}
 use Rattle.lists.proofs.Occurring.{occurs-at}
 use Rattle.lists.proofs.Pigeonholes.{at-most-holes}
+use Rattle.entities.specs.Codes.{absent}
 use Rattle.tree.specs.declared.TreeChecked.the-variants.{Accepted}
-use Rattle.tree.specs.Table.{absent, child, place-of}
+use Rattle.tree.specs.Table.{child, place-of}
 use Rattle.tree.specs.OneTree.{root-of}
 use Rattle.tree.specs.Pairs.{chain-end}
 use Rattle.tree.specs.Check.{codes-good, tree-checked}

@@ -14,8 +14,9 @@ use Rattle.lists.proofs.Leading.{leads}
 use Rattle.lists.proofs.Sums.{same-one, same-none}
 use Rattle.lists.proofs.Listed.{listed-at}
 use Rattle.lists.proofs.Ranges.{some-within, some-from, leading-from}
+use Rattle.entities.specs.Codes.{absent}
 use Rattle.tree.specs.declared.TreeChecked.the-variants.{Accepted}
-use Rattle.tree.specs.Table.{absent, nodes, child, climb}
+use Rattle.tree.specs.Table.{nodes, child, climb}
 use Rattle.tree.specs.OneTree.{root-of}
 use Rattle.tree.specs.Pairs.{chain-end, pair-under, pair-right, pairs-right}
 use Rattle.tree.specs.Check.{tree-checked}

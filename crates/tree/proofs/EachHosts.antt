@@ -8,8 +8,9 @@ use native.Mathlib.Omega.{arith}
 use borrow.Author.Tests.{eqb-true, ltb-true, ltb-false}
 use lib.Dec.{eqb, ltb}
 use Rattle.lists.proofs.Onto.{onto}
+use Rattle.entities.specs.Codes.{absent}
 use Rattle.tree.specs.declared.TreeChecked.the-variants.{Accepted}
-use Rattle.tree.specs.Table.{absent, child, place-of}
+use Rattle.tree.specs.Table.{child, place-of}
 use Rattle.tree.specs.OneTree.{root-of}
 use Rattle.tree.specs.Pairs.{chain-end}
 use Rattle.tree.specs.Check.{tree-checked}

@@ -14,7 +14,8 @@ use Rattle.lists.proofs.Occurring.{occurs-at}
 use Rattle.lists.proofs.Sums.{same-one, same-none}
 use Rattle.lists.proofs.Pigeonholes.{total-at-most, values-same, total-same-below, counted-with, counted-with-two}
 use Rattle.lists.proofs.Totals.{total, total-add, total-ones}
-use Rattle.tree.specs.Table.{absent, parent-of, climb}
+use Rattle.entities.specs.Codes.{absent}
+use Rattle.tree.specs.Table.{parent-of, climb}
 use Rattle.tree.specs.Check.{codes-good}
 use Rattle.tree.proofs.TableSteps.{climb-rests}
 use Rattle.tree.proofs.Standing.{own-parent, parent-is, above-below}

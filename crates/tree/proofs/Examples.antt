@@ -7,13 +7,14 @@ use Rattle.lists.specs.Counting.{sum, same, occurrences}
 use Rattle.lists.specs.Members.{every, some-of, leading, alike}
 use Rattle.lists.specs.Ranges.{listed, ascends-from, ascends}
 use Rattle.refusal.specs.Numbers.{numberOf, placeOf}
+use Rattle.entities.specs.Codes.{absent}
 use Rattle.terms.specs.Rows.{rows-of, term, terms-of}
 use Rattle.terms.specs.Good.{modes-good, good-indices, good-row, good-rows, checked}
 use Rattle.tree.specs.declared.TreeChecked.{TreeChecked}
 use Rattle.tree.specs.declared.TreeChecked.the-variants.{Accepted, Refused}
 use Rattle.tree.specs.declared.TreeWeighed.{TreeWeighed}
 use Rattle.tree.specs.declared.TreeWeighed.the-variants.{Weight, Unweighed}
-use Rattle.tree.specs.Table.{absent, nodes, child, place-of, parent-of, climb}
+use Rattle.tree.specs.Table.{nodes, child, place-of, parent-of, climb}
 use Rattle.tree.specs.OneTree.{root-of, leaves-once, absent-once, nodes-once, all-reached, one-tree}
 use Rattle.tree.specs.Pairs.{chain-end, pair-under, pair-right, pairs-right}
 use Rattle.tree.specs.Check.{codes-good, tree-checked}

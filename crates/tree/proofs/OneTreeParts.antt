@@ -6,7 +6,8 @@ use Prim.Native.Nat.{ℕ}
 use lib.Dec.{eqb}
 use Rattle.lists.specs.Counting.{occurrences}
 use Rattle.lists.specs.Members.{every}
-use Rattle.tree.specs.Table.{absent, nodes, climb}
+use Rattle.entities.specs.Codes.{absent}
+use Rattle.tree.specs.Table.{nodes, climb}
 use Rattle.tree.specs.OneTree.{root-of, leaves-once, absent-once, nodes-once, all-reached, one-tree}
 
 pub one-tree-by : (modes : ℕ) (table : List ℕ) (root : ℕ) → root ≡ climb table modes 0

@@ -10,7 +10,8 @@ use lib.ListN.{length}
 use Rattle.lists.specs.Counting.{occurrences}
 use Rattle.lists.specs.Members.{every}
 use Rattle.lists.proofs.Ranges.{every-within, every-from}
-use Rattle.tree.specs.Table.{absent, nodes, place-of, parent-of, climb}
+use Rattle.entities.specs.Codes.{absent}
+use Rattle.tree.specs.Table.{nodes, place-of, parent-of, climb}
 use Rattle.tree.specs.OneTree.{root-of, leaves-once, absent-once, nodes-once, all-reached, one-tree}
 use Rattle.tree.proofs.OneTreeParts.{one-tree-by}
 

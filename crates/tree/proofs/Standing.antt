@@ -11,7 +11,8 @@ use Rattle.lists.specs.Counting.{same, occurrences}
 use Rattle.lists.specs.Members.{leading}
 use Rattle.lists.proofs.Occurring.{occurs-at, occurs-nowhere}
 use Rattle.lists.proofs.Sums.{same-one, same-none}
-use Rattle.tree.specs.Table.{absent, child, place-of, parent-of}
+use Rattle.entities.specs.Codes.{absent}
+use Rattle.tree.specs.Table.{child, place-of, parent-of}
 
 -- The place of a code that is the first, or that is not.
 place-first : (code a : ℕ) (l : List ℕ) → a ≡ code → place-of (a ∷ l) code ≡ 0

@@ -13,7 +13,8 @@ use Rattle.lists.specs.Ranges.{listed}
 use Rattle.lists.proofs.Ranges.{listed-start}
 use Rattle.lists.proofs.Parts.{read-within}
 use Rattle.lists.proofs.Leading.{leading-passes, leading-stops, leading-ends, leads}
-use Rattle.tree.specs.Table.{absent, nodes, child, place-of, parent-of, climb}
+use Rattle.entities.specs.Codes.{absent}
+use Rattle.tree.specs.Table.{nodes, child, place-of, parent-of, climb}
 use Rattle.tree.specs.OneTree.{leaves-once}
 use Rattle.tree.specs.Pairs.{chain-end}
 use Rattle.tree.specs.Check.{codes-good}

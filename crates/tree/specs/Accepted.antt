@@ -6,7 +6,8 @@ use mathlib.Core.List.{List, [], _∷_, _++_}
 use Prim.Native.Nat.{ℕ, zero, suc, _+_, _*_, _<_}
 use lib.Dec.{ltb}
 use Rattle.lists.specs.Counting.{occurrences}
-use Rattle.tree.specs.Table.{absent, child}
+use Rattle.entities.specs.Codes.{absent}
+use Rattle.tree.specs.Table.{child}
 use Rattle.tree.specs.Pairs.{chain-end}
 
 -- The codes met going down from a code through at most so many nodes: the code, and where it is a node those under its three children.

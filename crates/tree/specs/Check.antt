@@ -6,10 +6,10 @@ use lib.Dec.{eqb, ltb}
 use lib.ListN.{length}
 use Rattle.lists.specs.Members.{leading}
 use Rattle.refusal.specs.declared.Refusal.the-variants.{Modes, TreeLength, ChildCode, NotOneTree, WrongPair}
+use Rattle.entities.specs.Codes.{absent}
 use Rattle.terms.specs.Good.{modes-good}
 use Rattle.tree.specs.declared.TreeChecked.{TreeChecked}
 use Rattle.tree.specs.declared.TreeChecked.the-variants.{Accepted, Refused}
-use Rattle.tree.specs.Table.{absent}
 use Rattle.tree.specs.OneTree.{one-tree}
 use Rattle.tree.specs.Pairs.{pairs-right}
 

@@ -6,7 +6,8 @@ use lib.Dec.{eqb}
 use Rattle.lists.specs.Counting.{occurrences}
 use Rattle.lists.specs.Members.{every}
 use Rattle.lists.specs.Ranges.{listed}
-use Rattle.tree.specs.Table.{absent, nodes, climb}
+use Rattle.entities.specs.Codes.{absent}
+use Rattle.tree.specs.Table.{nodes, climb}
 
 -- The root, if there is one: where n steps up from node 0 arrive.
 unfoldable pub root-of : ℕ → List ℕ → ℕ

@@ -6,10 +6,7 @@ use lib.Dec.{eqb, ltb}
 use lib.ListN.{length, getD}
 use Rattle.lists.specs.Members.{leading}
 use Rattle.lists.specs.Ranges.{listed}
-
--- "or 65535 for the one absent child".
-abbrev pub absent : ℕ
-absent = 65535
+use Rattle.entities.specs.Codes.{absent}
 
 -- The nodes, ascending.
 unfoldable pub nodes : ℕ → List ℕ

@@ -8,6 +8,7 @@ ghost use Rattle.lists.specs.Members.{every};
 ghost use Rattle.tree.specs.Table.{nodes, climb as climbed};
 ghost use Rattle.tree.specs.OneTree.{«leaves-once», «one-tree»};
 use crate::table;
+use entities::codes;
 
 // Each leaf stands once.
 fn leaves_once(modes: usize, tree: &[u16]) -> bool
@@ -68,7 +69,7 @@ pub fn one_tree(modes: usize, tree: &[u16]) -> bool
     if !leaves_once(modes, tree) {
         return false;
     }
-    if table::count(tree, table::ABSENT) != 1 {
+    if table::count(tree, codes::ABSENT as usize) != 1 {
         return false;
     }
     let root = table::climb(tree, modes, 0);

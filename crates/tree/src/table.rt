@@ -5,12 +5,10 @@ ghost use Prim.Native.Nat.{_+_, _*_, _≤_, _<_};
 ghost use lib.Dec.{eqb, ltb};
 ghost use lib.ListN.{length};
 ghost use Rattle.lists.specs.Counting.{same as «one-if-same», occurrences};
-ghost use Rattle.tree.specs.Table.{absent, child as «child-of», «place-of», «parent-of», climb as climbed};
+ghost use Rattle.entities.specs.Codes.{absent};
+ghost use Rattle.tree.specs.Table.{child as «child-of», «place-of», «parent-of», climb as climbed};
 ghost use Rattle.tree.specs.Check.{«codes-good»};
-use terms::row;
-
-// The code of the one absent child.
-pub const ABSENT: usize = 65535;
+use entities::codes;
 
 // The code is below 3n or absent.
 fn good_code(modes: usize, code: usize) -> bool
@@ -20,7 +18,7 @@ fn good_code(modes: usize, code: usize) -> bool
     if code < 3 * modes {
         return true;
     }
-    code == ABSENT
+    code == codes::ABSENT as usize
 }
 
 // How many codes are good before the first bad one.
@@ -30,7 +28,7 @@ pub fn codes_good(modes: usize, table: &[u16]) -> usize
 {
     let mut at = 0;
     while at < table.len() {
-        if !good_code(modes, row::wide(table[at])) {
+        if !good_code(modes, entities::wide(table[at])) {
             return at;
         }
         at += 1;
@@ -52,7 +50,7 @@ pub fn count(table: &[u16], code: usize) -> usize
     let mut times: usize = 0;
     let mut at = 0;
     while at < table.len() {
-        times += same(row::wide(table[at]), code);
+        times += same(entities::wide(table[at]), code);
         at += 1;
     }
     times
@@ -64,7 +62,7 @@ pub fn place_of(table: &[u16], code: usize) -> usize
 {
     let mut at = 0;
     while at < table.len() {
-        if row::wide(table[at]) == code {
+        if entities::wide(table[at]) == code {
             return at;
         }
         at += 1;
@@ -102,5 +100,5 @@ pub fn child(table: &[u16], node: usize, edge: usize) -> usize
     requires { ⌜ 3 * node + edge < length (now table) ⌝ }
     ensures { λ r. ⌜ r ≡ child-of (now (table .entry)) node edge ⌝ }
 {
-    row::wide(table[3 * node + edge])
+    entities::wide(table[3 * node + edge])
 }

@@ -62,7 +62,13 @@ fn node_weight(modes: usize, tree: &[u16], places: &[usize], term: &[u16], node:
     let mut zs: usize = 0;
     let mut at = 0;
     while at < term.len() {
-        let edge = edge_under(tree, places, modes + 1, node, modes + row::wide(term[at]));
+        let edge = edge_under(
+            tree,
+            places,
+            modes + 1,
+            node,
+            modes + entities::wide(term[at]),
+        );
         xs += table::same(edge, 0);
         ys += table::same(edge, 1);
         zs += table::same(edge, 2);

@@ -8,7 +8,7 @@ use lib.ListN.{getD, length, take, set, length-set}
 use lib.Seq.{take-all}
 use Rattle.lists.specs.Written.{written-at}
 use Rattle.lists.proofs.Behind.{mapped-start, mapped-next}
-use Rattle.merging.specs.Flatpack.{code}
+use Rattle.entities.specs.Codes.{code}
 use Rattle.topphatt.specs.Answer.{answer-table}
 use Rattle.topphatt.specs.Slots.{slot-of}
 use Rattle.topphatt.proofs.write_table.Statement.{statement}

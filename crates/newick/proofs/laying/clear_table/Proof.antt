@@ -5,7 +5,7 @@ use native.Mathlib.Omega.{arith}
 use borrow.Author.Needs.{needs}
 use lib.ListN.{length, take, replicate, length-set}
 use Rattle.lists.proofs.Writes.{filled-next, all-of}
-use Rattle.tree.specs.Table.{absent}
+use Rattle.entities.specs.Codes.{absent}
 use Rattle.newick.proofs.laying.clear_table.Statement.{statement}
 use Rattle.newick.proofs.laying.clear_table.Tie as tie
 

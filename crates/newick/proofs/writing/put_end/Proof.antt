@@ -6,6 +6,9 @@ use Rattle.newick.proofs.ShapeText.{end-absent, end-leaf}
 use Rattle.newick.proofs.writing.put_end.Statement.{statement}
 use Rattle.newick.proofs.writing.put_end.Tie as tie
 
+cast-if1 : tie.Need-cast-if1
+cast-if1 c = search needs
+
 slice-write-text : tie.Need-slice-write-text
 slice-write-text c =
     let args = c .before .before .args in
@@ -47,6 +50,7 @@ pub put-end-spec : {M : Type 1} → statement M
 put-end-spec =
     tie.close
     (tie.spec
+    cast-if1
     slice-write-text
     add-result
     same-length

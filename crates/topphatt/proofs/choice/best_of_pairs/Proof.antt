@@ -7,7 +7,7 @@ use borrow.Author.Needs.{needs}
 use lib.ListN.{length, drop, getD}
 use Rattle.lists.proofs.Every.{below-at}
 use Rattle.lists.proofs.Steps.{joined-step, joined-end}
-use Rattle.terms.specs.declared.row.Triple.{Triple}
+use Rattle.entities.specs.declared.Triple.{Triple}
 use Rattle.terms.specs.Rows.{terms-of}
 use Rattle.topphatt.specs.Seeking.{sought}
 use Rattle.topphatt.specs.Choices.{with-z, without, numbers}

@@ -22,8 +22,8 @@ fix-all-requires c κs = search needs
 wide-requires : tie.Need-wide-requires
 wide-requires c κs = search needs
 
-next-parent-requires : tie.Need-next-parent-requires
-next-parent-requires c κs = search needs
+parent-number-requires : tie.Need-parent-number-requires
+parent-number-requires c κs = search needs
 
 reduce-hamiltonian-requires : tie.Need-reduce-hamiltonian-requires
 reduce-hamiltonian-requires c κs = search needs
@@ -57,7 +57,7 @@ returns c =
     let light = c .before .before .before .before .before .before .before .before .before .before .before .before .chosen-weight .ensures in
     let fixing = c .before .before .before .before .before .before .before .before .before .before .fix-all .ensures in
     let node = c .before .before .before .before .before .before .before .wide .ensures .0 in
-    let parent = c .before .before .before .before .before .before .next-parent .ensures in
+    let parent = c .before .before .before .before .before .before .parent-number .ensures in
     let reduced = c .before .before .before .before .reduce-hamiltonian .ensures in
     let terms = terms-of 8 (args .progress .live) (args .rows .now) in
     let fewer = reduced .at-most in
@@ -89,7 +89,7 @@ round-spec =
     chosen-weight-requires
     fix-all-requires
     wide-requires
-    next-parent-requires
+    parent-number-requires
     reduce-hamiltonian-requires
     add-t21
     add-t24

@@ -9,29 +9,20 @@ use Rattle.topphatt.proofs.SlotKinds.{slot-read}
 use Rattle.topphatt.proofs.slots.slot_of.Statement.{statement}
 use Rattle.topphatt.proofs.slots.slot_of.Tie as tie
 
-mul-result : tie.Need-mul-result
-mul-result c = search needs
-
-add-result : tie.Need-add-result
-add-result c = search needs
-
-add-result-2 : tie.Need-add-result-2
-add-result-2 c = search needs
-
-cast-result : tie.Need-cast-result
-cast-result c = search needs
+parent-number-requires : tie.Need-parent-number-requires
+parent-number-requires c κs = search needs
 
 returns : tie.Need-returns
-returns c = (sym (slot-child _ _ _ (c .if1 .taken)), omega arith)
+returns c = (c .parent-number .ensures ∙ sym (slot-child _ _ _ (c .before .if1 .taken)), omega arith)
 
 mul-if2 : tie.Need-mul-if2
 mul-if2 c = search needs
 
-mul-result-2 : tie.Need-mul-result-2
-mul-result-2 c = search needs
+mul-result : tie.Need-mul-result
+mul-result c = search needs
 
-cast-result-2 : tie.Need-cast-result-2
-cast-result-2 c = search needs
+cast-result : tie.Need-cast-result
+cast-result c = search needs
 
 returns-2 : tie.Need-returns-2
 returns-2 c = (sym (slot-empty _ _ _ (c .if2 .taken)), omega arith)
@@ -58,14 +49,11 @@ pub slot-of-spec : {M : Type 1} → statement M
 slot-of-spec =
     tie.close
     (tie.spec
-    mul-result
-    add-result
-    add-result-2
-    cast-result
+    parent-number-requires
     returns
     mul-if2
-    mul-result-2
-    cast-result-2
+    mul-result
+    cast-result
     returns-2
     mul-wide
     shared-slice-read-wide

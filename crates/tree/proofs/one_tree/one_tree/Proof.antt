@@ -13,6 +13,9 @@ returns : tie.Need-returns
 unfolding one-tree
 returns c = rw (← c .before .leaves-once .ensures, not-true (c .before .leaves-once .result) (c .if1 .taken))
 
+cast-count : tie.Need-cast-count
+cast-count c = search needs
+
 count-requires : tie.Need-count-requires
 count-requires c κs = search needs
 
@@ -73,6 +76,7 @@ one-tree-spec =
     (tie.spec
     leaves-once-requires
     returns
+    cast-count
     count-requires
     returns-2
     climb-requires

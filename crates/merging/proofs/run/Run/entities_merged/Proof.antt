@@ -4,8 +4,8 @@ use borrow.Author.Needs.{needs}
 use Rattle.merging.proofs.run.Run.entities_merged.Statement.{statement}
 use Rattle.merging.proofs.run.Run.entities_merged.Tie as tie
 
-next-parent-requires : tie.Need-next-parent-requires
-next-parent-requires c κs = search needs
+parent-number-requires : tie.Need-parent-number-requires
+parent-number-requires c κs = search needs
 
 wide-requires : tie.Need-wide-requires
 wide-requires c κs = search needs
@@ -71,7 +71,7 @@ pub entities-merged-spec : {M : Type 1} → statement M
 entities-merged-spec =
     tie.close
     (tie.spec
-    next-parent-requires
+    parent-number-requires
     wide-requires
     wide-requires-2
     wide-requires-3

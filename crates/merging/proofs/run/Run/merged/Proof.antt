@@ -6,8 +6,8 @@ use Rattle.merging.proofs.StateMerged.{weight-bound, in-room, end-low, 
 use Rattle.merging.proofs.run.Run.merged.Statement.{statement}
 use Rattle.merging.proofs.run.Run.merged.Tie as tie
 
-next-parent-requires : tie.Need-next-parent-requires
-next-parent-requires c κs = search needs
+parent-number-requires : tie.Need-parent-number-requires
+parent-number-requires c κs = search needs
 
 reduce-hamiltonian-requires : tie.Need-reduce-hamiltonian-requires
 reduce-hamiltonian-requires c κs = search needs
@@ -52,7 +52,7 @@ returns c terms ready =
     let merged = c .before .entities-merged .ensures in
     let noted = c .noted .ensures in
     let reduced = c .before .before .before .before .before .reduce-hamiltonian .ensures in
-    let parent = c .before .before .before .before .before .before .before .next-parent .ensures in
+    let parent = c .before .before .before .before .before .before .before .parent-number .ensures in
     rw (same-run (args .triple) (args .weight) (c .before .before .before .before .before .reduce-hamiltonian .result) (args .self) _ _ merged noted)
     (merged-went 769 256 terms (args .rows .now) (args .self) (args .triple) (args .weight) (lit≤ tt) ready _ _ (rw parent at reduced))
 
@@ -60,7 +60,7 @@ pub merged-spec : {M : Type 1} → statement M
 merged-spec =
     tie.close
     (tie.spec
-    next-parent-requires
+    parent-number-requires
     reduce-hamiltonian-requires
     add-sum
     entities-merged-requires

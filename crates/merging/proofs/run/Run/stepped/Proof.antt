@@ -19,15 +19,15 @@ run-of c = c .before .before .before .before .before .before .before .before .be
 abbrev rows-of : tie.After-merged-arg → List ℕ
 rows-of c = c .before .before .before .before .before .before .before .before .before .args .rows .now
 
-next-parent-requires : tie.Need-next-parent-requires
-next-parent-requires c κs = search needs
+parent-number-requires : tie.Need-parent-number-requires
+parent-number-requires c κs = search needs
 
 choose-requires : tie.Need-choose-requires
 choose-requires c κs =
     let start = c .before .before .before .before .before .before .before in
     let holds = start .pre .0 .1 in
     let run = start .args .t1 in
-    let count = c .before .before .before .before .before .next-parent .ensures in
+    let count = c .before .before .before .before .before .parent-number .ensures in
     let low = ends-low 769 256 (start .pre .0 .0) (start .args .rows .now) run holds in (
       holds .held,
       (
@@ -41,7 +41,7 @@ best-found : (c : tie.After-merged-arg) (terms : List (List ℕ)) (holds : Holds
     → c .before .choose .result ≡ seek (weight-here (run-of c .live) (rows-of c)) (nothing (run-of c .live)) (candidates (run-of c .modes) (history-of (run-of c)))
 best-found c terms holds =
     let start = c .before .before .before .before .before .before .before .before .before in
-    let count = c .before .before .before .before .before .before .before .next-parent .ensures in
+    let count = c .before .before .before .before .before .before .before .parent-number .ensures in
     c .before .choose .ensures (history-of (start .args .t1)) (holds .tied)
     (count ∙ parent-is (start .args .t1))
 
@@ -72,4 +72,4 @@ returns c terms holds =
 
 pub stepped-spec : {M : Type 1} → statement M
 stepped-spec =
-    tie.close (tie.spec next-parent-requires choose-requires merged-requires same-length returns)
+    tie.close (tie.spec parent-number-requires choose-requires merged-requires same-length returns)

@@ -3,16 +3,16 @@ use Prim.Native.Nat.{_+_, _*_}
 use native.Mathlib.Omega.{arith}
 use borrow.Author.Tests.{eq-eqb, ne-eqb, lt-ltb, le-ltb}
 use borrow.Author.Needs.{needs}
-use Rattle.merging.specs.Flatpack.{code}
-use Rattle.merging.proofs.flatpack.code.Statement.{statement}
-use Rattle.merging.proofs.flatpack.code.Tie as tie
+use Rattle.entities.specs.Codes.{code}
+use Rattle.entities.proofs.codes.code.Statement.{statement}
+use Rattle.entities.proofs.codes.code.Tie as tie
 
 returns : tie.Need-returns
 unfolding code
 returns c = rw (eq-eqb _ _ (c .if1 .taken))
 
-next-parent-requires : tie.Need-next-parent-requires
-next-parent-requires c κs = search needs
+parent-number-requires : tie.Need-parent-number-requires
+parent-number-requires c κs = search needs
 
 cast-result : tie.Need-cast-result
 cast-result c = search needs
@@ -34,4 +34,4 @@ returns-3 c =
 
 pub code-spec : {M : Type 1} → statement M
 code-spec =
-    tie.close (tie.spec returns next-parent-requires cast-result add-result returns-2 returns-3)
+    tie.close (tie.spec returns parent-number-requires cast-result add-result returns-2 returns-3)

@@ -9,10 +9,10 @@ use lib.Dec.{ltb}
 use Rattle.lists.specs.Counting.{same}
 use Rattle.lists.proofs.Tests.{same-or-not}
 use Rattle.lists.proofs.Sums.{same-one, same-none}
-use Rattle.merging.specs.Flatpack.{code}
+use Rattle.entities.specs.Codes.{absent, code}
 
 module _ (modes : ℕ) where
-  pub code-absent : code modes (2 * modes) (2 * modes) ≡ 65535
+  pub code-absent : code modes (2 * modes) (2 * modes) ≡ absent
   unfolding code
   code-absent = rw (eq-eqb (2 * modes) (2 * modes) refl)
 
@@ -47,12 +47,12 @@ module _ (modes : ℕ) where
   entity-of : ℕ → ℕ
   entity-of number = cond (ltb number modes) (2 * modes + 1 + number) (cond (ltb number (3 * modes)) (number - modes) (2 * modes))
 
-  module _ (small : 3 * modes ≤ 65535) where
+  module _ (small : 3 * modes ≤ absent) where
     code-back : (entity : ℕ) → entity < 2 * modes + 1 + modes → entity-of (code modes (2 * modes) entity) ≡ entity
     unfolding entity-of
     code-back =
         entity-cases (λ entity. entity-of (code modes (2 * modes) entity) ≡ entity)
-        (rw (code-absent, le-ltb 65535 modes (omega arith), le-ltb 65535 (3 * modes) small) refl)
+        (rw (code-absent, le-ltb absent modes (omega arith), le-ltb absent (3 * modes) small) refl)
         (λ leaf h.
         (let back : leaf + modes - modes ≡ leaf = omega arith in
         rw (code-leaf leaf h, le-ltb (leaf + modes) modes (omega arith), lt-ltb (leaf + modes) (3 * modes) (omega arith)) back))

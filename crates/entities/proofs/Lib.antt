@@ -1,0 +1,2 @@
+-- The laws of child codes.
+pub mod ChildCodes
