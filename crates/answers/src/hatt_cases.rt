@@ -3,7 +3,7 @@ use crate::fronts;
 use crate::lines;
 use crate::recorded;
 use crate::recorded::Recorded;
-use journal::numbers::Field;
+use fields::numbers::Field;
 use journal::resuming;
 use journal::resuming::Answer;
 

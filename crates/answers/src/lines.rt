@@ -2,10 +2,10 @@
 ghost use Prim.Native.Nat.{_≤_, _<_};
 ghost use lib.ListN.{length};
 use entities::codes;
-use journal::header;
-use journal::lookup;
-use journal::numbers;
-use journal::numbers::Field;
+use fields::lines;
+use fields::numbers;
+use fields::numbers::Field;
+use fields::parts;
 
 // How many numbers were read, and the place behind what was read; 0 numbers where the text is another.
 pub struct Read {
@@ -30,7 +30,7 @@ fn field_end(text: &[u8], from: usize) -> usize
 
 // The number that a field says; the dash is the absent child's code.
 fn read_code(field: &[u8]) -> Field {
-    if header::same_bytes(field, b"-") {
+    if parts::same_bytes(field, b"-") {
         return Field::Number(codes::ABSENT, 0);
     }
     let mut number = [0u16; 1];
@@ -72,7 +72,7 @@ pub fn read_line(text: &[u8], from: usize, word: &[u8], codes: &mut [u16]) -> Re
     if text.len() < from {
         return nothing;
     }
-    let end = lookup::line_end(text, from);
+    let end = lines::line_end(text, from);
     if end < from {
         return nothing;
     }
@@ -81,7 +81,7 @@ pub fn read_line(text: &[u8], from: usize, word: &[u8], codes: &mut [u16]) -> Re
         return nothing;
     }
     let fields = from + word.len();
-    if !header::same_bytes(&text[from..fields], word) {
+    if !parts::same_bytes(&text[from..fields], word) {
         return nothing;
     }
     let last = end - 1;

@@ -1,6 +1,6 @@
 // A recorded answer at the end of its case: the weight and the node lines.
 use crate::lines;
-use journal::numbers::Field;
+use fields::numbers::Field;
 
 // The weight and how many numbers the node lines have, or another text; no recorded weight is above 65535.
 pub enum Recorded {

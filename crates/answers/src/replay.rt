@@ -4,8 +4,8 @@ ghost use lib.ListN.{length};
 use crate::assign_cases;
 use crate::hatt_cases;
 use crate::tree_cases;
-use journal::header;
-use journal::lookup;
+use fields::lines;
+use fields::parts;
 
 // What a file records.
 pub enum Kind {
@@ -30,7 +30,7 @@ fn begins(text: &[u8], at: usize) -> bool {
         return false;
     }
     let end = at + 6;
-    header::same_bytes(&text[at..end], b"modes\t")
+    parts::same_bytes(&text[at..end], b"modes\t")
 }
 
 // The place behind the line that begins here; the text's end where the line has no end.
@@ -38,7 +38,7 @@ fn behind_line(text: &[u8], from: usize) -> usize
     requires { ⌜ from < length (now text) ⌝ }
     ensures { λ r. ⌜ (from < r) × (r ≤ length (now (text .entry))) ⌝ }
 {
-    let end = lookup::line_end(text, from);
+    let end = lines::line_end(text, from);
     if end <= from {
         return text.len();
     }

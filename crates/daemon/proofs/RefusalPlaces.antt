@@ -33,6 +33,7 @@ use Rattle.refusal.specs.declared.Refusal.the-variants.{
 }
 use Rattle.refusal.specs.Numbers.{numberOf, placeOf}
 use Rattle.entities.specs.declared.Triple.{Triple}
+use Rattle.fields.specs.Lines.{lines}
 use Rattle.terms.specs.Rows.{terms-of}
 use Rattle.terms.specs.Good.{modes-good, good-rows, checked}
 use Rattle.terms.specs.declared.given.Checked.{Checked}
@@ -43,8 +44,7 @@ use Rattle.journal.specs.declared.header.Header.{Header}
 use Rattle.journal.specs.declared.header.Header.the-variants.{Is as HeaderIs, Broken as HeaderBroken}
 use Rattle.journal.specs.declared.merge_line.Merge.{Merge}
 use Rattle.journal.specs.declared.merge_line.Merge.the-variants.{Is as MergeIs, Broken as MergeBroken}
-use Rattle.journal.specs.Lines.{lines}
-use Rattle.journal.specs.Fields.{header-of, merge-of-line}
+use Rattle.journal.specs.LineForms.{header-of, merge-of-line}
 use Rattle.journal.specs.Obeying.{
   Obeyed,
   went,

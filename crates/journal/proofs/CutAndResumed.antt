@@ -9,17 +9,17 @@ use lib.ListN.{length, take, length-take}
 use lib.Seq.{take-take}
 use Rattle.lists.proofs.Tests.{both}
 use Rattle.entities.specs.declared.Triple.{Triple}
+use Rattle.fields.specs.Lines.{lines, lines-after, kept-of}
+use Rattle.fields.proofs.LinesJoined.{kept-front}
 use Rattle.terms.specs.Rows.{terms-of}
 use Rattle.terms.specs.Good.{modes-good}
 use Rattle.terms.proofs.RowSteps.{length-terms}
 use Rattle.terms.proofs.StaysGood.{accepted}
 use Rattle.merging.specs.Trials.{trial-total}
-use Rattle.journal.specs.Lines.{lines, lines-after, kept-of}
 use Rattle.journal.specs.Obeying.{went, obeyed, obeyed-texts}
 use Rattle.journal.specs.Writing.{new-text, unbroken}
 use Rattle.journal.specs.Resuming.{Ending, done, ending, hatt-run}
 use Rattle.journal.specs.CutAndResumed.{ResumesCut}
-use Rattle.journal.proofs.LinesJoined.{kept-front}
 use Rattle.journal.proofs.CutObeyed.{CutObeyed, cut-obeyed}
 use Rattle.journal.proofs.CallDone.{CallDone, call-done, done-again}
 

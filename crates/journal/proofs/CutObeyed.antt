@@ -1,5 +1,5 @@
 -- An unbroken run's journal, cut after any byte, is obeyed to a history of the same run.
-use mathlib.Core.Path.{_≡_, refl, ap, _∙_, sym}
+use mathlib.Core.Path.{_≡_, refl, ap, _∙_}
 use mathlib.Core.List.{List, [], _++_, flatMap}
 use Prim.Native.Nat.{ℕ, zero, suc, _+_, _-_, _*_, _≤_}
 use native.Mathlib.Nat.{zero-add}
@@ -7,16 +7,16 @@ use native.Mathlib.Omega.{arith}
 use borrow.Author.Tests.{eq-eqb}
 use lib.ListN.{length, take, length-take}
 use Rattle.entities.specs.declared.Triple.{Triple}
+use Rattle.fields.specs.Lines.{lines, kept-of}
+use Rattle.fields.proofs.LinesJoined.{whole-in, lines-cut, kept-cut, whole-within}
 use Rattle.merging.specs.Lawful.{LawfulHistory}
 use Rattle.merging.specs.Run.{greedy, finished, run-weight, trials}
 use Rattle.merging.specs.Flatpack.{flatpack}
 use Rattle.merging.specs.Trials.{trial-total}
 use Rattle.merging.proofs.RunLawful.{greedy-lawful, greedy-length}
 use Rattle.merging.proofs.TrialTotals.{trials-total}
-use Rattle.journal.specs.Lines.{lines, kept-of}
 use Rattle.journal.specs.Obeying.{went, obeyed, obeyed-texts, obeyed-header}
 use Rattle.journal.specs.Writing.{new-text, unbroken}
-use Rattle.journal.proofs.LinesJoined.{whole-in, lines-cut, kept-cut, whole-within}
 use Rattle.journal.proofs.LineRead.{header-read}
 use Rattle.journal.proofs.ObeyGreedy.{greedy-obeyed}
 use Rattle.journal.proofs.GreedyLines.{greedy-on, unbroken-lines, unbroken-joined, unbroken-are-lines, length-unbroken-lines, kept-and-new}

@@ -10,6 +10,9 @@ use Rattle.lists.specs.Ranges.{listed, ascends, ascends-from}
 use Rattle.lists.specs.Least.{least, lighter, least-of}
 use Rattle.lists.specs.Written.{written-at}
 use Rattle.entities.specs.Codes.{code}
+use Rattle.fields.specs.Decimal.{is-digit, value-after, value, leads-well, is-number, digits, decimal}
+use Rattle.fields.specs.Fields.{fields-after, fields, tabbed}
+use Rattle.fields.specs.Lines.{lines-after, lines, kept-of}
 use Rattle.terms.specs.Rows.{rows-of, term, terms-of}
 use Rattle.terms.specs.Good.{modes-good, good-indices, good-row, good-rows, checked}
 use Rattle.terms.specs.Weight.{weight-of, term-weight, odd-ones}
@@ -19,21 +22,7 @@ use Rattle.merging.specs.Lawful.{is-lawful, three-open, paired, named, entities
 use Rattle.merging.specs.Choice.{weight-in, candidates, chosen}
 use Rattle.merging.specs.Run.{greedy, finished, run-weight, trials}
 use Rattle.merging.specs.Flatpack.{merge-of, absent-leaf, children, walk, rows-for, flatpack}
-use Rattle.journal.specs.Decimal.{is-digit, value-after, value, leads-well, is-number, digits, decimal}
-use Rattle.journal.specs.Fields.{
-  fields-after,
-  fields,
-  word,
-  version,
-  header-good,
-  header-of,
-  merge-good,
-  merge-of-line,
-  tabbed,
-  header-text,
-  merge-text,
-}
-use Rattle.journal.specs.Lines.{lines-after, lines, kept-of}
+use Rattle.journal.specs.LineForms.{word, version, header-good, header-of, merge-good, merge-of-line, header-text, merge-text}
 use Rattle.journal.specs.Obeying.{
   obeyed-merge,
   obeyed-form,

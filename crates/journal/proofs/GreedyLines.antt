@@ -11,11 +11,11 @@ use Rattle.lists.specs.Members.{every}
 use Rattle.lists.proofs.Every.{every-cons}
 use Rattle.lists.proofs.Joined.{flatMap-joined}
 use Rattle.entities.specs.declared.Triple.{Triple}
+use Rattle.fields.specs.Lines.{is-line}
 use Rattle.merging.specs.Choice.{weight-in, chosen}
 use Rattle.merging.specs.Run.{greedy}
 use Rattle.merging.proofs.RunLawful.{greedy-length}
-use Rattle.journal.specs.Lines.{is-line}
-use Rattle.journal.specs.Fields.{header-text}
+use Rattle.journal.specs.LineForms.{header-text}
 use Rattle.journal.specs.Writing.{line-of, greedy-lines, new-text, unbroken}
 use Rattle.journal.proofs.Texts.{length-header}
 use Rattle.journal.proofs.TextLines.{header-is-line, merge-is-line}

@@ -5,18 +5,18 @@ use Prim.Native.Nat.{ℕ, _+_, _-_}
 use native.Mathlib.Omega.{arith}
 use lib.ListN.{length, take, drop}
 use Rattle.refusal.specs.declared.Refusal.{Refusal}
+use Rattle.fields.specs.Lines.{lines, first-line}
+use Rattle.fields.proofs.LineSteps.{lines-next}
 use Rattle.merging.specs.declared.run.Run.{Run}
 use Rattle.merging.specs.Recorded.{recorded}
 use Rattle.merging.specs.State.{history-of, Holds}
 use Rattle.journal.specs.declared.obeying.Obeying.{Obeying}
 use Rattle.journal.specs.declared.obeying.Verdict.{Verdict}
 use Rattle.journal.specs.declared.obeying.Verdict.the-variants.{Fine, Refused}
-use Rattle.journal.specs.Fields.{header-of}
-use Rattle.journal.specs.Lines.{lines, first-line}
+use Rattle.journal.specs.LineForms.{header-of}
 use Rattle.journal.specs.Obeying.{Obeyed, went, obeyed-header, obeyed-lines, obeyed-texts, obeyed}
 use Rattle.journal.specs.Promises.{came-to, Obeys}
 use Rattle.journal.proofs.MergeObeyed.{refuses, stays}
-use Rattle.journal.proofs.LineSteps.{lines-next}
 use Rattle.journal.proofs.LinesObeyed.{refused-stays}
 
 -- The first line of a text, and the others.

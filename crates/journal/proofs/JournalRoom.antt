@@ -10,7 +10,7 @@ use Rattle.entities.specs.declared.Triple.{Triple}
 use Rattle.merging.specs.Lawful.{LawfulHistory}
 use Rattle.merging.specs.Choice.{weight-in, chosen}
 use Rattle.merging.proofs.RunLawful.{chosen-lawful}
-use Rattle.journal.specs.Fields.{header-text}
+use Rattle.journal.specs.LineForms.{header-text}
 use Rattle.journal.specs.Writing.{line-of, greedy-lines, new-text}
 use Rattle.journal.proofs.TextLengths.{header-short, merge-short}
 use Rattle.journal.proofs.ObeyGreedy.{open-within, weight-within}

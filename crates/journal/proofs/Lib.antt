@@ -1,16 +1,6 @@
 -- The laws of the journal: its text, obeying it, and what a run writes.
-pub mod Numerals
-pub mod DecimalRead
-pub mod FieldRead
-pub mod FieldsAhead
-pub mod NumbersAhead
 pub mod LineSaid
-pub mod Tabbed
-pub mod Digits
-pub mod PuttingBytes
 pub mod Texts
-pub mod LineSteps
-pub mod LinesJoined
 pub mod TextLengths
 pub mod TextLines
 pub mod LineRead

@@ -13,7 +13,7 @@ use Rattle.journal.specs.declared.header.Header.the-variants.{Is as Head
 use Rattle.journal.specs.declared.merge_line.Merge.the-variants.{Is as MergeIs, Broken as MergeBroken}
 use Rattle.journal.specs.declared.merge_line.MergeLine.{MergeLine}
 use Rattle.journal.specs.declared.obeying.Verdict.the-variants.{Fine, Refused}
-use Rattle.journal.specs.Fields.{merge-of-line}
+use Rattle.journal.specs.LineForms.{merge-of-line}
 use Rattle.journal.specs.Obeying.{refused, obeyed-merge, obeyed-form, obeyed-line, obeyed-header}
 use Rattle.journal.specs.Promises.{came-to}
 

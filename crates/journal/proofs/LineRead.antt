@@ -3,60 +3,25 @@ use mathlib.Core.Path.{_≡_, refl, ap, _∙_, sym}
 use mathlib.Core.Bool.{Bool, true, false, _&&_, true≢false}
 use mathlib.Core.List.{List, [], _∷_, _++_, map}
 use Prim.Native.Nat.{ℕ, suc, _-_, _≤_}
-use native.Mathlib.Nat.{zero-add}
 use native.Mathlib.Omega.{arith}
-use borrow.Author.Tests.{eqb-true, leb-true, le-leb}
-use lib.Dec.{eqb, leb}
-use lib.ListN.{length, getD, take, drop, length-append}
-use lib.Seq.{take-at, ext-getD}
+use borrow.Author.Tests.{eqb-true, le-leb}
+use lib.Dec.{eqb}
+use lib.ListN.{length, getD, drop}
 use Rattle.lists.specs.Members.{every, alike}
 use Rattle.lists.specs.Ranges.{listed}
 use Rattle.lists.proofs.Tests.{both}
-use Rattle.lists.proofs.Every.{every-uncons, every-at, every-mapped}
 use Rattle.lists.proofs.Alike.{alike-self, alike-same}
-use Rattle.lists.proofs.Listed.{length-listed, listed-at}
+use Rattle.fields.specs.Decimal.{is-number, value, decimal}
+use Rattle.fields.specs.Fields.{fields, tabbed}
+use Rattle.fields.specs.Reading.{numbers-good}
+use Rattle.fields.proofs.DecimalRead.{value-decimal, decimal-is-number}
+use Rattle.fields.proofs.Tabbed.{no-tab}
+use Rattle.fields.proofs.NumbersTabbed.{decimal-no-tab, fits, decimals-no-tab, decimals-are-numbers, values-of-decimals, fields-line, numbers-are, line-is}
 use Rattle.journal.specs.declared.header.Header.the-variants.{Is as HeaderIs, Broken as HeaderBroken}
 use Rattle.journal.specs.declared.merge_line.MergeLine.{MergeLine}
 use Rattle.journal.specs.declared.merge_line.Merge.the-variants.{Is as MergeIs, Broken as MergeBroken}
-use Rattle.journal.specs.Decimal.{is-digit, is-number, value, decimal}
-use Rattle.journal.specs.Fields.{fields, word, version, header-good, header-of, merge-good, merge-of-line, tabbed, header-text, merge-text}
-use Rattle.journal.specs.Reading.{numbers-good}
-use Rattle.journal.proofs.DecimalRead.{decimal-without, value-decimal, decimal-is-number, decimal-value, parted}
+use Rattle.journal.specs.LineForms.{word, version, header-good, header-of, merge-good, merge-of-line, header-text, merge-text}
 use Rattle.journal.proofs.LineSaid.{merge-said}
-use Rattle.journal.proofs.Tabbed.{no-tab, tabbed-fields, fields-tabbed}
-
-decimal-no-tab : (number : ℕ) → every no-tab (decimal number) ≡ true
-unfolding no-tab is-digit
-decimal-no-tab number = decimal-without 9 number refl
-
--- Decimal texts of numbers that all fit.
-unfoldable fits : ℕ → Bool
-fits number = leb number 65535
-
-module _ (numbers : List ℕ) (e : every fits numbers ≡ true) where
-  decimals-no-tab : every (every no-tab) (map decimal numbers) ≡ true
-  unfolding fits
-  decimals-no-tab = every-mapped fits (every no-tab) decimal (λ n f. decimal-no-tab n) numbers e
-
-  decimals-are-numbers : every is-number (map decimal numbers) ≡ true
-  unfolding fits
-  decimals-are-numbers = every-mapped fits is-number decimal (λ n f. decimal-is-number n (leb-true n 65535 f)) numbers e
-
-values-of-decimals : (numbers : List ℕ) → every fits numbers ≡ true → map value (map decimal numbers) ≡ numbers
-unfolding fits
-values-of-decimals [] e = refl
-values-of-decimals (n ∷ numbers) e =
-    let p = every-uncons fits n numbers e in
-    rw (value-decimal n (leb-true n 65535 (p .0)), values-of-decimals numbers (p .1))
-
--- The fields of a line that was written.
-fields-line : (field : List ℕ) (parts : List (List ℕ)) → every (every no-tab) (field ∷ parts) ≡ true
-    → fields (tabbed (field ∷ parts) ++ (10 ∷ [])) ≡ field ∷ parts
-unfolding fields
-fields-line field parts e =
-    let text = tabbed (field ∷ parts) in
-    let size : length text ≡ length (text ++ (10 ∷ [])) - 1 = rw (length-append text (10 ∷ [])) (omega arith) in
-    rw (take-at text (10 ∷ []) (length (text ++ (10 ∷ [])) - 1) size) (fields-tabbed field parts e)
 
 module _ (modes terms : ℕ) (m : modes ≤ 65535) (t : terms ≤ 65535) where
   header-parts : fields (header-text modes terms) ≡ word ∷ (version ∷ (decimal modes ∷ (decimal terms ∷ [])))
@@ -88,25 +53,6 @@ module _ (said : MergeLine) where
       → merge-of-line (merge-text (said .step) (said .triple) (said .weight)) ≡ MergeIs said
   unfolding fits every
   merge-read s x y z w = merge-said-back (rw (le-leb _ 65535 s, le-leb _ 65535 x, le-leb _ 65535 y, le-leb _ 65535 z, le-leb _ 65535 w))
-
--- Numbers that were accepted stand in their fields as they would be written.
-numbers-are : (count : ℕ) (parts : List (List ℕ)) → length parts ≡ count → every is-number parts ≡ true
-    → parts ≡ listed (λ i. decimal (value (getD parts i []))) 0 count
-numbers-are count parts l e =
-    let rule : ℕ → List ℕ = λ i. decimal (value (getD parts i [])) in
-    ext-getD [] parts (listed rule 0 count) (l ∙ sym (length-listed rule 0 count))
-    (λ i h.
-    sym
-    (listed-at rule 0 count i [] (omega arith) ∙ ap rule (zero-add i)
-    ∙ decimal-value (getD parts i []) (every-at is-number parts i [] h e)))
-
--- A line is its fields parted by tabs, and its last byte.
-line-is : (line : List ℕ) → getD line (length line - 1) 0 ≡ 10 → line ≡ tabbed (fields line) ++ (10 ∷ [])
-unfolding fields
-line-is [] e = absurd (omega arith)
-line-is (byte ∷ rest) e =
-    let line = byte ∷ rest in
-    parted line (omega arith) ∙ rw (e, tabbed-fields [] (take (length line - 1) line))
 
 -- What a merge line's fields say.
 abbrev said-by : List (List ℕ) → MergeLine

@@ -5,22 +5,19 @@ use mathlib.Core.List.{List, [], _∷_, _++_, map}
 use Prim.Native.Nat.{ℕ, suc, _+_, _-_, _<_, _≤_}
 use native.Mathlib.Omega.{arith}
 use lib.Dec.{eqb, eqb·suc-suc}
-use lib.ListN.{length, getD, take, drop, length-take, List·getD-map}
+use lib.ListN.{length, getD, take, drop, length-take}
 use lib.Seq.{take-take, take-add}
 use Rattle.lists.specs.Members.{alike}
-use Rattle.lists.proofs.Tests.{both}
+use Rattle.lists.proofs.Tests.{both, not-so}
 use Rattle.lists.proofs.Alike.{alike-self, alike-same}
-use Rattle.lists.proofs.Tests.{not-so}
+use Rattle.fields.specs.Decimal.{value}
+use Rattle.fields.specs.Fields.{fields-after, fields, tabbed}
+use Rattle.fields.specs.Reading.{numbers-good}
+use Rattle.fields.proofs.Tabbed.{tabbed-fields}
+use Rattle.fields.proofs.NumbersTabbed.{value-at}
 use Rattle.journal.specs.declared.header.Header.the-variants.{Is as HeaderIs, Broken as HeaderBroken}
 use Rattle.journal.specs.declared.merge_line.Merge.the-variants.{Is as MergeIs, Broken as MergeBroken}
-use Rattle.journal.specs.Decimal.{value-after, value}
-use Rattle.journal.specs.Fields.{fields-after, fields, word, version, header-good, header-of, merge-good, merge-of-line, tabbed}
-use Rattle.journal.specs.Reading.{numbers-good}
-use Rattle.journal.proofs.Tabbed.{tabbed-fields}
-
-pub value-at : (parts : List (List ℕ)) (i : ℕ) → getD (map value parts) i 0 ≡ value (getD parts i [])
-unfolding value value-after
-value-at parts i = List·getD-map value parts i []
+use Rattle.journal.specs.LineForms.{word, version, header-good, header-of, merge-good, merge-of-line}
 
 pub merge-empty : (line : List ℕ) → length line ≡ 0 → merge-of-line line ≡ MergeBroken
 unfolding merge-of-line merge-good fields fields-after

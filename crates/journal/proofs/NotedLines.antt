@@ -15,7 +15,7 @@ use Rattle.merging.specs.Recorded.{merge-at, recorded}
 use Rattle.merging.specs.Run.{greedy, finished}
 use Rattle.merging.specs.State.{history-of, Holds}
 use Rattle.merging.proofs.Recording.{length-recorded}
-use Rattle.journal.specs.Fields.{header-text}
+use Rattle.journal.specs.LineForms.{header-text}
 use Rattle.journal.specs.Writing.{line-of, greedy-lines, new-text}
 use Rattle.journal.specs.NewLines.{noted-line, noted-text, first-text, all-noted}
 use Rattle.journal.proofs.GreedyLines.{greedy-more, greedy-lines-more}

@@ -21,6 +21,7 @@ use Rattle.refusal.specs.declared.Refusal.the-variants.{
   LineAfterLast,
 }
 use Rattle.entities.specs.declared.Triple.{Triple}
+use Rattle.fields.specs.Lines.{lines}
 use Rattle.merging.specs.Lawful.{Lawful, LawfulHistory, three-open, paired, is-lawful}
 use Rattle.merging.specs.Choice.{weight-in}
 use Rattle.merging.specs.Flatpack.{merge-of}
@@ -30,8 +31,7 @@ use Rattle.journal.specs.declared.header.Header.the-variants.{Is as Head
 use Rattle.journal.specs.declared.merge_line.Merge.{Merge}
 use Rattle.journal.specs.declared.merge_line.Merge.the-variants.{Is as MergeIs, Broken as MergeBroken}
 use Rattle.journal.specs.declared.merge_line.MergeLine.{MergeLine}
-use Rattle.journal.specs.Lines.{lines}
-use Rattle.journal.specs.Fields.{header-of, merge-of-line}
+use Rattle.journal.specs.LineForms.{header-of, merge-of-line}
 use Rattle.journal.specs.Obeying.{
   Obeyed,
   went,

@@ -19,7 +19,7 @@ use Rattle.merging.proofs.LawfulTest.{lawful-test}
 use Rattle.merging.proofs.RunLawful.{chosen-lawful}
 use Rattle.journal.specs.declared.merge_line.MergeLine.{MergeLine}
 use Rattle.journal.specs.declared.merge_line.Merge.the-variants.{Is as MergeIs}
-use Rattle.journal.specs.Fields.{merge-of-line}
+use Rattle.journal.specs.LineForms.{merge-of-line}
 use Rattle.journal.specs.Obeying.{went, obeyed-merge, obeyed-form, obeyed-line, obeyed-next, obeyed-lines}
 use Rattle.journal.specs.Writing.{line-of, greedy-lines}
 use Rattle.journal.proofs.LineRead.{merge-read}

@@ -1,44 +1,21 @@
 -- A line that was obeyed stands in the text exactly as a run would write it.
-use mathlib.Core.Path.{_≡_, refl, sym}
-use mathlib.Core.Bool.{Bool, true, false, true≢false}
-use mathlib.Core.List.{List, [], _∷_}
+use mathlib.Core.Path.{_≡_}
+use mathlib.Core.List.{List, []}
 use Prim.Native.Nat.{ℕ, suc, _-_, _<_}
 use native.Mathlib.Omega.{arith}
-use borrow.Author.Tests.{eqb-true}
-use lib.Dec.{eqb}
 use lib.ListN.{length, getD, length-drop}
 use Rattle.lists.proofs.Every.{every-at}
 use Rattle.entities.specs.declared.Triple.{Triple}
+use Rattle.fields.specs.Lines.{lines, is-line}
+use Rattle.fields.proofs.LinesJoined.{lines-are-lines, line-ends}
 use Rattle.merging.specs.Choice.{weight-in}
 use Rattle.merging.specs.Flatpack.{merge-of}
-use Rattle.journal.specs.Lines.{lines, is-line}
-use Rattle.journal.specs.Fields.{header-text}
+use Rattle.journal.specs.LineForms.{header-text}
 use Rattle.journal.specs.Obeying.{went, obeyed}
 use Rattle.journal.specs.Writing.{line-of}
 use Rattle.journal.specs.Obedience.{history-before}
-use Rattle.journal.proofs.LinesJoined.{lines-are-lines}
 use Rattle.journal.proofs.LineRead.{header-written, merge-written}
 use Rattle.journal.proofs.Obedience.{obedient}
-
--- A line's last byte is its LF.
-line-ends : (line : List ℕ) → is-line line ≡ true → getD line (length line - 1) 0 ≡ 10
-unfolding is-line
-line-ends [] e = absurd (true≢false (sym e))
-line-ends (byte ∷ []) e = go (eqb byte 10) refl
-  where
-    go : (b : Bool) → eqb byte 10 ≡ b → byte ≡ 10
-    go true f = eqb-true byte 10 f
-    go false f = absurd (true≢false (sym (rw f at e)))
-line-ends (byte ∷ (next ∷ rest)) e = go (eqb byte 10) refl (line-ends (next ∷ rest))
-  where
-    go : (b : Bool) → eqb byte 10 ≡ b → (is-line (next ∷ rest) ≡ true → getD (next ∷ rest) (length (next ∷ rest) - 1) 0 ≡ 10)
-        → getD (byte ∷ (next ∷ rest)) (length (byte ∷ (next ∷ rest)) - 1) 0 ≡ 10
-    go true f ahead = absurd (omega (arith, eqb-true (length (next ∷ rest)) 0 (rw f at e)))
-    go false f ahead =
-        let before : length (next ∷ rest) - 1 ≡ length rest = omega arith in
-        let last : length (byte ∷ (next ∷ rest)) - 1 ≡ suc (length rest) = omega arith in
-        let ends = ahead (rw f at e) in
-        rw last (rw before at ends)
 
 module _ (modes count : ℕ) (terms : List (List ℕ)) (bytes : List ℕ) (history : List Triple) (e : obeyed modes count terms bytes ≡ went history) where
   ends-well : (i : ℕ) → i < length (lines bytes) → getD (getD (lines bytes) i []) (length (getD (lines bytes) i []) - 1) 0 ≡ 10

@@ -5,6 +5,7 @@ use Prim.Native.Nat.{ℕ, _+_, _-_, _*_, _<_, _≤_}
 use native.Mathlib.Omega.{arith}
 use lib.ListN.{length, replicate}
 use Rattle.lists.specs.Written.{written-at}
+use Rattle.fields.specs.Lines.{kept-of}
 use Rattle.merging.specs.declared.run.Run.{Run}
 use Rattle.merging.specs.Run.{finished, run-weight, trials}
 use Rattle.merging.specs.Flatpack.{flatpack}
@@ -15,7 +16,6 @@ use Rattle.merging.proofs.StateStepped.{merges-so-far}
 use Rattle.merging.proofs.RunLawful.{finished-length}
 use Rattle.merging.proofs.TrialTotals.{trials-total}
 use Rattle.journal.specs.declared.resuming.Answer.the-variants.{Done}
-use Rattle.journal.specs.Lines.{kept-of}
 use Rattle.journal.specs.NewLines.{all-noted}
 use Rattle.journal.specs.Writing.{new-text}
 use Rattle.journal.specs.Resuming.{done, ending}

@@ -4,22 +4,12 @@ use mathlib.Core.List.{List, [], _∷_, _++_, append-assoc}
 use Prim.Native.Nat.{ℕ, _+_, _≤_}
 use native.Mathlib.Omega.{arith}
 use lib.ListN.{length, length-append}
-use Rattle.lists.specs.Written.{written-at}
-use Rattle.lists.proofs.Behind.{Wrote, then-wrote, field-wrote}
+use Rattle.lists.proofs.Behind.{Wrote, then-wrote}
 use Rattle.entities.specs.declared.Triple.{Triple}
-use Rattle.journal.specs.Decimal.{decimal}
-use Rattle.journal.specs.Fields.{word, version, header-text, tabbed, merge-text}
-
--- A number and the byte behind it.
-abbrev field : ℕ → ℕ → List ℕ
-field number mark = decimal number ++ (mark ∷ [])
-
--- What putting a field leaves.
-abbrev Put : List ℕ → ℕ → ℕ → ℕ → List ℕ → ℕ → Type 0
-Put out at number mark out′ at′ = (at′ ≡ at + (length (decimal number) + 1)) × (out′ ≡ written-at at (field number mark) out)
-
-put-wrote : {out out′ : List ℕ} {at at′ : ℕ} (number mark : ℕ) → Put out at number mark out′ at′ → Wrote at (field number mark) out out′ at′
-put-wrote number mark put = field-wrote (decimal number) mark (put .0) (put .1)
+use Rattle.fields.specs.Decimal.{decimal}
+use Rattle.fields.specs.Fields.{tabbed}
+use Rattle.fields.proofs.PuttingBytes.{field, Put, put-wrote}
+use Rattle.journal.specs.LineForms.{word, version, header-text, merge-text}
 
 module _ (step : ℕ) (triple : Triple) (weight : ℕ) where
   merge-fields : (((field step 9 ++ field (triple .x) 9) ++ field (triple .y) 9) ++ field (triple .z) 9) ++ field weight 10

@@ -3,8 +3,8 @@ use mathlib.Core.Path.{_≡_}
 use mathlib.Core.List.{List, _++_}
 use Prim.Native.Nat.{ℕ, _-_}
 use lib.ListN.{length, take}
+use Rattle.fields.specs.Lines.{lines}
 use Rattle.merging.specs.Trials.{trial-total}
-use Rattle.journal.specs.Lines.{lines}
 use Rattle.journal.specs.Resuming.{Ending, done, resumed}
 
 -- What resuming from so many bytes of an unbroken run's journal comes to.

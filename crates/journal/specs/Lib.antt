@@ -1,8 +1,5 @@
--- What document 01 says of the journal's text.
-pub mod Decimal
-pub mod Lines
-pub mod Fields
-pub mod Reading
+-- What document 01 says of the journal: its lines, a journal obeyed, and the calls that resume from it.
+pub mod LineForms
 pub mod Obeying
 pub mod Writing
 pub mod NewLines

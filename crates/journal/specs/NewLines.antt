@@ -7,7 +7,7 @@ use lib.ListN.{getD}
 use Rattle.lists.specs.Ranges.{listed}
 use Rattle.merging.specs.declared.run.Run.{Run}
 use Rattle.merging.specs.Recorded.{merge-at}
-use Rattle.journal.specs.Fields.{header-text, merge-text}
+use Rattle.journal.specs.LineForms.{header-text, merge-text}
 
 -- The line of one step.
 unfoldable pub noted-line : Run → ℕ → List ℕ

@@ -4,6 +4,7 @@ use mathlib.Core.List.{List, []}
 use Prim.Native.Nat.{ℕ, suc, _-_, _<_, _≤_}
 use lib.ListN.{length, getD, drop}
 use Rattle.entities.specs.declared.Triple.{Triple}
+use Rattle.fields.specs.Lines.{lines}
 use Rattle.terms.specs.Rows.{terms-of}
 use Rattle.terms.specs.Good.{checked}
 use Rattle.terms.specs.declared.given.Checked.the-variants.{Good}
@@ -13,8 +14,7 @@ use Rattle.merging.specs.Flatpack.{merge-of}
 use Rattle.merging.specs.Trials.{trial-total}
 use Rattle.journal.specs.declared.header.Header.the-variants.{Is as HeaderIs}
 use Rattle.journal.specs.declared.merge_line.Merge.the-variants.{Is as MergeIs}
-use Rattle.journal.specs.Lines.{lines}
-use Rattle.journal.specs.Fields.{header-of, merge-of-line}
+use Rattle.journal.specs.LineForms.{header-of, merge-of-line}
 use Rattle.journal.specs.Resuming.{Ending, ending}
 
 -- The merges before the i-th, counted from the oldest.

@@ -15,6 +15,7 @@ use Rattle.refusal.specs.declared.Refusal.the-variants.{
   LineAfterLast,
 }
 use Rattle.entities.specs.declared.Triple.{Triple}
+use Rattle.fields.specs.Lines.{lines}
 use Rattle.merging.specs.Lawful.{three-open, paired}
 use Rattle.merging.specs.Choice.{weight-in}
 use Rattle.journal.specs.declared.header.Header.{Header}
@@ -22,8 +23,7 @@ use Rattle.journal.specs.declared.header.Header.the-variants.{Is as Head
 use Rattle.journal.specs.declared.merge_line.Merge.{Merge}
 use Rattle.journal.specs.declared.merge_line.Merge.the-variants.{Is as MergeIs, Broken as MergeBroken}
 use Rattle.journal.specs.declared.merge_line.MergeLine.{MergeLine}
-use Rattle.journal.specs.Lines.{lines}
-use Rattle.journal.specs.Fields.{header-of, merge-of-line}
+use Rattle.journal.specs.LineForms.{header-of, merge-of-line}
 
 -- What obeying comes to.
 pub data Obeyed : Type 0 where

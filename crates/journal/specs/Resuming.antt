@@ -7,13 +7,13 @@ use lib.ListN.{length}
 use Rattle.refusal.specs.declared.Refusal.{Refusal}
 use Rattle.refusal.specs.declared.Refusal.the-variants.{Modes, Room}
 use Rattle.entities.specs.declared.Triple.{Triple}
+use Rattle.fields.specs.Lines.{kept-of}
 use Rattle.terms.specs.Rows.{terms-of}
 use Rattle.terms.specs.Good.{modes-good, checked}
 use Rattle.terms.specs.declared.given.Checked.{Checked}
 use Rattle.terms.specs.declared.given.Checked.the-variants.{Good, Refused as BadTerms}
 use Rattle.merging.specs.Run.{finished, run-weight, trials}
 use Rattle.merging.specs.Flatpack.{flatpack}
-use Rattle.journal.specs.Lines.{kept-of}
 use Rattle.journal.specs.Obeying.{Obeyed, went, refused, obeyed}
 use Rattle.journal.specs.Writing.{new-text}
 

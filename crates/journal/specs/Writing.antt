@@ -6,7 +6,7 @@ use lib.Dec.{eqb}
 use lib.ListN.{length}
 use Rattle.entities.specs.declared.Triple.{Triple}
 use Rattle.merging.specs.Choice.{weight-in, chosen}
-use Rattle.journal.specs.Fields.{header-text, merge-text}
+use Rattle.journal.specs.LineForms.{header-text, merge-text}
 
 -- The line of a merge made after a history.
 unfoldable pub line-of : ℕ → List (List ℕ) → List Triple → Triple → List ℕ

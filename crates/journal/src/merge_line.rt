@@ -1,8 +1,8 @@
 // A merge line: step, x, y, z, weight.
 ghost use mathlib.Core.Path.{_≡_};
-ghost use Rattle.journal.specs.Fields.{«merge-of-line»};
-use crate::numbers;
+ghost use Rattle.journal.specs.LineForms.{«merge-of-line»};
 use entities::Triple;
+use fields::numbers;
 
 // What a merge line says.
 pub struct MergeLine {

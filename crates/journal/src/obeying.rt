@@ -3,19 +3,19 @@ ghost use mathlib.Core.Path.{_≡_};
 ghost use mathlib.Core.List.{List};
 ghost use Prim.Native.Nat.{ℕ, _≤_, _<_};
 ghost use lib.ListN.{length, drop};
+ghost use Rattle.fields.specs.Lines.{lines};
 ghost use Rattle.terms.specs.Rows.{Held, «terms-of»};
 ghost use Rattle.merging.specs.declared.run.Run.{Run as State};
 ghost use Rattle.merging.specs.State.{«history-of», Holds};
-ghost use Rattle.journal.specs.Fields.{«header-of»};
-ghost use Rattle.journal.specs.Lines.{lines};
+ghost use Rattle.journal.specs.LineForms.{«header-of»};
 ghost use Rattle.journal.specs.Obeying.{went, «obeyed-merge», «obeyed-line», «obeyed-header», «obeyed-lines», obeyed};
 ghost use Rattle.journal.specs.Promises.{«came-to», Obeys};
 use crate::header;
 use crate::header::Header;
-use crate::lookup;
 use crate::merge_line;
 use crate::merge_line::Merge;
 use crate::merge_line::MergeLine;
+use fields::lines;
 use merging::lawful;
 use merging::run;
 use merging::run::Run;
@@ -119,7 +119,7 @@ fn obey_lines(first: Run, rows: &mut [u16], read: &[u8], from: usize) -> Obeying
     let mut line = 1;
     let mut at = from;
     loop {
-        let end = lookup::line_end(read, at);
+        let end = lines::line_end(read, at);
         if end == at {
             return Obeying {
                 verdict: Verdict::Fine,
@@ -147,7 +147,7 @@ pub fn obey(modes: usize, live: usize, rows: &mut [u16], read: &[u8]) -> Obeying
     ensures { λ r. ⌜ Obeys 769 256 (terms-of 8 live (now (rows .entry))) (obeyed modes live (terms-of 8 live (now (rows .entry))) (now (read .entry))) modes live (now (rows .entry)) (now (rows .exit)) r ⌝ }
 {
     let first = run::fresh(modes, live);
-    let end = lookup::line_end(read, 0);
+    let end = lines::line_end(read, 0);
     if end == 0 {
         return Obeying {
             verdict: Verdict::Fine,

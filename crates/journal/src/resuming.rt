@@ -3,18 +3,18 @@ ghost use mathlib.Core.Path.{_≡_};
 ghost use mathlib.Core.List.{List};
 ghost use Prim.Native.Nat.{ℕ, _+_, _*_, _≤_};
 ghost use lib.ListN.{length};
+ghost use Rattle.fields.specs.Lines.{«kept-of»};
 ghost use Rattle.terms.specs.Rows.{Held, «terms-of»};
 ghost use Rattle.terms.specs.Good.{checked};
 ghost use Rattle.terms.specs.declared.given.Checked.the-variants.{Good};
 ghost use Rattle.merging.specs.State.{«history-of», Holds};
-ghost use Rattle.journal.specs.Lines.{«kept-of»};
 ghost use Rattle.journal.specs.Obeying.{obeyed};
 ghost use Rattle.journal.specs.Resuming.{done, ending, «with-journal», «with-terms», resumed, «hatt-run»};
 ghost use Rattle.journal.specs.Promises.{Answers};
-use crate::lookup;
 use crate::new_lines;
 use crate::obeying;
 use crate::obeying::Verdict;
+use fields::lines;
 use merging::flatpack;
 use merging::run::Run;
 use merging::trials;
@@ -83,7 +83,7 @@ fn resume_own(
     match verdict {
         Verdict::Refused(why) => Answer::Refused(why),
         Verdict::Fine => {
-            let kept = lookup::kept_bytes(read);
+            let kept = lines::kept_bytes(read);
             go_on(found.run, own, count, kept, work, rows, journal)
         }
     }

@@ -3,9 +3,10 @@ ghost use mathlib.Core.Path.{_≡_};
 ghost use Prim.Native.Nat.{_≤_};
 ghost use lib.ListN.{length};
 ghost use Rattle.lists.specs.Written.{«written-at»};
-ghost use Rattle.journal.specs.Fields.{«header-text», «merge-text»};
-use crate::putting;
+ghost use Rattle.journal.specs.LineForms.{«header-text», «merge-text»};
 use entities::Triple;
+use fields::decimal;
+use fields::parts;
 
 // The merge line written over the front; how many bytes it has.
 pub fn put_merge(out: &mut [u8], step: u16, triple: Triple, weight: u16) -> usize
@@ -13,11 +14,11 @@ pub fn put_merge(out: &mut [u8], step: u16, triple: Triple, weight: u16) -> usiz
     ensures { λ r. ⌜ r ≡ length (merge-text step triple weight) ⌝ }
     ensures { λ r. ⌜ now (out .exit) ≡ written-at 0 (merge-text step triple weight) (now (out .entry)) ⌝ }
 {
-    let mut at = putting::put_field(out, 0, step as u64, 9);
-    at = putting::put_field(out, at, triple.x as u64, 9);
-    at = putting::put_field(out, at, triple.y as u64, 9);
-    at = putting::put_field(out, at, triple.z as u64, 9);
-    putting::put_field(out, at, weight as u64, 10)
+    let mut at = decimal::put_field(out, 0, step as u64, 9);
+    at = decimal::put_field(out, at, triple.x as u64, 9);
+    at = decimal::put_field(out, at, triple.y as u64, 9);
+    at = decimal::put_field(out, at, triple.z as u64, 9);
+    decimal::put_field(out, at, weight as u64, 10)
 }
 
 // The header written over the front; how many bytes it has.
@@ -26,7 +27,7 @@ pub fn put_header(out: &mut [u8], modes: u16, terms: u16) -> usize
     ensures { λ r. ⌜ r ≡ length (header-text modes terms) ⌝ }
     ensures { λ r. ⌜ now (out .exit) ≡ written-at 0 (header-text modes terms) (now (out .entry)) ⌝ }
 {
-    let front = putting::put_bytes(out, 0, b"hatt\t1\t");
-    let at = putting::put_field(out, front, modes as u64, 9);
-    putting::put_field(out, at, terms as u64, 10)
+    let front = parts::put_bytes(out, 0, b"hatt\t1\t");
+    let at = decimal::put_field(out, front, modes as u64, 9);
+    decimal::put_field(out, at, terms as u64, 10)
 }

@@ -11,9 +11,9 @@ use lib.Dec.{ltb}
 use lib.ListN.{length, drop, length-append, List·getD-eq-default}
 use lib.Seq.{drop-cons, getD-append-seam}
 use Rattle.lists.proofs.Every.{every-at}
-use Rattle.journal.specs.Decimal.{is-digit, is-number, value, decimal}
-use Rattle.journal.proofs.Numerals.{numeral, digit-bounds}
-use Rattle.journal.proofs.DecimalRead.{decimal-value}
+use Rattle.fields.specs.Decimal.{is-digit, is-number, value, decimal}
+use Rattle.fields.proofs.Numerals.{numeral, digit-bounds}
+use Rattle.fields.proofs.DecimalRead.{decimal-value}
 use Rattle.newick.specs.Reading.{byte-at, digits-on, number-digits}
 
 -- A byte other than 0 is one of the text's.

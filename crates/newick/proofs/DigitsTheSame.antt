@@ -7,7 +7,7 @@ use Prim.Native.Nat.{ℕ, zero, suc, _+_, _<_, _≤_}
 use native.Mathlib.Omega.{arith}
 use lib.ListN.{length, length-append}
 use Rattle.lists.proofs.Tests.{same-or-not, not-so}
-use Rattle.journal.specs.Decimal.{is-number}
+use Rattle.fields.specs.Decimal.{is-number}
 use Rattle.newick.specs.Reading.{byte-at, digits-on, number-digits}
 use Rattle.newick.proofs.DigitsStand.{last-digit, digits-stand}
 

@@ -8,8 +8,8 @@ use Rattle.lists.specs.Members.{every, some-of, leading, alike}
 use Rattle.lists.specs.Ranges.{listed}
 use Rattle.lists.specs.Written.{written-at}
 use Rattle.entities.specs.Codes.{absent}
+use Rattle.fields.specs.Decimal.{is-digit, value-after, value, leads-well, is-number, digits, decimal}
 use Rattle.terms.specs.Good.{modes-good}
-use Rattle.journal.specs.Decimal.{is-digit, value-after, value, leads-well, is-number, digits, decimal}
 use Rattle.tree.specs.Table.{nodes, child, place-of, parent-of, climb}
 use Rattle.tree.specs.OneTree.{root-of, leaves-once, absent-once, nodes-once, all-reached, one-tree}
 use Rattle.tree.specs.Pairs.{chain-end, pair-under, pair-right, pairs-right}

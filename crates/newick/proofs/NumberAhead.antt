@@ -9,10 +9,10 @@ use borrow.Author.Tests.{le-leb, leb-true}
 use lib.Dec.{leb}
 use lib.ListN.{length, List·getD-eq-default}
 use Rattle.lists.proofs.Tests.{both}
-use Rattle.journal.specs.Decimal.{is-digit, is-number, value-after, value}
-use Rattle.journal.specs.Reading.{goes-on}
-use Rattle.journal.proofs.Numerals.{value-more, digit-bounds, digit-within}
-use Rattle.journal.proofs.FieldRead.{Begun, nothing-begun, length-more, begun-more, no-digit, stops}
+use Rattle.fields.specs.Decimal.{is-digit, is-number, value-after, value}
+use Rattle.fields.specs.Reading.{goes-on}
+use Rattle.fields.proofs.Numerals.{value-more, digit-bounds, digit-within}
+use Rattle.fields.proofs.FieldRead.{Begun, nothing-begun, length-more, begun-more, no-digit, stops}
 use Rattle.newick.specs.declared.digits.Number.{Number}
 use Rattle.newick.specs.Reading.{byte-at, digits-on, number-digits}
 use Rattle.newick.specs.Promises.{may-follow, NumberRead}

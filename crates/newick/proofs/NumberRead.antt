@@ -7,10 +7,10 @@ use native.Mathlib.Omega.{arith}
 use borrow.Author.Tests.{ne-eqb}
 use lib.ListN.{length, drop, length-append}
 use Rattle.lists.proofs.Every.{every-fails, every-parts}
-use Rattle.journal.specs.Decimal.{is-digit, value, value-after, leads-well, is-number, decimal}
-use Rattle.journal.proofs.Numerals.{numeral, is-numeral, value-joined, value-least}
-use Rattle.journal.proofs.Digits.{decimal-short}
-use Rattle.journal.proofs.DecimalRead.{value-decimal, decimal-is-number}
+use Rattle.fields.specs.Decimal.{is-digit, value, value-after, leads-well, is-number, decimal}
+use Rattle.fields.proofs.Numerals.{numeral, is-numeral, value-joined, value-least}
+use Rattle.fields.proofs.Digits.{decimal-short}
+use Rattle.fields.proofs.DecimalRead.{value-decimal, decimal-is-number}
 use Rattle.newick.specs.Reading.{Reading, byte-at, digits-on, number-digits, numbered}
 use Rattle.newick.proofs.Ahead.{ahead-first, ahead-byte, ahead-next}
 

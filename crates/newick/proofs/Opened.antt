@@ -11,8 +11,8 @@ use Rattle.lists.specs.Counting.{same, occurrences}
 use Rattle.lists.specs.Members.{every}
 use Rattle.lists.proofs.Every.{every-uncons}
 use Rattle.lists.proofs.Sums.{same-none, occurrences-append}
-use Rattle.journal.specs.Decimal.{is-digit, decimal}
-use Rattle.journal.proofs.DecimalRead.{decimal-without}
+use Rattle.fields.specs.Decimal.{is-digit, decimal}
+use Rattle.fields.proofs.DecimalRead.{decimal-without}
 use Rattle.newick.specs.Grammar.{Shape, leaf, none, node, spelled}
 use Rattle.newick.specs.Reading.{byte-at}
 use Rattle.newick.proofs.DigitsStand.{byte-stands}

@@ -9,7 +9,7 @@ use borrow.Author.Tests.{eqb-true, eqb-false}
 use lib.Dec.{eqb, ltb}
 use lib.ListN.{length}
 use Rattle.lists.proofs.Tests.{same-or-not}
-use Rattle.journal.specs.Decimal.{value}
+use Rattle.fields.specs.Decimal.{value}
 use Rattle.newick.specs.Reading.{Reading, got, stuck, crowded, leaf-name, follows, byte-at, expected, marked, number-digits, numbered, child-by, named, inside, node-read, child-read}
 use Rattle.newick.proofs.DigitsStand.{byte-stands, number-stands}
 use Rattle.newick.proofs.ReadingParts.{expected-stands, expected-lacks, child-absent, child-leaf, child-node}

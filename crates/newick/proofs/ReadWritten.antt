@@ -18,7 +18,7 @@ use Rattle.tree.specs.Check.{tree-checked}
 use Rattle.tree.proofs.Under.{met}
 use Rattle.tree.proofs.AcceptedParts.{accepted-parts}
 use Rattle.tree.proofs.AcceptedTree.{accepted-tree}
-use Rattle.newick.specs.Grammar.{Shape, spelled, is-node, Spells}
+use Rattle.newick.specs.Grammar.{Shape, is-node, Spells}
 use Rattle.newick.specs.Writing.{shape-under, newick-text}
 use Rattle.newick.specs.Reading.{got, text-read}
 use Rattle.newick.specs.Laying.{code-of, laid-over, laid}

@@ -9,7 +9,7 @@ use borrow.Author.Tests.{eqb-false, eq-eqb, ne-eqb}
 use lib.Dec.{eqb}
 use lib.ListN.{length}
 use Rattle.lists.proofs.Tests.{same-or-not}
-use Rattle.journal.specs.Decimal.{value}
+use Rattle.fields.specs.Decimal.{value}
 use Rattle.newick.specs.Reading.{Reading, got, stuck, crowded, leaf-name, absent-name, follows, byte-at, expected, marked, number-digits, numbered, child-by, named, inside}
 use Rattle.newick.proofs.DigitsStand.{NumberStands, number-stands}
 

@@ -7,7 +7,7 @@ use Prim.Native.Nat.{ℕ, zero, suc, _*_, _<_}
 use native.Mathlib.Omega.{arith}
 use lib.Dec.{ltb}
 use lib.ListN.{length}
-use Rattle.journal.specs.Decimal.{digits, decimal}
+use Rattle.fields.specs.Decimal.{digits, decimal}
 use Rattle.newick.specs.Grammar.{Shape, leaf, none, node, spelled, numbers-fit, is-node}
 use Rattle.newick.specs.Reading.{Reading, got, stuck, crowded, follows, byte-at, marked, child-by, named, inside, node-read, child-read}
 use Rattle.newick.proofs.DigitsStand.{byte-stands}

@@ -7,7 +7,7 @@ use native.Mathlib.Omega.{arith}
 use borrow.Author.Tests.{le-leb}
 use lib.Dec.{ltb}
 use lib.ListN.{length, drop}
-use Rattle.journal.specs.Decimal.{decimal}
+use Rattle.fields.specs.Decimal.{decimal}
 use Rattle.newick.specs.Grammar.{Shape, leaf, none, node, spelled, numbers-fit, is-node}
 use Rattle.newick.specs.Reading.{Reading, got, crowded, leaf-name, absent-name, byte-at, child-by, inside, child-read, node-read}
 use Rattle.newick.proofs.Shapes.{name-of, rows-in}

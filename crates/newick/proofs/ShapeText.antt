@@ -5,7 +5,7 @@ use Prim.Native.Nat.{ℕ, zero, suc, _+_, _-_, _<_, _≤_}
 use borrow.Author.Tests.{eq-eqb, ne-eqb, lt-ltb, le-ltb}
 use lib.ListN.{length}
 use Rattle.entities.specs.Codes.{absent}
-use Rattle.journal.specs.Decimal.{decimal}
+use Rattle.fields.specs.Decimal.{decimal}
 use Rattle.tree.specs.Table.{child}
 use Rattle.newick.specs.Grammar.{node, spelled}
 use Rattle.newick.specs.Writing.{end-shape, shape-under}

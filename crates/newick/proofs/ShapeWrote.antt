@@ -7,12 +7,12 @@ use borrow.Rule.Slice.PartMut.{putMid}
 use lib.ListN.{length, set, take, drop, length-append, length-set}
 use Rattle.lists.specs.Written.{written-at}
 use Rattle.lists.proofs.Behind.{set-written, rest-written, written-behind}
-use Rattle.journal.specs.Decimal.{decimal}
+use Rattle.lists.proofs.Partway.{Partway, parts-start, parts-room, parts-mark, parts-next, parts-end}
+use Rattle.fields.specs.Decimal.{decimal}
 use Rattle.tree.specs.Table.{child}
 use Rattle.newick.specs.Grammar.{spelled}
 use Rattle.newick.specs.Writing.{shape-under}
 use Rattle.newick.proofs.ShapeText.{node-text}
-use Rattle.lists.proofs.Partway.{Partway, parts-start, parts-room, parts-mark, parts-next, parts-end}
 
 -- A letter stored, and digits written over the front of what was lent from behind it on.
 pub name-put : (s : List ℕ) (at letter : ℕ) (digits : List ℕ) {after : List ℕ}

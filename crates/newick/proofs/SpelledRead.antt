@@ -6,7 +6,7 @@ use Prim.Native.Nat.{ℕ, zero, suc, _+_, _*_, _<_, _≤_}
 use native.Mathlib.Omega.{arith}
 use borrow.Author.Tests.{lt-ltb, leb-true}
 use lib.ListN.{length, drop, length-append}
-use Rattle.journal.specs.Decimal.{is-digit, decimal}
+use Rattle.fields.specs.Decimal.{is-digit, decimal}
 use Rattle.newick.specs.Grammar.{Shape, leaf, none, node, spelled, numbers-fit}
 use Rattle.newick.specs.Reading.{Reading, got, leaf-name, follows, byte-at, expected, marked, child-by, named, inside, node-read, child-read}
 use Rattle.newick.proofs.Shapes.{name-of, rows-in}

@@ -14,7 +14,7 @@ use Rattle.lists.proofs.Totals.{total, total-same, total-add, total-parts, tota
 use Rattle.lists.proofs.Sums.{sum-of, sum-append, sum-listed}
 use Rattle.lists.proofs.SumOnce.{sum-once}
 use Rattle.entities.specs.Codes.{absent}
-use Rattle.journal.specs.Decimal.{decimal}
+use Rattle.fields.specs.Decimal.{decimal}
 use Rattle.tree.specs.declared.TreeChecked.the-variants.{Accepted}
 use Rattle.tree.specs.Table.{nodes, child}
 use Rattle.tree.specs.OneTree.{root-of}

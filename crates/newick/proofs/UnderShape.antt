@@ -16,7 +16,7 @@ use Rattle.tree.specs.Table.{child}
 use Rattle.tree.specs.Check.{codes-good}
 use Rattle.tree.proofs.TableSteps.{code-good}
 use Rattle.tree.proofs.Under.{met, met-leaf, met-none, met-node}
-use Rattle.newick.specs.Grammar.{Shape, leaf, none, node}
+use Rattle.newick.specs.Grammar.{Shape, none, node}
 use Rattle.newick.specs.Writing.{end-shape, shape-under}
 use Rattle.newick.proofs.WholeUnder.{whole-under}
 use Rattle.newick.proofs.ShapeText.{shape-end, shape-node}

@@ -9,7 +9,7 @@ use borrow.Author.Tests.{eq-eqb, eqb-true}
 use lib.Dec.{eqb}
 use lib.ListN.{length, drop, length-append}
 use lib.Seq.{drop-length, drop-append-seam}
-use Rattle.journal.specs.Decimal.{is-digit}
+use Rattle.fields.specs.Decimal.{is-digit}
 use Rattle.newick.specs.Grammar.{Shape, leaf, none, node, spelled, is-node, Spells}
 use Rattle.newick.specs.Reading.{Reading, got, stuck, crowded, follows, byte-at, marked, node-read, child-read, text-read}
 use Rattle.newick.proofs.Shapes.{name-of, rows-in}

@@ -5,7 +5,7 @@ use mathlib.Core.Bool.{Bool, true, false, _&&_}
 use mathlib.Core.List.{List, [], _∷_, _++_}
 use Prim.Native.Nat.{ℕ}
 use lib.Dec.{leb}
-use Rattle.journal.specs.Decimal.{decimal}
+use Rattle.fields.specs.Decimal.{decimal}
 
 -- What a text spells: a leaf by its number, the absent child, or a node's X, Y and Z child and its label.
 pub data Shape : Type 0 where

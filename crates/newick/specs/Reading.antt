@@ -4,7 +4,7 @@ use mathlib.Core.List.{List, [], _∷_, _++_}
 use Prim.Native.Nat.{ℕ, zero, suc, _+_, _*_}
 use lib.Dec.{eqb, ltb}
 use lib.ListN.{length, getD}
-use Rattle.journal.specs.Decimal.{is-number, value}
+use Rattle.fields.specs.Decimal.{is-number, value}
 
 -- What reading a child came to: its name, the nodes closed so far and the place behind it; or the place of the first byte that no such
 -- text can go on with; or that of a `(` that opens a node too many. A closed node is four numbers: its label and its children's names.

@@ -6,7 +6,7 @@ use lib.Dec.{eqb, ltb}
 use lib.ListN.{length}
 use Rattle.lists.specs.Counting.{sum}
 use Rattle.entities.specs.Codes.{absent}
-use Rattle.journal.specs.Decimal.{decimal}
+use Rattle.fields.specs.Decimal.{decimal}
 use Rattle.tree.specs.Table.{nodes, child}
 use Rattle.tree.specs.OneTree.{root-of}
 use Rattle.newick.specs.Grammar.{Shape, leaf, none, node, spelled}

@@ -6,7 +6,7 @@ ghost use lib.Dec.{eqb};
 ghost use lib.ListN.{length};
 ghost use Rattle.newick.specs.Reading.{«byte-at»};
 ghost use Rattle.newick.specs.Promises.{«may-follow», NumberRead};
-use journal::numbers;
+use fields::decimal;
 
 // A number, and the place behind its digits; where there are none, the place at which they were to begin.
 pub struct Number {
@@ -37,7 +37,7 @@ fn follows(count: usize, value: u32, byte: u8) -> bool
     if 57 < byte {
         return false;
     }
-    if !numbers::goes_on(count, value) {
+    if !decimal::goes_on(count, value) {
         return false;
     }
     10 * value + ((byte - 48) as u32) <= 65535

@@ -2,16 +2,16 @@
 ghost use mathlib.Core.Path.{_≡_};
 ghost use Prim.Native.Nat.{_+_, _*_, _≤_};
 ghost use Rattle.newick.specs.Writing.{«mode-length», «text-length»};
-use journal::putting;
+use fields::decimal;
 
 // How many bytes a mode takes up: its node's parentheses, commas and name, and the names of its two leaves.
 fn mode_length(mode: usize) -> usize
     requires { ⌜ mode ≤ 256 ⌝ }
     ensures { λ r. ⌜ (r ≡ mode-length mode) × (r ≤ 67) ⌝ }
 {
-    let label = putting::digit_count(mode as u64);
-    let even = putting::digit_count((2 * mode) as u64);
-    let odd = putting::digit_count((2 * mode + 1) as u64);
+    let label = decimal::digit_count(mode as u64);
+    let even = decimal::digit_count((2 * mode) as u64);
+    let odd = decimal::digit_count((2 * mode + 1) as u64);
     7 + label + even + odd
 }
 

@@ -4,7 +4,7 @@ ghost use mathlib.Core.List.{_∷_};
 ghost use Prim.Native.Nat.{suc, _+_, _*_, _≤_, _<_};
 ghost use lib.ListN.{length};
 ghost use Rattle.lists.specs.Written.{«written-at»};
-ghost use Rattle.journal.specs.Decimal.{decimal};
+ghost use Rattle.fields.specs.Decimal.{decimal};
 ghost use Rattle.tree.specs.declared.TreeChecked.«the-variants».{Accepted};
 ghost use Rattle.tree.specs.Check.{«tree-checked»};
 ghost use Rattle.newick.specs.Grammar.{spelled};
@@ -12,7 +12,7 @@ ghost use Rattle.newick.specs.Writing.{«end-shape», «shape-under», �
 ghost use Rattle.newick.specs.Calls.{«newick-written», «written-as», «text-after»};
 use crate::length;
 use entities::codes;
-use journal::putting;
+use fields::decimal;
 use refusal::Refusal;
 use tree::TreeChecked;
 use tree::table;
@@ -31,7 +31,7 @@ fn put_name(text: &mut [u8], at: usize, letter: u8, number: usize) -> usize
 {
     text[at] = letter;
     let digits = at + 1;
-    digits + putting::put_number(&mut text[digits..], number as u64)
+    digits + decimal::put_number(&mut text[digits..], number as u64)
 }
 
 // A leaf or the absent child written at this place; the place after it.

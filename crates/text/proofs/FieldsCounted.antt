@@ -7,8 +7,8 @@ use native.Mathlib.Omega.{arith}
 use lib.Dec.{eqb}
 use lib.ListN.{length, getD, drop, drop-of-length-le}
 use Rattle.lists.proofs.Steps.{drop-step}
-use Rattle.journal.specs.Fields.{fields-after}
-use Rattle.journal.proofs.FieldsAhead.{fields-head}
+use Rattle.fields.specs.Fields.{fields-after}
+use Rattle.fields.proofs.FieldsAhead.{fields-head}
 use Rattle.text.specs.Reading.{tab-in}
 
 -- What a field began with is no matter.

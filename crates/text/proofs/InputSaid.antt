@@ -11,11 +11,11 @@ use lib.ListN.{length, getD, take, drop, length-drop}
 use Rattle.lists.proofs.Parts.{nothing-in}
 use Rattle.lists.proofs.Tests.{same-or-not, not-so}
 use Rattle.refusal.specs.declared.Refusal.the-variants.{Malformed as Badly}
-use Rattle.journal.specs.Decimal.{value}
-use Rattle.journal.specs.Lines.{lines, kept-of, first-line}
-use Rattle.journal.specs.Fields.{fields, fields-after}
+use Rattle.fields.specs.Decimal.{value}
+use Rattle.fields.specs.Lines.{lines, kept-of, first-line}
+use Rattle.fields.specs.Fields.{fields, fields-after}
+use Rattle.fields.proofs.LineSteps.{first-line-stands, next-line, no-next-line, kept-more}
 use Rattle.journal.specs.Resuming.{hatt-run}
-use Rattle.journal.proofs.LineSteps.{first-line-stands, next-line, no-next-line, kept-more}
 use Rattle.text.specs.declared.input.Modes.the-variants.{Are, Broken}
 use Rattle.text.specs.declared.input.Said.{Said}
 use Rattle.text.specs.declared.input.Said.the-variants.{Given, Malformed}

@@ -9,14 +9,13 @@ use lib.Dec.{eqb, leb, eqb·suc-suc}
 use lib.ListN.{length, getD, take, drop, length-take, length-append, length-map}
 use lib.Seq.{take-take, take-add, take-append-add}
 use Rattle.lists.specs.Members.{alike}
-use Rattle.lists.proofs.Tests.{both}
+use Rattle.lists.proofs.Tests.{both, not-so}
 use Rattle.lists.proofs.Alike.{alike-self, alike-same}
-use Rattle.lists.proofs.Tests.{not-so}
-use Rattle.journal.specs.Decimal.{value}
-use Rattle.journal.specs.Fields.{fields-after, fields, tabbed}
-use Rattle.journal.specs.Reading.{numbers-good}
-use Rattle.journal.proofs.Tabbed.{tabbed-fields}
-use Rattle.journal.proofs.LineSaid.{value-at}
+use Rattle.fields.specs.Decimal.{value}
+use Rattle.fields.specs.Fields.{fields-after, fields, tabbed}
+use Rattle.fields.specs.Reading.{numbers-good}
+use Rattle.fields.proofs.Tabbed.{tabbed-fields}
+use Rattle.fields.proofs.NumbersTabbed.{value-at}
 use Rattle.text.specs.declared.input.Modes.the-variants.{Are, Broken}
 use Rattle.text.specs.Input.{modes-word, term-word, modes-line, term-line, term-row}
 use Rattle.text.specs.Reading.{modes-said, IndicesRead, TermRead}

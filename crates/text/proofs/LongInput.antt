@@ -10,17 +10,16 @@ use lib.Dec.{eqb, leb, ltb}
 use lib.ListN.{length, take, drop, length-append, length-take, take-append-drop}
 use lib.Seq.{take-take, take-all, length-take-le}
 use Rattle.lists.specs.Members.{every, alike}
-use Rattle.lists.proofs.Tests.{both, same-or-not}
+use Rattle.lists.proofs.Tests.{both, same-or-not, not-so}
 use Rattle.lists.proofs.Every.{every-uncons}
 use Rattle.lists.proofs.Alike.{alike-same}
 use Rattle.lists.proofs.Parts.{drop-take}
-use Rattle.lists.proofs.Tests.{not-so}
-use Rattle.journal.specs.Decimal.{is-number, is-digit}
-use Rattle.journal.specs.Lines.{lines, kept-of, first-line, is-line}
-use Rattle.journal.specs.Fields.{fields, tabbed}
-use Rattle.journal.proofs.Tabbed.{tabbed-fields}
-use Rattle.journal.proofs.LinesJoined.{lines-joined, kept-line, lines-one, lines-are-lines, line-cut}
-use Rattle.journal.proofs.LineSteps.{first-line-stands, next-line, no-next-line}
+use Rattle.fields.specs.Decimal.{is-number, is-digit}
+use Rattle.fields.specs.Lines.{lines, kept-of, first-line, is-line}
+use Rattle.fields.specs.Fields.{fields, tabbed}
+use Rattle.fields.proofs.Tabbed.{tabbed-fields}
+use Rattle.fields.proofs.LinesJoined.{lines-joined, kept-line, lines-one, lines-are-lines, line-cut}
+use Rattle.fields.proofs.LineSteps.{first-line-stands, next-line, no-next-line}
 use Rattle.text.specs.Input.{modes-word, term-word, modes-line, term-line, well-formed, formed-from, formed, whole, said, malformed}
 use Rattle.text.specs.Running.{ran-by, ran}
 use Rattle.text.specs.Output.{printed, answer-text}

@@ -12,10 +12,10 @@ use Rattle.lists.proofs.Joined.{flatMap-joined}
 use Rattle.refusal.specs.declared.Refusal.{Refusal}
 use Rattle.refusal.specs.Numbers.{numberOf, placeOf}
 use Rattle.entities.specs.Codes.{absent}
+use Rattle.fields.specs.Decimal.{decimal}
+use Rattle.fields.specs.Fields.{tabbed}
 use Rattle.terms.specs.Rows.{rows-of}
 use Rattle.terms.proofs.RowSteps.{rows-more}
-use Rattle.journal.specs.Decimal.{decimal}
-use Rattle.journal.specs.Fields.{tabbed}
 use Rattle.text.specs.Output.{line-of, weight-word, trials-word, node-word, refused-word, code-text, node-line, node-lines, refusal-text, done-text}
 
 -- What was written over the front stands there.

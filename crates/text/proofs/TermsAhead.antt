@@ -14,11 +14,11 @@ use Rattle.lists.specs.Written.{written-at}
 use Rattle.lists.proofs.Tests.{both}
 use Rattle.lists.proofs.Parts.{drop-replicate}
 use Rattle.lists.proofs.Written.{length-written, put-written, front-written}
-use Rattle.journal.specs.Decimal.{is-number, value}
-use Rattle.journal.specs.Lines.{lines, kept-of, first-line}
-use Rattle.journal.specs.Fields.{fields}
-use Rattle.journal.specs.Reading.{numbers-good, NumbersRead}
-use Rattle.journal.proofs.LineSteps.{lines-none, lines-next, kept-none, kept-more}
+use Rattle.fields.specs.Decimal.{is-number, value}
+use Rattle.fields.specs.Lines.{lines, kept-of, first-line}
+use Rattle.fields.specs.Fields.{fields}
+use Rattle.fields.specs.Reading.{numbers-good, NumbersRead}
+use Rattle.fields.proofs.LineSteps.{lines-none, lines-next, kept-none, kept-more}
 use Rattle.text.specs.Input.{term-word, term-line, well-formed, formed-from, term-row}
 use Rattle.text.specs.Reading.{all-terms, IndicesRead, TermRead, TermPut, TermsRead}
 

@@ -5,9 +5,9 @@ use Prim.Native.Nat.{ℕ, suc, _-_}
 use lib.Dec.{eqb, leb}
 use lib.ListN.{length, getD, drop, replicate}
 use Rattle.lists.specs.Members.{every, alike}
-use Rattle.journal.specs.Decimal.{is-number, value}
-use Rattle.journal.specs.Lines.{lines, kept-of}
-use Rattle.journal.specs.Fields.{fields}
+use Rattle.fields.specs.Decimal.{is-number, value}
+use Rattle.fields.specs.Lines.{lines, kept-of}
+use Rattle.fields.specs.Fields.{fields}
 
 -- `modes`.
 unfoldable pub modes-word : List ℕ

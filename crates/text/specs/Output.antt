@@ -7,9 +7,9 @@ use lib.ListN.{length}
 use Rattle.refusal.specs.declared.Refusal.{Refusal}
 use Rattle.refusal.specs.Numbers.{numberOf, placeOf}
 use Rattle.entities.specs.Codes.{absent}
+use Rattle.fields.specs.Decimal.{decimal}
+use Rattle.fields.specs.Fields.{tabbed}
 use Rattle.terms.specs.Rows.{rows-of}
-use Rattle.journal.specs.Decimal.{decimal}
-use Rattle.journal.specs.Fields.{tabbed}
 use Rattle.text.specs.Running.{Ended, came, stopped, ran}
 
 -- A line: fields parted by tabs, and LF.

@@ -6,10 +6,10 @@ use Prim.Native.Nat.{ℕ, _-_, _*_, _≤_}
 use lib.Dec.{eqb}
 use lib.ListN.{length, getD, take, replicate}
 use Rattle.lists.specs.Written.{written-at}
-use Rattle.journal.specs.Decimal.{value}
-use Rattle.journal.specs.Lines.{lines, kept-of}
-use Rattle.journal.specs.Fields.{fields}
-use Rattle.journal.specs.Reading.{numbers-good}
+use Rattle.fields.specs.Decimal.{value}
+use Rattle.fields.specs.Lines.{lines, kept-of}
+use Rattle.fields.specs.Fields.{fields}
+use Rattle.fields.specs.Reading.{numbers-good}
 use Rattle.text.specs.declared.input.Modes.{Modes}
 use Rattle.text.specs.declared.input.Modes.the-variants.{Are, Broken}
 use Rattle.text.specs.declared.input.Said.{Said}

@@ -3,12 +3,12 @@ ghost use mathlib.Core.Path.{_≡_};
 ghost use mathlib.Core.List.{[], _∷_};
 ghost use Prim.Native.Nat.{_+_, _*_, _≤_, _<_};
 ghost use lib.ListN.{length, replicate};
-ghost use Rattle.journal.specs.Fields.{«fields-after»};
+ghost use Rattle.fields.specs.Fields.{«fields-after»};
 ghost use Rattle.text.specs.Input.{said};
 ghost use Rattle.text.specs.Reading.{«tab-in», «modes-said», IndicesRead, TermRead, TermPut, TermsRead, Reads};
-use journal::header;
-use journal::lookup;
-use journal::numbers;
+use fields::lines;
+use fields::numbers;
+use fields::parts;
 use terms::copying;
 
 // What a text says: modes and so many terms, or the line at which it is malformed.
@@ -59,7 +59,7 @@ fn read_modes(line: &[u8]) -> Modes
     if line.len() < 7 {
         return Modes::Broken;
     }
-    if !header::same_bytes(&line[..6], b"modes\t") {
+    if !parts::same_bytes(&line[..6], b"modes\t") {
         return Modes::Broken;
     }
     let end = line.len() - 1;
@@ -97,7 +97,7 @@ fn read_term(line: &[u8], row: &mut [u16]) -> bool
     if line.len() < 6 {
         return false;
     }
-    if !header::same_bytes(&line[..5], b"term\t") {
+    if !parts::same_bytes(&line[..5], b"term\t") {
         return false;
     }
     let end = line.len() - 1;
@@ -126,7 +126,7 @@ fn read_terms(text: &[u8], numbers: &mut [u16]) -> Terms
     let mut at = 0;
     let mut count = 0;
     loop {
-        let end = lookup::line_end(text, at);
+        let end = lines::line_end(text, at);
         if end == at {
             // bytes behind the last LF are a line without one
             return Terms {
@@ -156,7 +156,7 @@ pub fn read_input(text: &[u8], numbers: &mut [u16]) -> Said
     requires { ⌜ length (now numbers) ≡ 16384 ⌝ }
     ensures { λ r. ⌜ Reads 2048 (said 2048 (now (text .entry))) (now (numbers .exit)) r ⌝ }
 {
-    let start = lookup::line_end(text, 0);
+    let start = lines::line_end(text, 0);
     let Modes::Are(modes) = read_modes(&text[..start]) else {
         return Said::Malformed(0);
     };

@@ -4,10 +4,11 @@ ghost use mathlib.Core.List.{[], _∷_, _++_};
 ghost use Prim.Native.Nat.{_+_, _*_, _/_, _≤_};
 ghost use lib.ListN.{length};
 ghost use Rattle.lists.specs.Written.{«written-at»};
-ghost use Rattle.journal.specs.Decimal.{decimal};
+ghost use Rattle.fields.specs.Decimal.{decimal};
 ghost use Rattle.text.specs.Output.{«code-text», «node-line», «node-lines», «refusal-text», «done-text»};
 use entities::codes;
-use journal::putting;
+use fields::decimal;
+use fields::parts;
 use refusal::Refusal;
 
 // A code and the byte behind it written at this place, the absent child as `-`; the place after them.
@@ -17,9 +18,9 @@ fn put_code(out: &mut [u8], at: usize, code: u16, mark: u8) -> usize
     ensures { λ r. ⌜ now (out .exit) ≡ written-at at (code-text code ++ (mark ∷ [])) (now (out .entry)) ⌝ }
 {
     if code == codes::ABSENT {
-        return putting::put_bytes(out, at, &[b'-', mark]);
+        return parts::put_bytes(out, at, &[b'-', mark]);
     }
-    putting::put_field(out, at, code as u64, mark)
+    decimal::put_field(out, at, code as u64, mark)
 }
 
 // A row's line written at this place; the place after it.
@@ -28,7 +29,7 @@ fn put_node(out: &mut [u8], at: usize, row: &[u16]) -> usize
     ensures { λ r. ⌜ (r ≡ at + length (node-line (now (row .entry)))) × (r ≤ at + 29) ⌝ }
     ensures { λ r. ⌜ now (out .exit) ≡ written-at at (node-line (now (row .entry))) (now (out .entry)) ⌝ }
 {
-    let mut end = putting::put_bytes(out, at, b"node\t");
+    let mut end = parts::put_bytes(out, at, b"node\t");
     end = put_code(out, end, row[0], 9);
     end = put_code(out, end, row[1], 9);
     end = put_code(out, end, row[2], 9);
@@ -59,8 +60,8 @@ fn put_value(out: &mut [u8], at: usize, word: &[u8], number: u64) -> usize
     ensures { λ r. ⌜ (r ≡ at + length (now (word .entry) ++ (decimal number ++ (10 ∷ [])))) × (r ≤ at + (length (now (word .entry)) + 21)) ⌝ }
     ensures { λ r. ⌜ now (out .exit) ≡ written-at at (now (word .entry) ++ (decimal number ++ (10 ∷ []))) (now (out .entry)) ⌝ }
 {
-    let end = putting::put_bytes(out, at, word);
-    putting::put_field(out, end, number, 10)
+    let end = parts::put_bytes(out, at, word);
+    decimal::put_field(out, end, number, 10)
 }
 
 // A refusal written over the front; how many bytes that is.
@@ -71,9 +72,9 @@ pub fn put_refusal(out: &mut [u8], refusal: Refusal) -> usize
 {
     let number = refusal::number(refusal) as u64;
     let place = refusal::place(refusal) as u64;
-    let word = putting::put_bytes(out, 0, b"refused\t");
-    let end = putting::put_field(out, word, number, 9);
-    putting::put_field(out, end, place, 10)
+    let word = parts::put_bytes(out, 0, b"refused\t");
+    let end = decimal::put_field(out, word, number, 9);
+    decimal::put_field(out, end, place, 10)
 }
 
 // What a run came to written over the front; how many bytes that is.

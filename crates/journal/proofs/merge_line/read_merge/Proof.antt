@@ -4,7 +4,7 @@ use native.Mathlib.Omega.{arith}
 use borrow.Author.Tests.{not-true, not-false}
 use borrow.Author.Needs.{needs}
 use lib.Seq.{length-take-le}
-use Rattle.journal.specs.Fields.{fields}
+use Rattle.fields.specs.Fields.{fields}
 use Rattle.journal.proofs.LineSaid.{merge-empty, merge-broken, merge-said}
 use Rattle.journal.proofs.merge_line.read_merge.Statement.{statement}
 use Rattle.journal.proofs.merge_line.read_merge.Tie as tie

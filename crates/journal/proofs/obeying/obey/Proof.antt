@@ -3,8 +3,8 @@ use mathlib.Core.Path.{sym}
 use native.Mathlib.Omega.{arith}
 use borrow.Author.Needs.{needs}
 use lib.Seq.{length-take-le}
+use Rattle.fields.proofs.LineSteps.{lines-none}
 use Rattle.terms.specs.Rows.{terms-of}
-use Rattle.journal.proofs.LineSteps.{lines-none}
 use Rattle.journal.proofs.JournalObeyed.{text-begins, nothing-to-obey, header-refused, lines-behind}
 use Rattle.journal.proofs.obeying.obey.Statement.{statement}
 use Rattle.journal.proofs.obeying.obey.Tie as tie

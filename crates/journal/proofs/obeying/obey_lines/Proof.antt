@@ -5,10 +5,10 @@ use Prim.Native.Nat.{ℕ, _-_, _≤_}
 use native.Mathlib.Omega.{arith}
 use borrow.Author.Needs.{needs}
 use lib.ListN.{length, drop}
+use Rattle.fields.specs.Lines.{lines}
+use Rattle.fields.proofs.LineSteps.{lines-none, lines-next}
 use Rattle.merging.specs.State.{history-of, Holds}
-use Rattle.journal.specs.Lines.{lines}
 use Rattle.journal.specs.Obeying.{went, obeyed-lines}
-use Rattle.journal.proofs.LineSteps.{lines-none, lines-next}
 use Rattle.journal.proofs.LinesObeyed.{Along, along-starts, along-ends, along-goes, along-stops}
 use Rattle.journal.proofs.obeying.obey_lines.Statement.{statement}
 use Rattle.journal.proofs.obeying.obey_lines.Tie as tie

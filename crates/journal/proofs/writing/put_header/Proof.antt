@@ -1,7 +1,7 @@
 -- What every header begins with, then two fields, each behind what is before it.
 use native.Mathlib.Omega.{arith}
 use borrow.Author.Needs.{needs}
-use Rattle.journal.specs.Fields.{word, version}
+use Rattle.journal.specs.LineForms.{word, version}
 use Rattle.journal.proofs.Texts.{length-header, header-wrote}
 use Rattle.journal.proofs.writing.put_header.Statement.{statement}
 use Rattle.journal.proofs.writing.put_header.Tie as tie

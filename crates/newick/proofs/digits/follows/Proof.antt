@@ -3,7 +3,7 @@ use mathlib.Core.Path.{sym, _∙_}
 use native.Mathlib.Omega.{arith}
 use borrow.Author.Needs.{needs}
 use borrow.Author.Tests.{not-true, not-false}
-use Rattle.journal.proofs.Numerals.{digit-within, digit-below, digit-above}
+use Rattle.fields.proofs.Numerals.{digit-within, digit-below, digit-above}
 use Rattle.newick.specs.Promises.{may-follow}
 use Rattle.newick.proofs.digits.follows.Statement.{statement}
 use Rattle.newick.proofs.digits.follows.Tie as tie

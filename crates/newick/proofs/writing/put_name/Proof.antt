@@ -8,7 +8,7 @@ use borrow.Rule.Slice.PartMut.{putMid}
 use lib.ListN.{length, set, length-set, length-take, length-drop}
 use Rattle.lists.specs.Written.{written-at}
 use Rattle.lists.proofs.Written.{length-written}
-use Rattle.journal.specs.Decimal.{decimal}
+use Rattle.fields.specs.Decimal.{decimal}
 use Rattle.newick.proofs.ShapeWrote.{name-put}
 use Rattle.newick.proofs.writing.put_name.Statement.{statement}
 use Rattle.newick.proofs.writing.put_name.Tie as tie

@@ -5,7 +5,7 @@ use Prim.Native.Nat.{_+_, _-_, _≤_}
 use native.Mathlib.Omega.{arith}
 use borrow.Author.Needs.{needs}
 use lib.ListN.{length, drop}
-use Rattle.journal.specs.Fields.{fields-after}
+use Rattle.fields.specs.Fields.{fields-after}
 use Rattle.text.proofs.FieldsCounted.{tab-passed, tabs-end}
 use Rattle.text.proofs.input.field_count.Statement.{statement}
 use Rattle.text.proofs.input.field_count.Tie as tie

@@ -1,7 +1,7 @@
 -- The absent child is one byte, any other code its digits, and the mark stands behind.
 use native.Mathlib.Omega.{arith}
 use borrow.Author.Needs.{needs}
-use Rattle.journal.proofs.Digits.{decimal-short}
+use Rattle.fields.proofs.Digits.{decimal-short}
 use Rattle.text.proofs.PrintedLines.{code-absent, code-number}
 use Rattle.text.proofs.output.put_code.Statement.{statement}
 use Rattle.text.proofs.output.put_code.Tie as tie

@@ -2,8 +2,8 @@
 use native.Mathlib.Omega.{arith}
 use borrow.Author.Needs.{needs}
 use Rattle.lists.proofs.Behind.{field-wrote}
-use Rattle.journal.specs.Decimal.{decimal}
-use Rattle.journal.proofs.Digits.{decimal-long}
+use Rattle.fields.specs.Decimal.{decimal}
+use Rattle.fields.proofs.Digits.{decimal-long}
 use Rattle.text.specs.Output.{refused-word}
 use Rattle.text.proofs.PrintedLines.{refusal-wrote}
 use Rattle.text.proofs.output.put_refusal.Statement.{statement}

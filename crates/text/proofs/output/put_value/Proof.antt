@@ -2,8 +2,8 @@
 use native.Mathlib.Omega.{arith}
 use borrow.Author.Needs.{needs}
 use Rattle.lists.proofs.Behind.{then-wrote, field-wrote}
-use Rattle.journal.specs.Decimal.{decimal}
-use Rattle.journal.proofs.Digits.{decimal-long}
+use Rattle.fields.specs.Decimal.{decimal}
+use Rattle.fields.proofs.Digits.{decimal-long}
 use Rattle.text.proofs.output.put_value.Statement.{statement}
 use Rattle.text.proofs.output.put_value.Tie as tie
 

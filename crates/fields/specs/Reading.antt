@@ -1,0 +1,41 @@
+-- The fields of a text read one after the other.
+use mathlib.Core.Path.{_≡_}
+use mathlib.Core.Bool.{Bool, true, cond, _&&_, _||_}
+use mathlib.Core.List.{List, [], _∷_, map}
+use Prim.Native.Nat.{ℕ, _+_}
+use lib.Dec.{eqb, ltb, leb}
+use lib.ListN.{length, drop}
+use Rattle.lists.specs.Members.{every}
+use Rattle.fields.specs.declared.numbers.Field.{Field}
+use Rattle.fields.specs.declared.numbers.Field.the-variants.{Number, Broken}
+use Rattle.fields.specs.Decimal.{is-number, value}
+
+-- What stands before the first tab, or all there is.
+unfoldable pub first-field : List ℕ → List ℕ
+first-field [] = []
+first-field (byte ∷ rest) = cond (eqb byte 9) [] (byte ∷ first-field rest)
+
+-- A field as it is read, with the place behind it.
+unfoldable pub field-read : List ℕ → ℕ → Field
+field-read field end = cond (is-number field) (Number (value field) end) Broken
+
+-- The field that begins at a place.
+unfoldable pub number-at : List ℕ → ℕ → Field
+number-at text at = field-read (first-field (drop at text)) (at + length (first-field (drop at text)))
+
+-- Another digit may follow so many digits of this value.
+unfoldable pub goes-on : ℕ → ℕ → Bool
+goes-on count so-far = leb so-far 6553 && (ltb 0 so-far || eqb count 0)
+
+-- Digits that say a number have ended.
+unfoldable pub ended-at : ℕ → ℕ → ℕ → Field
+ended-at count so-far end = cond (leb 1 count && leb so-far 65535) (Number so-far end) Broken
+
+-- So many fields, all of them numbers.
+unfoldable pub numbers-good : ℕ → List (List ℕ) → Bool
+numbers-good count parts = eqb (length parts) count && every is-number parts
+
+-- What is known when fields were to be read into so much room: whether they are as many numbers, and if so that their values stand there.
+pub record NumbersRead (parts : List (List ℕ)) (room : ℕ) (after : List ℕ) (r : Bool) : Type 0 where
+  pub good : r ≡ numbers-good room parts
+  pub values : r ≡ true → after ≡ map value parts

@@ -1,0 +1,56 @@
+-- "Header: `hatt`, `1`, n, T. Then one line a merge: step, x, y, z, weight."
+use mathlib.Core.Bool.{Bool, cond, _&&_}
+use mathlib.Core.List.{List, [], _∷_, _++_, map}
+use Prim.Native.Nat.{ℕ}
+use lib.Dec.{eqb}
+use lib.ListN.{length, getD, drop}
+use Rattle.lists.specs.Members.{every, alike}
+use Rattle.entities.specs.declared.Triple.{Triple}
+use Rattle.fields.specs.Decimal.{is-number, value, decimal}
+use Rattle.fields.specs.Fields.{fields, tabbed}
+use Rattle.journal.specs.declared.header.Header.{Header}
+use Rattle.journal.specs.declared.header.Header.the-variants.{Is as HeaderIs, Broken as HeaderBroken}
+use Rattle.journal.specs.declared.merge_line.Merge.{Merge}
+use Rattle.journal.specs.declared.merge_line.Merge.the-variants.{Is as MergeIs, Broken as MergeBroken}
+
+-- `hatt`.
+unfoldable pub word : List ℕ
+word = 104 ∷ (97 ∷ (116 ∷ (116 ∷ [])))
+
+-- `1`.
+unfoldable pub version : List ℕ
+version = 49 ∷ []
+
+-- The line says a header: the word, the version and two numbers.
+unfoldable pub header-good : List (List ℕ) → Bool
+header-good parts =
+    eqb (length parts) 4
+    && (alike (getD parts 0 []) word && (alike (getD parts 1 []) version && every is-number (drop 2 parts)))
+
+unfoldable pub header-of : List ℕ → Header
+header-of line =
+    cond (header-good (fields line)) (HeaderIs (value (getD (fields line) 2 [])) (value (getD (fields line) 3 []))) HeaderBroken
+
+-- The line says a merge: five numbers.
+unfoldable pub merge-good : List (List ℕ) → Bool
+merge-good parts = eqb (length parts) 5 && every is-number parts
+
+unfoldable pub merge-of-line : List ℕ → Merge
+merge-of-line line =
+    cond (merge-good (fields line))
+    (MergeIs
+    (record {
+      step = value (getD (fields line) 0 []);
+      triple = record { x = value (getD (fields line) 1 []); y = value (getD (fields line) 2 []); z = value (getD (fields line) 3 []) };
+      weight = value (getD (fields line) 4 []);
+    }))
+    MergeBroken
+
+-- The header as it is written.
+unfoldable pub header-text : ℕ → ℕ → List ℕ
+header-text modes terms = tabbed (word ∷ (version ∷ (decimal modes ∷ (decimal terms ∷ [])))) ++ (10 ∷ [])
+
+-- A merge line as it is written.
+unfoldable pub merge-text : ℕ → Triple → ℕ → List ℕ
+merge-text step triple weight =
+    tabbed (map decimal (step ∷ (triple .x ∷ (triple .y ∷ (triple .z ∷ (weight ∷ [])))))) ++ (10 ∷ [])
