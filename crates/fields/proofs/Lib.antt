@@ -4,6 +4,8 @@ pub mod Digits
 pub mod DecimalRead
 pub mod FieldRead
 pub mod FieldsAhead
+pub mod FieldsCounted
+pub mod Openings
 pub mod NumbersAhead
 pub mod Tabbed
 pub mod LineSteps

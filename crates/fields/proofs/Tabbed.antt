@@ -37,7 +37,7 @@ field-last begun (byte ∷ field) e =
     let p = every-uncons no-tab byte field e in
     rw (not-true (eqb byte 9) (p .0)) (field-last (begun ++ (byte ∷ [])) field (p .1) ∙ rw append-assoc)
 
-field-ended : (begun field rest : List ℕ) → every no-tab field ≡ true
+pub field-ended : (begun field rest : List ℕ) → every no-tab field ≡ true
     → fields-after begun (field ++ (9 ∷ rest)) ≡ (begun ++ field) ∷ fields-after [] rest
 unfolding fields-after no-tab
 field-ended begun [] rest e = rw (append-nil begun)

@@ -1,14 +1,15 @@
--- The fields of a text read one after the other.
+-- Fields read one after the other: as numbers, and behind the opening of a line.
 use mathlib.Core.Path.{_≡_}
 use mathlib.Core.Bool.{Bool, true, cond, _&&_, _||_}
 use mathlib.Core.List.{List, [], _∷_, map}
-use Prim.Native.Nat.{ℕ, _+_}
+use Prim.Native.Nat.{ℕ, _+_, _-_}
 use lib.Dec.{eqb, ltb, leb}
-use lib.ListN.{length, drop}
-use Rattle.lists.specs.Members.{every}
+use lib.ListN.{length, take, drop}
+use Rattle.lists.specs.Members.{every, alike}
 use Rattle.fields.specs.declared.numbers.Field.{Field}
 use Rattle.fields.specs.declared.numbers.Field.the-variants.{Number, Broken}
 use Rattle.fields.specs.Decimal.{is-number, value}
+use Rattle.fields.specs.Fields.{fields-after}
 
 -- What stands before the first tab, or all there is.
 unfoldable pub first-field : List ℕ → List ℕ
@@ -39,3 +40,24 @@ numbers-good count parts = eqb (length parts) count && every is-number parts
 pub record NumbersRead (parts : List (List ℕ)) (room : ℕ) (after : List ℕ) (r : Bool) : Type 0 where
   pub good : r ≡ numbers-good room parts
   pub values : r ≡ true → after ≡ map value parts
+
+-- 1 for a tab, 0 for any other byte.
+unfoldable pub tab-in : ℕ → ℕ
+tab-in byte = cond (eqb byte 9) 1 0
+
+-- The line, LF included, opens with these bytes.
+unfoldable pub opens : List ℕ → List ℕ → Bool
+opens opening line = ltb (length opening) (length line) && alike (take (length opening) line) opening
+
+-- The fields behind an opening of as many bytes, without the line's LF.
+unfoldable pub fields-behind : List ℕ → List ℕ → List (List ℕ)
+fields-behind opening line = fields-after [] (take (length line - 1 - length opening) (drop (length opening) line))
+
+-- A word, then numbers: the line opens so and says so many numbers behind it.
+unfoldable pub says-numbers : List ℕ → ℕ → List ℕ → Bool
+says-numbers opening count line = opens opening line && numbers-good count (fields-behind opening line)
+
+-- What is known when a line was to be read so into so much room: whether it says as many numbers, and if so that their values stand there.
+pub record LineRead (opening line : List ℕ) (room : ℕ) (after : List ℕ) (r : Bool) : Type 0 where
+  pub good : r ≡ says-numbers opening room line
+  pub values : r ≡ true → after ≡ map value (fields-behind opening line)

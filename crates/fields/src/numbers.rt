@@ -1,16 +1,40 @@
-// Numbers parted by tabs, read one field after the other.
+// Fields parted by tabs: counted, read as numbers one after the other, and read behind the opening of a line.
 ghost use mathlib.Core.Path.{_≡_};
 ghost use mathlib.Core.List.{[]};
 ghost use Prim.Native.Nat.{_≤_};
 ghost use lib.ListN.{length};
 ghost use Rattle.fields.specs.Fields.{«fields-after»};
-ghost use Rattle.fields.specs.Reading.{«ended-at», «number-at», NumbersRead};
+ghost use Rattle.fields.specs.Reading.{«tab-in», «ended-at», «number-at», NumbersRead, LineRead};
 use crate::decimal;
+use crate::parts;
 
 // A field read: its number and the place behind it, or no number.
 pub enum Field {
     Number(u16, usize),
     Broken,
+}
+
+// 1 for a tab, 0 for any other byte.
+fn tab(byte: u8) -> usize
+    ensures { λ r. ⌜ (r ≡ tab-in byte) × (r ≤ 1) ⌝ }
+{
+    if byte == 9 {
+        return 1;
+    }
+    0
+}
+
+// How many fields there are: one more than tabs.
+pub fn field_count(text: &[u8]) -> usize
+    ensures { λ r. ⌜ r ≡ length (fields-after [] (now (text .entry))) ⌝ }
+{
+    let mut tabs = 0;
+    let mut at = 0;
+    while at < text.len() {
+        tabs += tab(text[at]);
+        at += 1;
+    }
+    tabs + 1
 }
 
 // The number that so many digits of this value say, with the place behind them.
@@ -70,4 +94,19 @@ pub fn read_numbers(text: &[u8], numbers: &mut [u16]) -> bool
         at = end + 1;
     }
     false
+}
+
+// The line, LF included, is this opening and then as many numbers as there is room for, and they are put there.
+pub fn read_line(line: &[u8], opening: &[u8], numbers: &mut [u16]) -> bool
+    ensures { λ r. ⌜ LineRead (now (opening .entry)) (now (line .entry)) (length (now (numbers .entry))) (now (numbers .exit)) r ⌝ }
+{
+    let front = opening.len();
+    if line.len() <= front {
+        return false;
+    }
+    if !parts::same_bytes(&line[..front], opening) {
+        return false;
+    }
+    let end = line.len() - 1;
+    read_numbers(&line[front..end], numbers)
 }

@@ -1,16 +1,16 @@
 -- A line that was written is read back as what it was to say, and a line that says something is the one that is written for it.
-use mathlib.Core.Path.{_≡_, refl, ap, _∙_, sym}
-use mathlib.Core.Bool.{Bool, true, false, _&&_, true≢false}
+use mathlib.Core.Path.{_≡_, refl, ap, _∙_}
+use mathlib.Core.Bool.{Bool, true, false}
 use mathlib.Core.List.{List, [], _∷_, _++_, map}
-use Prim.Native.Nat.{ℕ, suc, _-_, _≤_}
+use Prim.Native.Nat.{ℕ, _-_, _≤_}
 use native.Mathlib.Omega.{arith}
 use borrow.Author.Tests.{eqb-true, le-leb}
 use lib.Dec.{eqb}
 use lib.ListN.{length, getD, drop}
-use Rattle.lists.specs.Members.{every, alike}
+use Rattle.lists.specs.Members.{every}
 use Rattle.lists.specs.Ranges.{listed}
 use Rattle.lists.proofs.Tests.{both}
-use Rattle.lists.proofs.Alike.{alike-self, alike-same}
+use Rattle.lists.proofs.Alike.{alike-self}
 use Rattle.fields.specs.Decimal.{is-number, value, decimal}
 use Rattle.fields.specs.Fields.{fields, tabbed}
 use Rattle.fields.specs.Reading.{numbers-good}
@@ -21,7 +21,7 @@ use Rattle.journal.specs.declared.header.Header.the-variants.{Is as Head
 use Rattle.journal.specs.declared.merge_line.MergeLine.{MergeLine}
 use Rattle.journal.specs.declared.merge_line.Merge.the-variants.{Is as MergeIs, Broken as MergeBroken}
 use Rattle.journal.specs.LineForms.{word, version, header-good, header-of, merge-good, merge-of-line, header-text, merge-text}
-use Rattle.journal.proofs.LineSaid.{merge-said}
+use Rattle.journal.proofs.LineSaid.{merge-said, header-fields}
 
 module _ (modes terms : ℕ) (m : modes ≤ 65535) (t : terms ≤ 65535) where
   header-parts : fields (header-text modes terms) ≡ word ∷ (version ∷ (decimal modes ∷ (decimal terms ∷ [])))
@@ -69,21 +69,6 @@ unfolding merge-good listed
 merge-fields parts e =
     let p = both (eqb (length parts) 5) (every is-number parts) e in
     numbers-are 5 parts (eqb-true (length parts) 5 (p .0)) (p .1)
-
-header-fields : (parts : List (List ℕ)) → header-good parts ≡ true
-    → parts ≡ word ∷ (version ∷ (decimal (value (getD parts 2 [])) ∷ (decimal (value (getD parts 3 [])) ∷ [])))
-unfolding header-good listed
-header-fields [] e = absurd (true≢false (sym e))
-header-fields (a ∷ []) e = absurd (true≢false (sym e))
-header-fields (a ∷ (b ∷ rest)) e =
-    let p = both (eqb (suc (suc (length rest))) 4) (alike a word && (alike b version && every is-number rest)) e in
-    let q = both (alike a word) (alike b version && every is-number rest) (p .1) in
-    let r = both (alike b version) (every is-number rest) (q .1) in
-    let l = eqb-true (suc (suc (length rest))) 4 (p .0) in
-    let f = alike-same a word (q .0) in
-    let g = alike-same b version (r .0) in
-    let n = numbers-are 2 rest (omega arith) (r .1) in
-    cc
 
 -- A line that says a merge and ends in LF is the one that is written for it.
 pub merge-written : (line : List ℕ) (said : MergeLine) → merge-of-line line ≡ MergeIs said → getD line (length line - 1) 0 ≡ 10

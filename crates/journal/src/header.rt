@@ -2,7 +2,6 @@
 ghost use mathlib.Core.Path.{_≡_};
 ghost use Rattle.journal.specs.LineForms.{«header-of»};
 use fields::numbers;
-use fields::parts;
 
 // What a line says as a header.
 pub enum Header {
@@ -14,15 +13,8 @@ pub enum Header {
 pub fn read_header(line: &[u8]) -> Header
     ensures { λ r. ⌜ r ≡ header-of (now (line .entry)) ⌝ }
 {
-    if line.len() < 8 {
-        return Header::Broken;
-    }
-    if !parts::same_bytes(&line[..7], b"hatt\t1\t") {
-        return Header::Broken;
-    }
-    let end = line.len() - 1;
     let mut found = [0u16; 2];
-    if !numbers::read_numbers(&line[7..end], &mut found) {
+    if !numbers::read_line(line, b"hatt\t1\t", &mut found) {
         return Header::Broken;
     }
     Header::Is(found[0], found[1])

@@ -1,7 +1,6 @@
 -- The laws of the program's text.
 pub mod Examples
 pub mod PrintedLines
-pub mod FieldsCounted
 pub mod LineWords
 pub mod TermsAhead
 pub mod InputSaid

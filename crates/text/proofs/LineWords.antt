@@ -1,166 +1,130 @@
--- A line that opens with a word and a tab: its fields are the word and those behind the tab, and without the opening it says nothing.
+-- What a line of the input says, told by its word and the numbers behind it.
 use mathlib.Core.Path.{_≡_, refl, ap, _∙_, sym}
-use mathlib.Core.Bool.{Bool, true, false, true≢false}
-use mathlib.Core.List.{List, [], _∷_, _++_, map}
-use Prim.Native.Nat.{ℕ, suc, _+_, _-_, _<_, _≤_}
+use mathlib.Core.Bool.{Bool, true, false, _&&_, true≢false}
+use mathlib.Core.List.{List, [], _∷_, map}
+use Prim.Native.Nat.{ℕ, suc, _<_, _≤_}
 use native.Mathlib.Omega.{arith}
 use borrow.Author.Tests.{eq-eqb, leb-true, le-leb, eqb-true}
 use lib.Dec.{eqb, leb, eqb·suc-suc}
-use lib.ListN.{length, getD, take, drop, length-take, length-append, length-map}
-use lib.Seq.{take-take, take-add, take-append-add}
-use Rattle.lists.specs.Members.{alike}
+use lib.ListN.{length, getD, length-map}
+use Rattle.lists.specs.Members.{every, alike}
 use Rattle.lists.proofs.Tests.{both, not-so}
-use Rattle.lists.proofs.Alike.{alike-self, alike-same}
+use Rattle.lists.proofs.Alike.{alike-self}
 use Rattle.fields.specs.Decimal.{value}
-use Rattle.fields.specs.Fields.{fields-after, fields, tabbed}
-use Rattle.fields.specs.Reading.{numbers-good}
-use Rattle.fields.proofs.Tabbed.{tabbed-fields}
+use Rattle.fields.specs.Fields.{fields-after, fields}
+use Rattle.fields.specs.Reading.{numbers-good, opens, fields-behind, says-numbers}
+use Rattle.fields.proofs.Tabbed.{no-tab}
 use Rattle.fields.proofs.NumbersTabbed.{value-at}
+use Rattle.fields.proofs.Openings.{opening, opened-fields, opens-with, two-fields}
 use Rattle.text.specs.declared.input.Modes.the-variants.{Are, Broken}
 use Rattle.text.specs.Input.{modes-word, term-word, modes-line, term-line, term-row}
-use Rattle.text.specs.Reading.{modes-said, IndicesRead, TermRead}
-use Rattle.text.proofs.FieldsCounted.{some-field}
-
-opening-of : (word : List ℕ) (parts : List (List ℕ)) → alike (getD parts 0 []) word ≡ true → 2 ≤ length parts
-    → take (length word + 1) (tabbed parts) ≡ word ++ (9 ∷ [])
-unfolding tabbed
-opening-of word [] e h = absurd (omega arith)
-opening-of word (a ∷ []) e h = absurd (omega arith)
-opening-of word (a ∷ (b ∷ parts)) e h = rw (alike-same a word e) (take-append-add word (9 ∷ tabbed (b ∷ parts)) 1)
-
--- A line whose first field is the word, with another behind it, opens with the word and a tab.
-line-opens : (word line : List ℕ) → alike (getD (fields line) 0 []) word ≡ true → 2 ≤ length (fields line)
-    → take (length word + 1) (take (length line - 1) line) ≡ word ++ (9 ∷ [])
-unfolding fields
-line-opens word line e h = rw (tabbed-fields [] (take (length line - 1) line)) at (opening-of word (fields line) e h)
-
-module _ (word line : List ℕ) (e : alike (getD (fields line) 0 []) word ≡ true) (h : 2 ≤ length (fields line)) where
-  opens-long : length word + 2 ≤ length line
-  opens-long =
-      omega (arith, simp (length-take) at (ap length (line-opens word line e h)), length-append word (9 ∷ []))
-
-  opens-alike : alike (take (length word + 1) line) (word ++ (9 ∷ [])) ≡ true
-  opens-alike =
-      let l = opens-long in
-      rw (rw (take-take (length word + 1) (length line - 1) line (omega arith)) at (line-opens word line e h)) (alike-self (word ++ (9 ∷ [])))
-
--- With its opening: what is behind it, without the last byte.
-module _ (line opening : List ℕ) (h : length opening + 1 ≤ length line) (e : alike (take (length opening) line) opening ≡ true) where
-  opened : take (length line - 1) line ≡ opening ++ take (length line - 1 - length opening) (drop (length opening) line)
-  opened =
-      let n : length opening + (length line - 1 - length opening) ≡ length line - 1 = omega arith in
-      ap (λ k. take k line) (sym n) ∙ take-add (length opening) (length line - 1 - length opening) line
-      ∙ ap (λ front. front ++ take (length line - 1 - length opening) (drop (length opening) line)) (alike-same (take (length opening) line) opening e)
+use Rattle.text.specs.Reading.{modes-said, term-opening, IndicesRead, TermRead}
 
 -- `modes` and a tab.
 abbrev pub modes-opening : List ℕ
 modes-opening = 109 ∷ (111 ∷ (100 ∷ (101 ∷ (115 ∷ (9 ∷ [])))))
 
-modes-two : (line : List ℕ) → modes-line (fields line) ≡ true → (alike (getD (fields line) 0 []) modes-word ≡ true) × (2 ≤ length (fields line))
-unfolding modes-line
-modes-two line e =
-    let p = both (eqb (length (fields line)) 2) _ e in
-    let q = both (alike (getD (fields line) 0 []) modes-word) _ (p .1) in
-    let l = eqb-true (length (fields line)) 2 (p .0) in
-    (q .0, omega arith)
+-- With its opening the first line says what the number behind it says, and without it nothing.
+module _ (line : List ℕ) where
+  opened-modes : opens modes-opening line ≡ true → fields line ≡ modes-word ∷ fields-behind modes-opening line
+  unfolding opening modes-word every no-tab
+  opened-modes e = opened-fields (modes-word ∷ []) line refl e
 
-modes-not : (line : List ℕ) → (modes-line (fields line) ≡ true → ⊥) → modes-said line ≡ Broken
-unfolding modes-said
-modes-not line h = rw (not-so (modes-line (fields line)) h)
+  modes-opens : modes-line (fields line) ≡ true → opens modes-opening line ≡ true
+  unfolding modes-line opening modes-word
+  modes-opens e =
+      let p = both (eqb (length (fields line)) 2) _ e in
+      let l = eqb-true (length (fields line)) 2 (p .0) in
+      opens-with modes-word [] line _ _ (two-fields modes-word (fields line) (both (alike (getD (fields line) 0 []) modes-word) _ (p .1) .0) (omega arith))
 
-pub modes-short : (line : List ℕ) → length line < 7 → modes-said line ≡ Broken
-unfolding modes-word
-modes-short line h =
-    modes-not line (λ e. let p = modes-two line e in omega (arith, opens-long modes-word line (p .0) (p .1)))
+  modes-says : modes-line (fields line) ≡ says-numbers modes-opening 1 line
+  unfolding modes-line numbers-good says-numbers
+  modes-says = go (opens modes-opening line) refl
+    where
+      go : (z : Bool) → opens modes-opening line ≡ z → modes-line (fields line) ≡ (z && numbers-good 1 (fields-behind modes-opening line))
+      go true e = rw (opened-modes e, alike-self modes-word, eqb·suc-suc (length (fields-behind modes-opening line)) 1)
+      go false e = not-so (modes-line (fields line)) (λ f. true≢false (sym (modes-opens f) ∙ e))
 
-pub modes-unlike : (line : List ℕ) → alike (take 6 line) modes-opening ≡ false → modes-said line ≡ Broken
-unfolding modes-word
-modes-unlike line f =
-    modes-not line (λ e. let p = modes-two line e in true≢false (sym (opens-alike modes-word line (p .0) (p .1)) ∙ f))
-
-module _ (line : List ℕ) (h : 7 ≤ length line) (e : alike (take 6 line) modes-opening ≡ true) where
-  abbrev modes-behind : List ℕ
-  modes-behind = take (length line - 1 - 6) (drop 6 line)
-
-  modes-fields : fields line ≡ modes-word ∷ fields-after [] modes-behind
-  unfolding fields fields-after modes-word
-  modes-fields = rw (opened line modes-opening h e)
-
-  modes-good : modes-line (fields line) ≡ numbers-good 1 (fields-after [] modes-behind)
-  unfolding modes-line numbers-good
-  modes-good =
-      rw (modes-fields, alike-self modes-word, eqb·suc-suc (length (fields-after [] modes-behind)) 1)
-
-  pub modes-broken : numbers-good 1 (fields-after [] modes-behind) ≡ false → modes-said line ≡ Broken
+  pub modes-broken : says-numbers modes-opening 1 line ≡ false → modes-said line ≡ Broken
   unfolding modes-said
-  modes-broken f = rw (modes-good ∙ f)
+  modes-broken e = rw (modes-says ∙ e)
 
-  pub modes-told : (found : List ℕ) → numbers-good 1 (fields-after [] modes-behind) ≡ true → found ≡ map value (fields-after [] modes-behind)
+  pub modes-told : (found : List ℕ) → says-numbers modes-opening 1 line ≡ true → found ≡ map value (fields-behind modes-opening line)
       → modes-said line ≡ Are (getD found 0 0)
   unfolding modes-said
-  modes-told found f g = rw (modes-good ∙ f, modes-fields, g, value-at (fields-after [] modes-behind) 0)
-
--- `term` and a tab.
-abbrev pub term-opening : List ℕ
-term-opening = 116 ∷ (101 ∷ (114 ∷ (109 ∷ (9 ∷ []))))
-
-term-two : (line : List ℕ) → term-line (fields line) ≡ true → (alike (getD (fields line) 0 []) term-word ≡ true) × (2 ≤ length (fields line))
-unfolding term-line
-term-two line e =
-    let p = both (alike (getD (fields line) 0 []) term-word) _ e in
-    let q = both (leb 2 (length (fields line))) _ (p .1) in
-    (p .0, leb-true 2 (length (fields line)) (q .0))
+  modes-told found e f =
+      rw (modes-says ∙ e, opened-modes (modes-opens (modes-says ∙ e)), f, value-at (fields-behind modes-opening line) 0)
 
 -- No term: what stands in the row is not asked.
 term-none : {line after : List ℕ} → (term-line (fields line) ≡ true → ⊥) → TermRead line after false
 term-none {line = line} h = record { good = sym (not-so (term-line (fields line)) h); row = λ f. absurd (true≢false (sym f)) }
 
-pub term-short : (line after : List ℕ) → length line < 6 → TermRead line after false
-unfolding term-word
-term-short line after h = term-none (λ e. let p = term-two line e in omega (arith, opens-long term-word line (p .0) (p .1)))
+-- A term's fields: its word, one more at least and eight at most.
+record TermFields (parts : List (List ℕ)) : Type 0 where
+  first : alike (getD parts 0 []) term-word ≡ true
+  some : 2 ≤ length parts
+  few : length parts ≤ 8
 
-pub term-unlike : (line after : List ℕ) → alike (take 5 line) term-opening ≡ false → TermRead line after false
-unfolding term-word
-term-unlike line after f = term-none (λ e. let p = term-two line e in true≢false (sym (opens-alike term-word line (p .0) (p .1)) ∙ f))
+term-fields : (parts : List (List ℕ)) → term-line parts ≡ true → TermFields parts
+unfolding term-line
+term-fields parts e =
+    let p = both (alike (getD parts 0 []) term-word) _ e in
+    let q = both (leb 2 (length parts)) _ (p .1) in
+    let r = both (leb (length parts) 8) _ (q .1) in
+    record { first = p .0; some = leb-true 2 (length parts) (q .0); few = leb-true (length parts) 8 (r .0) }
 
-module _ (line : List ℕ) (h : 6 ≤ length line) (e : alike (take 5 line) term-opening ≡ true) where
-  abbrev term-behind : List ℕ
-  term-behind = take (length line - 1 - 5) (drop 5 line)
+module _ (line after : List ℕ) where
+  pub term-empty : length line ≡ 0 → TermRead line after false
+  unfolding fields fields-after
+  term-empty e = term-none {line = line} (λ f. nothing line e (term-fields (fields line) f .some))
+    where
+      nothing : (l : List ℕ) → length l ≡ 0 → 2 ≤ length (fields l) → ⊥
+      nothing [] e h = omega arith
+      nothing (byte ∷ l) e h = omega arith
 
-  term-fields : fields line ≡ term-word ∷ fields-after [] term-behind
-  unfolding fields fields-after term-word
-  term-fields = rw (opened line term-opening h e)
+  pub term-short : length (fields line) < 2 → TermRead line after false
+  term-short h = term-none (λ f. omega (arith, term-fields (fields line) f .some))
 
-  pub term-long : (after : List ℕ) → 7 < length (fields-after [] term-behind) → TermRead line after false
-  unfolding term-line
-  term-long after k =
-      term-none
-      (λ f.
-      let p = both (alike (getD (fields line) 0 []) term-word) _ f in
-      let q = both (leb 2 (length (fields line))) _ (p .1) in
-      let r = both (leb (length (fields line)) 8) _ (q .1) in
-      omega (arith, leb-true (length (fields line)) 8 (r .0), ap length term-fields))
+  pub term-long : 8 < length (fields line) → TermRead line after false
+  term-long h = term-none (λ f. omega (arith, term-fields (fields line) f .few))
 
-  term-good : length (fields-after [] term-behind) ≤ 7
-      → term-line (fields line) ≡ numbers-good (length (fields-after [] term-behind)) (fields-after [] term-behind)
-  unfolding term-line numbers-good
-  term-good k =
-      let parts = fields-after [] term-behind in
-      rw (
-        term-fields,
-        alike-self term-word,
-        le-leb 2 (suc (length parts)) (omega (arith, some-field term-behind)),
-        le-leb (suc (length parts)) 8 (omega arith),
-        eq-eqb (length parts) (length parts) refl,
-      )
+-- With its opening a line of so many fields is a term where they are numbers, and without it none.
+module _ (line : List ℕ) (count : ℕ) (size : suc count ≡ length (fields line)) (some : 1 ≤ count) (few : count ≤ 7) where
+  opened-term : opens term-opening line ≡ true → fields line ≡ term-word ∷ fields-behind term-opening line
+  unfolding opening term-word every no-tab
+  opened-term e = opened-fields (term-word ∷ []) line refl e
 
-  pub term-told : (count : ℕ) → count ≡ length (fields-after [] term-behind) → count ≤ 7
-      → (after : List ℕ) (r : Bool) → IndicesRead (fields-after [] term-behind) count after r → TermRead line after r
+  term-opens : term-line (fields line) ≡ true → opens term-opening line ≡ true
+  unfolding opening term-word
+  term-opens e =
+      let t = term-fields (fields line) e in
+      opens-with term-word [] line _ _ (two-fields term-word (fields line) (t .first) (t .some))
+
+  term-says : term-line (fields line) ≡ says-numbers term-opening count line
+  unfolding term-line numbers-good says-numbers
+  term-says = go (opens term-opening line) refl
+    where
+      go : (z : Bool) → opens term-opening line ≡ z → term-line (fields line) ≡ (z && numbers-good count (fields-behind term-opening line))
+      go true e =
+          let parts = fields-behind term-opening line in
+          let counted : length parts ≡ count = omega (arith, ap length (opened-term e)) in
+          rw (
+            opened-term e,
+            alike-self term-word,
+            le-leb 2 (suc (length parts)) (omega arith),
+            le-leb (suc (length parts)) 8 (omega arith),
+            eq-eqb (length parts) count counted,
+          )
+      go false e = not-so (term-line (fields line)) (λ f. true≢false (sym (term-opens f) ∙ e))
+
+  pub term-told : (after : List ℕ) (r : Bool) → IndicesRead line count after r → TermRead line after r
   unfolding term-row
-  term-told count n k after r i =
-      let parts = fields-after [] term-behind in
-      let few : length (fields-after [] term-behind) ≤ 7 = omega arith in
+  term-told after r i =
       record {
-        good = i .good ∙ ap (λ c. numbers-good c parts) n ∙ sym (term-good few);
-        row = λ f. i .row f ∙ rw (n, term-fields, length-map parts value);
+        good = i .good ∙ sym term-says;
+        row = λ f.
+            let parts = fields-behind term-opening line in
+            let is = opened-term (term-opens (term-says ∙ sym (i .good) ∙ f)) in
+            let counted : length parts ≡ count = omega (arith, ap length is) in
+            i .row f ∙ rw (is, length-map parts value, counted);
       }

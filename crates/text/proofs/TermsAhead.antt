@@ -17,20 +17,20 @@ use Rattle.lists.proofs.Written.{length-written, put-written, front-written}
 use Rattle.fields.specs.Decimal.{is-number, value}
 use Rattle.fields.specs.Lines.{lines, kept-of, first-line}
 use Rattle.fields.specs.Fields.{fields}
-use Rattle.fields.specs.Reading.{numbers-good, NumbersRead}
+use Rattle.fields.specs.Reading.{says-numbers, LineRead}
 use Rattle.fields.proofs.LineSteps.{lines-none, lines-next, kept-none, kept-more}
 use Rattle.text.specs.Input.{term-word, term-line, well-formed, formed-from, term-row}
-use Rattle.text.specs.Reading.{all-terms, IndicesRead, TermRead, TermPut, TermsRead}
+use Rattle.text.specs.Reading.{term-opening, all-terms, IndicesRead, TermRead, TermPut, TermsRead}
 
 -- Indices read between their count and the zeros.
-pub indices-read : (parts : List (List ℕ)) (count : ℕ) → count ≤ 7 → (row part : List ℕ) (k : ℕ) (r : Bool)
-    → row ≡ count ∷ replicate 7 0 → k ≡ count → NumbersRead parts (length (take k (drop 1 row))) part r → IndicesRead parts count (putMid 1 k row part) r
-indices-read parts count few row part k r shape size n =
+pub indices-read : (line : List ℕ) (count : ℕ) → count ≤ 7 → (row part : List ℕ) (k : ℕ) (r : Bool)
+    → row ≡ count ∷ replicate 7 0 → k ≡ count → LineRead term-opening line (length (take k (drop 1 row))) part r → IndicesRead line count (putMid 1 k row part) r
+indices-read line count few row part k r shape size n =
     let seven : length (replicate {A = ℕ} 7 0) ≡ 7 = length-replicate {A = ℕ} 7 0 in
     let wide : length (take k (drop 1 row)) ≡ count =
     rw (shape, size) (length-take-le count (replicate 7 0) (omega arith)) in
     record {
-      good = n .good ∙ ap (λ c. numbers-good c parts) wide;
+      good = n .good ∙ ap (λ c. says-numbers term-opening c line) wide;
       row = λ e. rw (shape, size, n .values e, drop-replicate {A = ℕ} count 7 0);
     }
 

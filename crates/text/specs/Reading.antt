@@ -9,7 +9,7 @@ use Rattle.lists.specs.Written.{written-at}
 use Rattle.fields.specs.Decimal.{value}
 use Rattle.fields.specs.Lines.{lines, kept-of}
 use Rattle.fields.specs.Fields.{fields}
-use Rattle.fields.specs.Reading.{numbers-good}
+use Rattle.fields.specs.Reading.{fields-behind, says-numbers}
 use Rattle.text.specs.declared.input.Modes.{Modes}
 use Rattle.text.specs.declared.input.Modes.the-variants.{Are, Broken}
 use Rattle.text.specs.declared.input.Said.{Said}
@@ -17,18 +17,18 @@ use Rattle.text.specs.declared.input.Said.the-variants.{Given, Malformed
 use Rattle.text.specs.declared.input.Terms.{Terms}
 use Rattle.text.specs.Input.{modes-line, term-line, formed-from, term-row, given, malformed, Said as Meant}
 
--- 1 for a tab, 0 for any other byte.
-unfoldable pub tab-in : ℕ → ℕ
-tab-in byte = cond (eqb byte 9) 1 0
-
 -- The first line's number, where it says one.
 unfoldable pub modes-said : List ℕ → Modes
 modes-said line = cond (modes-line (fields line)) (Are (value (getD (fields line) 1 []))) Broken
 
--- Fields read as so many indices: whether they are that, and if so that the row says them.
-pub record IndicesRead (parts : List (List ℕ)) (count : ℕ) (after : List ℕ) (r : Bool) : Type 0 where
-  pub good : r ≡ numbers-good count parts
-  pub row : r ≡ true → after ≡ count ∷ (map value parts ++ replicate (7 - count) 0)
+-- `term` and a tab.
+abbrev pub term-opening : List ℕ
+term-opening = 116 ∷ (101 ∷ (114 ∷ (109 ∷ (9 ∷ []))))
+
+-- A line read as a term of so many indices: whether it is that, and if so that the row says them.
+pub record IndicesRead (line : List ℕ) (count : ℕ) (after : List ℕ) (r : Bool) : Type 0 where
+  pub good : r ≡ says-numbers term-opening count line
+  pub row : r ≡ true → after ≡ count ∷ (map value (fields-behind term-opening line) ++ replicate (7 - count) 0)
 
 -- A line read as a term, into a row.
 pub record TermRead (line after : List ℕ) (r : Bool) : Type 0 where

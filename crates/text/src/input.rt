@@ -1,14 +1,12 @@
 // The program's input: its first line read as modes, every other as a term's row of eight.
 ghost use mathlib.Core.Path.{_≡_};
-ghost use mathlib.Core.List.{[], _∷_};
+ghost use mathlib.Core.List.{_∷_};
 ghost use Prim.Native.Nat.{_+_, _*_, _≤_, _<_};
 ghost use lib.ListN.{length, replicate};
-ghost use Rattle.fields.specs.Fields.{«fields-after»};
 ghost use Rattle.text.specs.Input.{said};
-ghost use Rattle.text.specs.Reading.{«tab-in», «modes-said», IndicesRead, TermRead, TermPut, TermsRead, Reads};
+ghost use Rattle.text.specs.Reading.{«modes-said», IndicesRead, TermRead, TermPut, TermsRead, Reads};
 use fields::lines;
 use fields::numbers;
-use fields::parts;
 use terms::copying;
 
 // What a text says: modes and so many terms, or the line at which it is malformed.
@@ -29,42 +27,12 @@ pub struct Terms {
     pub all: bool,
 }
 
-// 1 for a tab, 0 for any other byte.
-fn tab(byte: u8) -> usize
-    ensures { λ r. ⌜ (r ≡ tab-in byte) × (r ≤ 1) ⌝ }
-{
-    if byte == 9 {
-        return 1;
-    }
-    0
-}
-
-// How many fields there are: one more than tabs.
-fn field_count(text: &[u8]) -> usize
-    ensures { λ r. ⌜ r ≡ length (fields-after [] (now (text .entry))) ⌝ }
-{
-    let mut tabs = 0;
-    let mut at = 0;
-    while at < text.len() {
-        tabs += tab(text[at]);
-        at += 1;
-    }
-    tabs + 1
-}
-
 // The modes that a line, LF included, says.
 fn read_modes(line: &[u8]) -> Modes
     ensures { λ r. ⌜ r ≡ modes-said (now (line .entry)) ⌝ }
 {
-    if line.len() < 7 {
-        return Modes::Broken;
-    }
-    if !parts::same_bytes(&line[..6], b"modes\t") {
-        return Modes::Broken;
-    }
-    let end = line.len() - 1;
     let mut found = [0u16; 1];
-    if !numbers::read_numbers(&line[6..end], &mut found) {
+    if !numbers::read_line(line, b"modes\t", &mut found) {
         return Modes::Broken;
     }
     Modes::Are(found[0])
@@ -79,14 +47,14 @@ fn begin_row(row: &mut [u16], count: usize)
     row[0] = count as u16;
 }
 
-// So many indices read into a row: their count, the indices, and zeros.
-fn read_indices(text: &[u8], count: usize, row: &mut [u16]) -> bool
+// A line's so many indices read into a row: their count, the indices, and zeros.
+fn read_indices(line: &[u8], count: usize, row: &mut [u16]) -> bool
     requires { ⌜ (count ≤ 7) × (length (now row) ≡ 8) ⌝ }
-    ensures { λ r. ⌜ IndicesRead (fields-after [] (now (text .entry))) count (now (row .exit)) r ⌝ }
+    ensures { λ r. ⌜ IndicesRead (now (line .entry)) count (now (row .exit)) r ⌝ }
 {
     begin_row(row, count);
     let end = count + 1;
-    numbers::read_numbers(text, &mut row[1..end])
+    numbers::read_line(line, b"term\t", &mut row[1..end])
 }
 
 // The row of the term that a line, LF included, says.
@@ -94,18 +62,19 @@ fn read_term(line: &[u8], row: &mut [u16]) -> bool
     requires { ⌜ length (now row) ≡ 8 ⌝ }
     ensures { λ r. ⌜ TermRead (now (line .entry)) (now (row .exit)) r ⌝ }
 {
-    if line.len() < 6 {
-        return false;
-    }
-    if !parts::same_bytes(&line[..5], b"term\t") {
+    if line.len() == 0 {
         return false;
     }
     let end = line.len() - 1;
-    let count = field_count(&line[5..end]);
-    if 7 < count {
+    // the word is a field too
+    let parts = numbers::field_count(&line[..end]);
+    if parts < 2 {
         return false;
     }
-    read_indices(&line[5..end], count, row)
+    if 8 < parts {
+        return false;
+    }
+    read_indices(line, parts - 1, row)
 }
 
 // The row of a line put behind so many rows.

@@ -12,26 +12,29 @@ begin-row-requires c κs = search needs
 add-end : tie.Need-add-end
 add-end c = search needs
 
-sub-read-numbers : tie.Need-sub-read-numbers
-sub-read-numbers c = search needs
+slice-aggregate-read-line : tie.Need-slice-aggregate-read-line
+slice-aggregate-read-line c = search needs
 
-part-read-numbers-start : tie.Need-part-read-numbers-start
-part-read-numbers-start c = search needs
+sub-read-line : tie.Need-sub-read-line
+sub-read-line c = search needs
 
-part-read-numbers-end : tie.Need-part-read-numbers-end
-part-read-numbers-end c = search needs
+part-read-line-start : tie.Need-part-read-line-start
+part-read-line-start c = search needs
 
-read-numbers-requires : tie.Need-read-numbers-requires
-read-numbers-requires c κs = search needs
+part-read-line-end : tie.Need-part-read-line-end
+part-read-line-end c = search needs
+
+read-line-requires : tie.Need-read-line-requires
+read-line-requires c κs = search needs
 
 same-length : tie.Need-same-length
 same-length c = search needs
 
 returns : tie.Need-returns
 returns c =
-    let start = c .before .before .before .before .before .before .before .before .before .before in
+    let start = c .before .before .before .before .before .before .before .before .before .before .before in
     let count = start .args .count in
-    indices-read _ count (start .pre .0) _ _ (count + 1 - 1) _ (c .before .before .before .before .before .before .begin-row .ensures) (omega arith) (c .before .before .read-numbers .ensures)
+    indices-read _ count (start .pre .0) _ _ (count + 1 - 1) _ (c .before .before .before .before .before .before .before .begin-row .ensures) (omega arith) (c .before .before .read-line .ensures)
 
 pub read-indices-spec : {M : Type 1} → statement M
 read-indices-spec =
@@ -39,9 +42,10 @@ read-indices-spec =
     (tie.spec
     begin-row-requires
     add-end
-    sub-read-numbers
-    part-read-numbers-start
-    part-read-numbers-end
-    read-numbers-requires
+    slice-aggregate-read-line
+    sub-read-line
+    part-read-line-start
+    part-read-line-end
+    read-line-requires
     same-length
     returns)

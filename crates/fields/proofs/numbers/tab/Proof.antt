@@ -1,9 +1,9 @@
 -- A tab is byte 9.
 use native.Mathlib.Omega.{arith}
 use borrow.Author.Tests.{eq-eqb, ne-eqb}
-use Rattle.text.specs.Reading.{tab-in}
-use Rattle.text.proofs.input.tab.Statement.{statement}
-use Rattle.text.proofs.input.tab.Tie as tie
+use Rattle.fields.specs.Reading.{tab-in}
+use Rattle.fields.proofs.numbers.tab.Statement.{statement}
+use Rattle.fields.proofs.numbers.tab.Tie as tie
 
 returns : tie.Need-returns
 unfolding tab-in

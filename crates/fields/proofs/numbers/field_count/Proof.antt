@@ -5,10 +5,10 @@ use Prim.Native.Nat.{_+_, _-_, _≤_}
 use native.Mathlib.Omega.{arith}
 use borrow.Author.Needs.{needs}
 use lib.ListN.{length, drop}
 use Rattle.fields.specs.Fields.{fields-after}
-use Rattle.text.proofs.FieldsCounted.{tab-passed, tabs-end}
-use Rattle.text.proofs.input.field_count.Statement.{statement}
-use Rattle.text.proofs.input.field_count.Tie as tie
+use Rattle.fields.proofs.FieldsCounted.{tab-passed, tabs-end}
+use Rattle.fields.proofs.numbers.field_count.Statement.{statement}
+use Rattle.fields.proofs.numbers.field_count.Tie as tie
 
 abbrev Inv-loop : tie.InvT-loop
 Inv-loop text tabs₀ at₀ tabs at = (tabs ≤ at) × (at ≤ length text) × (tabs + length (fields-after [] (drop at text)) ≡ length (fields-after [] text))
