@@ -21,7 +21,7 @@ use Rattle.topphatt.proofs.AssignDone.{assign-done}
 use Rattle.topphatt.proofs.OutcomeRight.{outcome-right}
 use Rattle.daemon.specs.Bytes.{two-bytes, eight-bytes}
 use Rattle.daemon.specs.Calls.{room-of, assign-called, term-numbers}
-use Rattle.daemon.specs.Reading.{TermsRead, TreeRead}
+use Rattle.daemon.specs.code.Reading.{TermsRead, TreeRead}
 use Rattle.daemon.specs.Promises.{AssignCalled, assign-result-of, table-bytes-then, weight-then}
 use Rattle.daemon.proofs.CallAnswered.{room-fits}
 

@@ -20,7 +20,7 @@ use Rattle.journal.specs.Promises.{returned, rows-then, journal-then}
 use Rattle.journal.proofs.RowsFit.{RowsFit}
 use Rattle.daemon.specs.Bytes.{two-bytes, eight-bytes}
 use Rattle.daemon.specs.Calls.{room-of, resume-called}
-use Rattle.daemon.specs.Reading.{TermsRead}
+use Rattle.daemon.specs.code.Reading.{TermsRead}
 use Rattle.daemon.specs.Promises.{Called, result-of, answer-bytes, rows-bytes-then, answer-then}
 
 -- What the answer says of the meaning.

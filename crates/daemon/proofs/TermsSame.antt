@@ -19,7 +19,7 @@ use Rattle.tree.specs.declared.TreeChecked.the-variants.{Accepted, Refused as B
 use Rattle.topphatt.specs.Answer.{with-tree, with-terms as assign-terms, outcome}
 use Rattle.daemon.specs.Bytes.{word-at, words}
 use Rattle.daemon.specs.Calls.{term-numbers}
-use Rattle.daemon.specs.Reading.{TermsRead}
+use Rattle.daemon.specs.code.Reading.{TermsRead}
 
 not-eights : (modes : ℕ) (l : List ℕ) → length l ≡ 1 → checked modes l ≡ Refused TermNumbers
 unfolding checked

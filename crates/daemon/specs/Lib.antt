@@ -2,4 +2,4 @@
 pub mod Bytes
 pub mod Calls
 pub mod Promises
-pub mod Reading
+pub mod code

@@ -6,7 +6,7 @@ ghost use Rattle.lists.specs.Written.{«written-at»};
 ghost use Rattle.topphatt.specs.Answer.{outcome};
 ghost use Rattle.daemon.specs.Bytes.{«two-bytes», «eight-bytes»};
 ghost use Rattle.daemon.specs.Calls.{«assign-called»};
-ghost use Rattle.daemon.specs.Reading.{TreeRead};
+ghost use Rattle.daemon.specs.code.Reading.{TreeRead};
 ghost use Rattle.daemon.specs.Promises.{AssignCalled};
 use crate::answering;
 use crate::calling;

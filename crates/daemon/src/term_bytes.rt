@@ -1,7 +1,7 @@
 // The terms of a call from C: their bytes read into an array of the call's own.
 ghost use mathlib.Core.Path.{_≡_};
 ghost use lib.ListN.{length};
-ghost use Rattle.daemon.specs.Reading.{TermsRead};
+ghost use Rattle.daemon.specs.code.Reading.{TermsRead};
 use crate::words;
 
 // How many numbers the call goes on with; 2049 rows are refused by 3 whatever they hold, so more than that are not read.

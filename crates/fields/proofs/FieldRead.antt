@@ -17,7 +17,7 @@ use Rattle.lists.proofs.Every.{every-append, every-cons, every-uncons, every-fa
 use Rattle.fields.specs.declared.numbers.Field.{Field}
 use Rattle.fields.specs.declared.numbers.Field.the-variants.{Broken}
 use Rattle.fields.specs.Decimal.{is-digit, value-after, value, leads-well, is-number}
-use Rattle.fields.specs.Reading.{first-field, field-read, number-at, goes-on, ended-at}
+use Rattle.fields.specs.code.Reading.{first-field, field-read, number-at, goes-on, ended-at}
 use Rattle.fields.proofs.Numerals.{numeral, digit-bounds, value-more, value-beyond, leads-first}
 
 -- What comes of reading on, with so many digits of this value read.

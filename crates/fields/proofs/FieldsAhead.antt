@@ -8,7 +8,7 @@ use borrow.Author.Tests.{ltb-true, ltb-false}
 use lib.Dec.{eqb, ltb}
 use lib.ListN.{length, drop}
 use Rattle.fields.specs.Fields.{fields-after}
-use Rattle.fields.specs.Reading.{first-field}
+use Rattle.fields.specs.code.Reading.{first-field}
 
 pub first-short : (text : List ℕ) → length (first-field text) ≤ length text
 unfolding first-field

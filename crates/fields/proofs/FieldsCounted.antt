@@ -9,7 +9,7 @@ use lib.ListN.{length, getD, drop, drop-of-length-le}
 use Rattle.lists.proofs.Steps.{drop-step}
 use Rattle.fields.specs.Fields.{fields-after}
 use Rattle.fields.proofs.FieldsAhead.{fields-head}
-use Rattle.fields.specs.Reading.{tab-in}
+use Rattle.fields.specs.code.Reading.{tab-in}
 
 -- What a field began with is no matter.
 begun-no-matter : (a b text : List ℕ) → length (fields-after a text) ≡ length (fields-after b text)

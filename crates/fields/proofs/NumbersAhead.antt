@@ -16,7 +16,7 @@ use Rattle.lists.proofs.Writes.{written-next, all-of}
 use Rattle.fields.specs.declared.numbers.Field.the-variants.{Number, Broken}
 use Rattle.fields.specs.Decimal.{value, is-number}
 use Rattle.fields.specs.Fields.{fields-after}
-use Rattle.fields.specs.Reading.{first-field, field-read, number-at, numbers-good, NumbersRead}
+use Rattle.fields.specs.code.Reading.{first-field, field-read, number-at, numbers-good, NumbersRead}
 use Rattle.fields.proofs.FieldsAhead.{first-short, fields-one, fields-more, fields-head}
 
 -- What a field that was read is.

@@ -13,7 +13,7 @@ use Rattle.lists.proofs.Tests.{both}
 use Rattle.lists.proofs.Every.{every-uncons}
 use Rattle.lists.proofs.Alike.{alike-self, alike-same}
 use Rattle.fields.specs.Fields.{fields-after, fields, tabbed}
-use Rattle.fields.specs.Reading.{opens, fields-behind, says-numbers, NumbersRead, LineRead}
+use Rattle.fields.specs.code.Reading.{opens, fields-behind, says-numbers, NumbersRead, LineRead}
 use Rattle.fields.proofs.Tabbed.{no-tab, tabbed-fields, field-ended}
 
 -- Words with a tab behind each.

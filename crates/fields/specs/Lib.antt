@@ -2,4 +2,4 @@
 pub mod Decimal
 pub mod Lines
 pub mod Fields
-pub mod Reading
+pub mod code

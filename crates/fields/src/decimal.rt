@@ -5,7 +5,7 @@ ghost use Prim.Native.Nat.{_+_, _%_, _≤_};
 ghost use lib.ListN.{length};
 ghost use Rattle.lists.specs.Written.{«written-at»};
 ghost use Rattle.fields.specs.Decimal.{decimal};
-ghost use Rattle.fields.specs.Reading.{«goes-on»};
+ghost use Rattle.fields.specs.code.Reading.{«goes-on»};
 
 // Another digit may follow so many digits of this value: 0 stands alone, and above 6553 any digit makes too large a number.
 pub fn goes_on(count: usize, value: u32) -> bool

@@ -4,7 +4,7 @@ ghost use mathlib.Core.List.{[]};
 ghost use Prim.Native.Nat.{_≤_};
 ghost use lib.ListN.{length};
 ghost use Rattle.fields.specs.Fields.{«fields-after»};
-ghost use Rattle.fields.specs.Reading.{«tab-in», «ended-at», «number-at», NumbersRead, LineRead};
+ghost use Rattle.fields.specs.code.Reading.{«tab-in», «ended-at», «number-at», NumbersRead, LineRead};
 use crate::decimal;
 use crate::parts;
 

@@ -4,14 +4,15 @@ use mathlib.Core.List.{List}
 use Prim.Native.Nat.{ℕ}
 use Rattle.refusal.specs.declared.Refusal.{Refusal}
 use Rattle.merging.specs.declared.run.Run.{Run}
-use Rattle.merging.specs.State.{history-of}
+use Rattle.merging.specs.code.State.{history-of}
 use Rattle.journal.specs.declared.obeying.Verdict.{Verdict}
 use Rattle.journal.specs.declared.obeying.Verdict.the-variants.{Fine, Refused}
 use Rattle.journal.specs.declared.resuming.Answer.{Answer}
 use Rattle.journal.specs.declared.resuming.Answer.the-variants.{Refused as Refuses}
 use Rattle.journal.specs.Obeying.{Obeyed}
 use Rattle.journal.specs.Resuming.{Outcome, done, refuses, ending, with-journal}
-use Rattle.journal.specs.Promises.{came-to, Answers, returned, work-then, rows-then, journal-then}
+use Rattle.journal.specs.code.Obeys.{came-to}
+use Rattle.journal.specs.Promises.{Answers, returned, work-then, rows-then, journal-then}
 
 module _ (work rows journal : List ℕ) where
   pub nothing-altered : (refusal : Refusal) → Answers (refuses refusal) work rows journal work rows journal (Refuses refusal)

@@ -5,8 +5,8 @@ use Prim.Native.Nat.{ℕ, _<_, _≤_}
 use borrow.Author.Tests.{eq-eqb, ne-eqb, lt-ltb, le-ltb}
 use Rattle.refusal.specs.declared.Refusal.the-variants.{LineForm, Header as OtherHeader, LineAfterLast}
 use Rattle.merging.specs.declared.run.Run.{Run}
-use Rattle.merging.specs.Recorded.{recorded}
-use Rattle.merging.specs.State.{history-of, Holds}
+use Rattle.merging.specs.code.Recorded.{recorded}
+use Rattle.merging.specs.code.State.{history-of, Holds}
 use Rattle.merging.proofs.StateStepped.{merges-so-far}
 use Rattle.journal.specs.declared.header.Header.{Header}
 use Rattle.journal.specs.declared.header.Header.the-variants.{Is as HeaderIs, Broken as HeaderBroken}
@@ -15,7 +15,7 @@ use Rattle.journal.specs.declared.merge_line.MergeLine.{MergeLine}
 use Rattle.journal.specs.declared.obeying.Verdict.the-variants.{Fine, Refused}
 use Rattle.journal.specs.LineForms.{merge-of-line}
 use Rattle.journal.specs.Obeying.{refused, obeyed-merge, obeyed-form, obeyed-line, obeyed-header}
-use Rattle.journal.specs.Promises.{came-to}
+use Rattle.journal.specs.code.Obeys.{came-to}
 
 module _ (entities steps : ℕ) (terms : List (List ℕ)) (rows : List ℕ) (run : Run) (holds : Holds entities steps terms rows run)
     (line : ℕ) (bytes : List ℕ) where

@@ -13,7 +13,7 @@ use Rattle.lists.proofs.Tests.{both}
 use Rattle.lists.proofs.Alike.{alike-self}
 use Rattle.fields.specs.Decimal.{is-number, value, decimal}
 use Rattle.fields.specs.Fields.{fields, tabbed}
-use Rattle.fields.specs.Reading.{numbers-good}
+use Rattle.fields.specs.code.Reading.{numbers-good}
 use Rattle.fields.proofs.DecimalRead.{value-decimal, decimal-is-number}
 use Rattle.fields.proofs.Tabbed.{no-tab}
 use Rattle.fields.proofs.NumbersTabbed.{decimal-no-tab, fits, decimals-no-tab, decimals-are-numbers, values-of-decimals, fields-line, numbers-are, line-is}

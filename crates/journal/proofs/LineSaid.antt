@@ -13,7 +13,7 @@ use Rattle.lists.proofs.Tests.{both, not-so}
 use Rattle.lists.proofs.Alike.{alike-self, alike-same}
 use Rattle.fields.specs.Decimal.{is-number, value, decimal}
 use Rattle.fields.specs.Fields.{fields-after, fields}
-use Rattle.fields.specs.Reading.{numbers-good, opens, fields-behind, says-numbers}
+use Rattle.fields.specs.code.Reading.{numbers-good, opens, fields-behind, says-numbers}
 use Rattle.fields.proofs.Tabbed.{no-tab}
 use Rattle.fields.proofs.NumbersTabbed.{numbers-are, value-at}
 use Rattle.fields.proofs.Openings.{opening, opened-fields, opens-with}

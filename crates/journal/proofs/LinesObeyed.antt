@@ -5,12 +5,12 @@ use Prim.Native.Nat.{ℕ, suc, _+_}
 use native.Mathlib.Omega.{arith}
 use Rattle.refusal.specs.declared.Refusal.{Refusal}
 use Rattle.merging.specs.declared.run.Run.{Run}
-use Rattle.merging.specs.State.{history-of, Holds, Went}
+use Rattle.merging.specs.code.State.{history-of, Holds, Went}
 use Rattle.merging.proofs.StateStepped.{went-nowhere, went-on}
 use Rattle.journal.specs.declared.obeying.Obeying.{Obeying}
 use Rattle.journal.specs.declared.obeying.Verdict.the-variants.{Fine, Refused}
 use Rattle.journal.specs.Obeying.{Obeyed, went, refused, obeyed-line, obeyed-next, obeyed-lines}
-use Rattle.journal.specs.Promises.{came-to, Obeys}
+use Rattle.journal.specs.code.Obeys.{came-to, Obeys}
 
 -- Nothing is obeyed after a refusal.
 pub refused-stays : (modes : ℕ) (terms : List (List ℕ)) (line : ℕ) (why : Refusal) (ahead : List (List ℕ))

@@ -12,13 +12,13 @@ use Rattle.terms.specs.Weight.{weight-of}
 use Rattle.merging.specs.declared.run.Run.{Run}
 use Rattle.merging.specs.Lawful.{three-open, paired, is-lawful}
 use Rattle.merging.specs.Choice.{weight-in}
-use Rattle.merging.specs.State.{history-of, Holds, Ready, Went}
+use Rattle.merging.specs.code.State.{history-of, Holds, Ready, Went}
 use Rattle.merging.proofs.LawfulTest.{test-lawful}
 use Rattle.merging.proofs.StateStepped.{merges-so-far, went-nowhere}
 use Rattle.journal.specs.declared.merge_line.MergeLine.{MergeLine}
 use Rattle.journal.specs.declared.obeying.Verdict.the-variants.{Fine, Refused}
 use Rattle.journal.specs.Obeying.{Obeyed, went, refused, obeyed-merge}
-use Rattle.journal.specs.Promises.{came-to, Obeys}
+use Rattle.journal.specs.code.Obeys.{came-to, Obeys}
 
 module _ (entities steps : ℕ) (terms : List (List ℕ)) (rows : List ℕ) (run : Run) (holds : Holds entities steps terms rows run) where
   -- A refusal leaves the state as it is.

@@ -11,13 +11,13 @@ use Rattle.lists.proofs.Listed.{listed-more}
 use Rattle.entities.specs.declared.Triple.{Triple}
 use Rattle.merging.specs.declared.run.Run.{Run}
 use Rattle.merging.specs.Choice.{chosen}
-use Rattle.merging.specs.Recorded.{merge-at, recorded}
+use Rattle.merging.specs.code.Recorded.{merge-at, recorded}
 use Rattle.merging.specs.Run.{greedy, finished}
-use Rattle.merging.specs.State.{history-of, Holds}
+use Rattle.merging.specs.code.State.{history-of, Holds}
 use Rattle.merging.proofs.Recording.{length-recorded}
 use Rattle.journal.specs.LineForms.{header-text}
 use Rattle.journal.specs.Writing.{line-of, greedy-lines, new-text}
-use Rattle.journal.specs.NewLines.{noted-line, noted-text, first-text, all-noted}
+use Rattle.journal.specs.code.NewLines.{noted-line, noted-text, first-text, all-noted}
 use Rattle.journal.proofs.GreedyLines.{greedy-more, greedy-lines-more}
 
 pub no-header : (modes count kept : ℕ) → (kept ≡ 0 → ⊥) → first-text modes count kept ≡ []

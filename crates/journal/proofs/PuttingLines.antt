@@ -9,7 +9,7 @@ use Rattle.lists.specs.Written.{written-at}
 use Rattle.lists.proofs.Written.{length-written}
 use Rattle.lists.proofs.Behind.{Wrote, wrote-none, then-wrote}
 use Rattle.merging.specs.declared.run.Run.{Run}
-use Rattle.journal.specs.NewLines.{noted-line, noted-text}
+use Rattle.journal.specs.code.NewLines.{noted-line, noted-text}
 use Rattle.journal.proofs.NotedLines.{noted-none, noted-more}
 
 -- Some lines are no longer than those and more.

@@ -9,14 +9,14 @@ use Rattle.fields.specs.Lines.{kept-of}
 use Rattle.merging.specs.declared.run.Run.{Run}
 use Rattle.merging.specs.Run.{finished, run-weight, trials}
 use Rattle.merging.specs.Flatpack.{flatpack}
-use Rattle.merging.specs.State.{history-of, Holds, Went}
+use Rattle.merging.specs.code.State.{history-of, Holds, Went}
 use Rattle.merging.specs.Trials.{trial-total}
 use Rattle.merging.proofs.Recording.{length-recorded}
 use Rattle.merging.proofs.StateStepped.{merges-so-far}
 use Rattle.merging.proofs.RunLawful.{finished-length}
 use Rattle.merging.proofs.TrialTotals.{trials-total}
 use Rattle.journal.specs.declared.resuming.Answer.the-variants.{Done}
-use Rattle.journal.specs.NewLines.{all-noted}
+use Rattle.journal.specs.code.NewLines.{all-noted}
 use Rattle.journal.specs.Writing.{new-text}
 use Rattle.journal.specs.Resuming.{done, ending}
 use Rattle.journal.specs.Promises.{Answers, returned, work-then, rows-then, journal-then}

@@ -2,8 +2,8 @@
 pub mod LineForms
 pub mod Obeying
 pub mod Writing
-pub mod NewLines
 pub mod Resuming
 pub mod Promises
 pub mod CutAndResumed
 pub mod Obedience
+pub mod code

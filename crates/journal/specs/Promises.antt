@@ -1,32 +1,13 @@
--- What the journal's calls promise, and the code that obeys a journal.
+-- What `hatt` and `resume` promise: the numbers they return, and every element of what is lent after the call.
 use mathlib.Core.Path.{_≡_}
 use mathlib.Core.List.{List, [], _∷_}
-use Prim.Native.Nat.{ℕ, _*_, _≤_}
+use Prim.Native.Nat.{ℕ, _*_}
 use lib.ListN.{length, replicate}
 use Rattle.lists.specs.Written.{written-at}
 use Rattle.refusal.specs.Numbers.{numberOf, placeOf}
-use Rattle.merging.specs.declared.run.Run.{Run}
-use Rattle.merging.specs.State.{history-of, Holds, Cleared}
-use Rattle.journal.specs.declared.obeying.Verdict.{Verdict}
-use Rattle.journal.specs.declared.obeying.Verdict.the-variants.{Fine, Refused}
-use Rattle.journal.specs.declared.obeying.Obeying.{Obeying}
 use Rattle.journal.specs.declared.resuming.Answer.{Answer}
 use Rattle.journal.specs.declared.resuming.Answer.the-variants.{Done, Refused as Refuses}
-use Rattle.journal.specs.Obeying.{Obeyed, went, refused}
 use Rattle.journal.specs.Resuming.{Outcome, done, refuses}
-
--- A verdict, with the merges that the state has written down, as the meaning says it.
-unfoldable pub came-to : Verdict → Run → Obeyed
-came-to Fine run = went (history-of run)
-came-to (Refused refusal) run = refused refusal
-
--- The answer of the meaning, and a state over the same terms as of the merges that were made, a refusal or none.
-pub record Obeys (entities steps : ℕ) (terms : List (List ℕ)) (answer : Obeyed) (modes live : ℕ) (rows now-rows : List ℕ) (found : Obeying) : Type 0 where
-  pub comes-to : came-to (found .verdict) (found .run) ≡ answer
-  pub holds : Holds entities steps terms now-rows (found .run)
-  pub same-modes : found .run .modes ≡ modes
-  pub fewer : found .run .live ≤ live
-  pub cleared : Cleared live rows (found .run .live) now-rows
 
 -- "Each returns its number and a place, zeros elsewhere": refusal, place, weight, trials, kept and new bytes.
 abbrev pub numbers-of : Answer → List ℕ

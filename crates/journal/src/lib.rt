@@ -1,7 +1,7 @@
 // The journal: its lines read, obeyed and written; a run resumed from it.
-pub mod header;
-pub mod merge_line;
-pub mod new_lines;
-pub mod obeying;
+mod header;
+mod merge_line;
+mod new_lines;
+mod obeying;
 pub mod resuming;
-pub mod writing;
+mod writing;

@@ -7,7 +7,7 @@ ghost use Rattle.fields.specs.Lines.{«kept-of»};
 ghost use Rattle.terms.specs.Rows.{Held, «terms-of»};
 ghost use Rattle.terms.specs.Good.{checked};
 ghost use Rattle.terms.specs.declared.given.Checked.the-variants.{Good};
-ghost use Rattle.merging.specs.State.{«history-of», Holds};
+ghost use Rattle.merging.specs.code.State.{«history-of», Holds};
 ghost use Rattle.journal.specs.Obeying.{obeyed};
 ghost use Rattle.journal.specs.Resuming.{done, ending, «with-journal», «with-terms», resumed, «hatt-run»};
 ghost use Rattle.journal.specs.Promises.{Answers};

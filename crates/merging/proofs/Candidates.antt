@@ -15,7 +15,7 @@ use Rattle.merging.specs.declared.lawful.Couple.the-variants.{Of, Nothin
 use Rattle.merging.specs.History.{next-parent}
 use Rattle.merging.specs.Lawful.{named, is-lawful, entities, pairs-with, lawful-pairs}
 use Rattle.merging.specs.Choice.{candidates}
-use Rattle.merging.specs.Couples.{x-of, y-of, coupled, couple, free, beside, beside-couple}
+use Rattle.merging.specs.code.Couples.{x-of, y-of, coupled, couple, free, beside, beside-couple}
 use Rattle.merging.proofs.Couples.{named-parts, lawful-parts}
 
 module _ (modes : ℕ) (history : List Triple) where

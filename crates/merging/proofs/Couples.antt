@@ -10,7 +10,7 @@ use Rattle.lists.proofs.Tests.{not-so}
 use Rattle.entities.specs.declared.Triple.{Triple}
 use Rattle.merging.specs.History.{next-parent, is-open, z-end, holder}
 use Rattle.merging.specs.Lawful.{Pair, named, is-lawful, three-open, paired}
-use Rattle.merging.specs.Couples.{x-of, y-of, coupled, ends-pair, free}
+use Rattle.merging.specs.code.Couples.{x-of, y-of, coupled, ends-pair, free}
 use Rattle.merging.proofs.Holders.{open-below}
 
 -- No number beyond the entities is open.

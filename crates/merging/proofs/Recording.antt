@@ -10,7 +10,7 @@ use lib.Seq.{getD-set-same, getD-set-other}
 use Rattle.lists.proofs.Tests.{same-or-not}
 use Rattle.entities.specs.declared.Triple.{Triple}
 use Rattle.merging.specs.Flatpack.{merge-of}
-use Rattle.merging.specs.Recorded.{merge-at, recorded}
+use Rattle.merging.specs.code.Recorded.{merge-at, recorded}
 use Rattle.merging.proofs.Amounts.{newest-merge, older-merge}
 
 pub length-recorded : (xs ys zs : List ℕ) (step : ℕ) → length (recorded xs ys zs step) ≡ step

@@ -6,7 +6,7 @@ use Rattle.lists.specs.Least.{least}
 use Rattle.lists.proofs.Least.{least-map-joined, least-found}
 use Rattle.entities.specs.declared.Triple.{Triple}
 use Rattle.merging.specs.declared.choice.Best.{Best}
-use Rattle.merging.specs.Couples.{weighed, seek}
+use Rattle.merging.specs.code.Couples.{weighed, seek}
 
 module _ (measure : Triple → ℕ) where
   pub seek-joined : (best : Best) (l m : List Triple) → seek measure best (l ++ m) ≡ seek measure (seek measure best l) m

@@ -7,9 +7,9 @@ use Rattle.lists.specs.Ranges.{listed}
 use Rattle.terms.specs.Rows.{Held, terms-of}
 use Rattle.merging.specs.declared.run.Run.{Run}
 use Rattle.merging.specs.History.{is-open, rows-after}
-use Rattle.merging.specs.Recorded.{recorded}
+use Rattle.merging.specs.code.Recorded.{recorded}
 use Rattle.merging.specs.Run.{run-weight}
-use Rattle.merging.specs.State.{Whole, Holds}
+use Rattle.merging.specs.code.State.{Whole, Holds}
 use Rattle.merging.proofs.Tables.{tied-start}
 
 pub fresh-holds : (entities steps : ℕ) (run : Run) (rows : List ℕ) → 2 * run .modes + 1 ≤ entities → Whole entities steps run

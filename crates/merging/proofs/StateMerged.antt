@@ -9,16 +9,16 @@ use lib.ListN.{getD, set, length-set}
 use lib.Seq.{getD-set-same, getD-set-other}
 use Rattle.entities.specs.declared.Triple.{Triple}
 use Rattle.terms.specs.Rows.{terms-of}
-use Rattle.terms.specs.Promises.{Reduced}
+use Rattle.terms.specs.code.Promises.{Reduced}
 use Rattle.terms.proofs.RowSteps.{length-terms}
 use Rattle.terms.proofs.WeightBound.{weight-at-most}
 use Rattle.merging.specs.declared.run.Run.{Run}
 use Rattle.merging.specs.History.{next-parent, rows-after}
 use Rattle.merging.specs.Choice.{weight-in}
-use Rattle.merging.specs.Couples.{Tied}
-use Rattle.merging.specs.Recorded.{merge-at, recorded}
+use Rattle.merging.specs.code.Couples.{Tied}
+use Rattle.merging.specs.code.Recorded.{merge-at, recorded}
 use Rattle.merging.specs.Run.{run-weight}
-use Rattle.merging.specs.State.{history-of, Whole, Holds, EntitiesMerged, Noted, Ready, Went}
+use Rattle.merging.specs.code.State.{history-of, Whole, Holds, EntitiesMerged, Noted, Ready, Went}
 use Rattle.merging.proofs.Holders.{open-below, end-within}
 use Rattle.merging.proofs.Recording.{length-recorded, merge-before, merge-here, recorded-before, recorded-next}
 use Rattle.merging.proofs.Tables.{tied-merged}

@@ -16,9 +16,9 @@ use Rattle.merging.specs.declared.run.Run.{Run}
 use Rattle.merging.specs.History.{next-parent}
 use Rattle.merging.specs.Lawful.{named, lawful-pairs}
 use Rattle.merging.specs.Choice.{weight-in, candidates, chosen}
-use Rattle.merging.specs.Couples.{weight-here, nothing, weighed, seek}
+use Rattle.merging.specs.code.Couples.{weight-here, nothing, weighed, seek}
 use Rattle.merging.specs.Run.{greedy, finished}
-use Rattle.merging.specs.State.{history-of, Holds, Ready, Went}
+use Rattle.merging.specs.code.State.{history-of, Holds, Ready, Went}
 use Rattle.merging.proofs.StateMerged.{parent-is}
 use Rattle.merging.proofs.Holders.{end-within}
 use Rattle.merging.proofs.PairCount.{some-pair}

@@ -1,10 +1,8 @@
 -- What document 01 says of merges: open entities, lawful triples, the choice of a step, the run, its rows and its trials.
 pub mod History
 pub mod Lawful
-pub mod Couples
 pub mod Choice
 pub mod Run
 pub mod Flatpack
 pub mod Trials
-pub mod Recorded
-pub mod State
+pub mod code

@@ -9,7 +9,7 @@ ghost use Rattle.terms.specs.Rows.{Held};
 ghost use Rattle.terms.specs.Weight.{OddOf};
 ghost use Rattle.merging.specs.History.{«next-parent»};
 ghost use Rattle.merging.specs.Choice.{candidates};
-ghost use Rattle.merging.specs.Couples.{
+ghost use Rattle.merging.specs.code.Couples.{
   OpensAre,
   Tied,
   free,

@@ -7,7 +7,7 @@ ghost use lib.ListN.{getD};
 ghost use Rattle.entities.specs.declared.Triple.{Triple as Three};
 ghost use Rattle.merging.specs.History.{«next-parent», «is-open», «z-end»};
 ghost use Rattle.merging.specs.Lawful.{«three-open», paired as «paired-in»};
-ghost use Rattle.merging.specs.Couples.{
+ghost use Rattle.merging.specs.code.Couples.{
   «x-of»,
   «y-of»,
   «ends-pair»,

@@ -1,5 +1,5 @@
 // Merging: lawful triples, the choice of a step, the merge, the run to the end, the flatpack and the trial totals.
-pub mod choice;
+mod choice;
 pub mod flatpack;
 pub mod lawful;
 pub mod run;

@@ -8,7 +8,7 @@ ghost use Rattle.terms.specs.Rows.{Held, «terms-of»};
 ghost use Rattle.merging.specs.History.{«is-open»};
 ghost use Rattle.merging.specs.Choice.{chosen};
 ghost use Rattle.merging.specs.Run.{finished as «finished-from»};
-ghost use Rattle.merging.specs.State.{«history-of», Holds, EntitiesMerged, Noted, Ready, Went};
+ghost use Rattle.merging.specs.code.State.{«history-of», Holds, EntitiesMerged, Noted, Ready, Went};
 use crate::choice;
 use crate::choice::Best;
 use entities::Triple;

@@ -10,12 +10,12 @@ use lib.Dec.{leb}
 use lib.ListN.{length, List·getD-eq-default}
 use Rattle.lists.proofs.Tests.{both}
 use Rattle.fields.specs.Decimal.{is-digit, is-number, value-after, value}
-use Rattle.fields.specs.Reading.{goes-on}
+use Rattle.fields.specs.code.Reading.{goes-on}
 use Rattle.fields.proofs.Numerals.{value-more, digit-bounds, digit-within}
 use Rattle.fields.proofs.FieldRead.{Begun, nothing-begun, length-more, begun-more, no-digit, stops}
 use Rattle.newick.specs.declared.digits.Number.{Number}
 use Rattle.newick.specs.Reading.{byte-at, digits-on, number-digits}
-use Rattle.newick.specs.Promises.{may-follow, NumberRead}
+use Rattle.newick.specs.code.Promises.{may-follow, NumberRead}
 
 -- With one byte more, digits that a number may begin with are a number where the byte may follow them.
 module _ (begun : List ℕ) (b : Begun begun) (byte : ℕ) where

@@ -17,7 +17,7 @@ use Rattle.newick.specs.declared.reading.Part.{Part}
 use Rattle.newick.specs.declared.reading.Part.the-variants.{Child, Stuck, Crowded}
 use Rattle.newick.specs.declared.digits.Number.{Number}
 use Rattle.newick.specs.Reading.{Reading, got, stuck, crowded, absent-name, leaf-name, follows, byte-at, expected, marked, number-digits, numbered, child-by, named, inside, node-read, child-read}
-use Rattle.newick.specs.Promises.{NumberRead, meant, end-of, closed-of, Reads}
+use Rattle.newick.specs.code.Promises.{NumberRead, meant, end-of, closed-of, Reads}
 use Rattle.newick.proofs.reading.Part.{the-type}
 
 -- The part with the byte behind it says what a byte behind the part says, and ends within the text.

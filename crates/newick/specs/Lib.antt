@@ -7,4 +7,4 @@ pub mod Calls
 pub mod RoundTrip
 pub mod Stops
 pub mod Crowded
-pub mod Promises
+pub mod code

@@ -5,7 +5,7 @@ ghost use Prim.Native.Nat.{_≤_, _<_};
 ghost use lib.Dec.{eqb};
 ghost use lib.ListN.{length};
 ghost use Rattle.newick.specs.Reading.{«byte-at»};
-ghost use Rattle.newick.specs.Promises.{«may-follow», NumberRead};
+ghost use Rattle.newick.specs.code.Promises.{«may-follow», NumberRead};
 use fields::decimal;
 
 // A number, and the place behind its digits; where there are none, the place at which they were to begin.

@@ -6,7 +6,7 @@ ghost use Prim.Native.Nat.{_≤_};
 ghost use lib.ListN.{length, replicate};
 ghost use Rattle.entities.specs.Codes.{absent};
 ghost use Rattle.newick.specs.Laying.{«in-range», «code-of», «row-over», «laid-over»};
-ghost use Rattle.newick.specs.Promises.{Coded};
+ghost use Rattle.newick.specs.code.Promises.{Coded};
 use entities::codes;
 
 // A name read before the number of modes was known, as a number to count with.

@@ -7,7 +7,7 @@ ghost use Rattle.lists.specs.Written.{«written-at»};
 ghost use Rattle.tree.specs.declared.TreeChecked.«the-variants».{Accepted};
 ghost use Rattle.newick.specs.Reading.{got, numbered, «leaf-name», named, «child-read», «node-read», «text-read», marked as «marked-by»};
 ghost use Rattle.newick.specs.Calls.{«newick-read», «newick-table», «table-after», «read-as», «table-in», «taken-as»};
-ghost use Rattle.newick.specs.Promises.{meant, «end-of», «closed-of», Reads};
+ghost use Rattle.newick.specs.code.Promises.{meant, «end-of», «closed-of», Reads};
 use crate::digits;
 use crate::laying;
 use refusal::Refusal;

@@ -12,7 +12,7 @@ use Rattle.lists.proofs.Alike.{alike-same}
 use Rattle.lists.proofs.Every.{every-cons, every-append, every-also, none-beside}
 use Rattle.lists.proofs.Steps.{drop-step}
 use Rattle.lists.proofs.Tests.{not-so, same-or-not}
-use Rattle.terms.specs.Marks.{next-mark, mark-after, mark-of, has-mark, Marked}
+use Rattle.terms.specs.code.Marks.{next-mark, mark-after, mark-of, has-mark, Marked}
 
 -- Along a term: the mark so far and the numbers ahead give the mark.
 pub mark-start : (size : ℕ) (term : List ℕ) → mark-of size term ≡ mark-after size 0 (drop 0 term)

@@ -14,7 +14,7 @@ use Rattle.lists.proofs.Written.{length-written, take-written, from-written, ge
 use Rattle.entities.specs.declared.Triple.{Triple}
 use Rattle.terms.specs.Rows.{Held, rows-of, term, terms-of}
 use Rattle.terms.specs.Reduction.{rewriting, dropped, stays, addition, reduction}
-use Rattle.terms.specs.Promises.{RowReduced, Reduced}
+use Rattle.terms.specs.code.Promises.{RowReduced, Reduced}
 use Rattle.terms.proofs.RowSteps.{terms-start, terms-step, terms-end}
 use Rattle.terms.proofs.RowReduced.{terms-front}
 

@@ -12,7 +12,7 @@ use Rattle.lists.proofs.Written.{length-written, take-written, part-written, dr
 use Rattle.entities.specs.declared.Triple.{Triple}
 use Rattle.terms.specs.Rows.{Held, rows-of, term, terms-of}
 use Rattle.terms.specs.Reduction.{rewriting, stays, addition}
-use Rattle.terms.specs.Promises.{Rewritten, RowReduced}
+use Rattle.terms.specs.code.Promises.{Rewritten, RowReduced}
 use Rattle.terms.proofs.RowSteps.{rows-front, rows-more}
 
 pub terms-front : (w count : ℕ) (s t : List ℕ) → take (w * count) s ≡ take (w * count) t → terms-of w count s ≡ terms-of w count t

@@ -9,7 +9,7 @@ use lib.Seq.{drop-at, take-at, getD-take, length-take-le}
 use Rattle.entities.specs.declared.Triple.{Triple}
 use Rattle.terms.specs.Rows.{term}
 use Rattle.terms.specs.Reduction.{rewriting}
-use Rattle.terms.specs.Promises.{Rewritten}
+use Rattle.terms.specs.code.Promises.{Rewritten}
 use Rattle.terms.proofs.Sorting.{length-rewriting}
 
 module _ (row : List ℕ) (within : getD row 0 0 < length row) where

@@ -3,5 +3,4 @@ pub mod Rows
 pub mod Good
 pub mod Weight
 pub mod Reduction
-pub mod Marks
-pub mod Promises
+pub mod code

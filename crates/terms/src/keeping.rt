@@ -6,7 +6,7 @@ ghost use lib.ListN.{length, getD, set};
 ghost use Rattle.lists.specs.Members.{«some-of», alike};
 ghost use Rattle.lists.specs.Written.{«written-at»};
 ghost use Rattle.terms.specs.Rows.{Held, term as «term-in», «terms-of»};
-ghost use Rattle.terms.specs.Marks.{«mark-of», Marked};
+ghost use Rattle.terms.specs.code.Marks.{«mark-of», Marked};
 use crate::copying;
 use crate::row;
 

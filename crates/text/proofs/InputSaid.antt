@@ -22,7 +22,7 @@ use Rattle.text.specs.declared.input.Said.the-variants.{Given, Malformed
 use Rattle.text.specs.declared.input.Terms.{Terms}
 use Rattle.text.specs.Input.{modes-line, well-formed, formed-from, formed, whole, said, given, malformed}
 use Rattle.text.specs.Running.{stopped, ended, ran-by, ran}
-use Rattle.text.specs.Reading.{modes-said, all-terms, TermsRead, meant-by, terms-given, Reads}
+use Rattle.text.specs.code.Reading.{modes-said, all-terms, TermsRead, meant-by, terms-given, Reads}
 
 eqb-behind : (n a b : ℕ) → eqb (n + a) (n + b) ≡ eqb a b
 eqb-behind n a b =

@@ -24,7 +24,8 @@ use Rattle.newick.specs.Laying.{laid, laid-over}
 use Rattle.newick.specs.Calls.{written-as, newick-written, text-after, modes-in}
 use Rattle.text.specs.declared.running.Ran.{Ran}
 use Rattle.text.specs.declared.running.Ran.the-variants.{Done, Refused}
-use Rattle.text.specs.Running.{Ended, came, ended-as, Runs}
+use Rattle.text.specs.code.Runs.{ended-as, Runs}
+use Rattle.text.specs.Running.{Ended, came}
 use Rattle.text.specs.Output.{refusal-text}
 use Rattle.text.specs.NewickLine.{line-as, table-line, newick-printed, newick-answer-text}
 use Rattle.text.proofs.LongInput.{cut-runs}

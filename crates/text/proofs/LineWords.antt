@@ -12,13 +12,13 @@ use Rattle.lists.proofs.Tests.{both, not-so}
 use Rattle.lists.proofs.Alike.{alike-self}
 use Rattle.fields.specs.Decimal.{value}
 use Rattle.fields.specs.Fields.{fields-after, fields}
-use Rattle.fields.specs.Reading.{numbers-good, opens, fields-behind, says-numbers}
+use Rattle.fields.specs.code.Reading.{numbers-good, opens, fields-behind, says-numbers}
 use Rattle.fields.proofs.Tabbed.{no-tab}
 use Rattle.fields.proofs.NumbersTabbed.{value-at}
 use Rattle.fields.proofs.Openings.{opening, opened-fields, opens-with, two-fields}
 use Rattle.text.specs.declared.input.Modes.the-variants.{Are, Broken}
 use Rattle.text.specs.Input.{modes-word, term-word, modes-line, term-line, term-row}
-use Rattle.text.specs.Reading.{modes-said, term-opening, IndicesRead, TermRead}
+use Rattle.text.specs.code.Reading.{modes-said, term-opening, IndicesRead, TermRead}
 
 -- `modes` and a tab.
 abbrev pub modes-opening : List ℕ

@@ -13,7 +13,8 @@ use Rattle.journal.specs.Promises.{returned, rows-then}
 use Rattle.journal.proofs.RowsFit.{rows-fit}
 use Rattle.text.specs.declared.running.Ran.{Ran}
 use Rattle.text.specs.declared.running.Ran.the-variants.{Done, Refused}
-use Rattle.text.specs.Running.{Ended, stopped, ended, ended-as, modes-ran, Runs}
+use Rattle.text.specs.code.Runs.{ended-as, modes-ran, Runs}
+use Rattle.text.specs.Running.{Ended, stopped, ended}
 use Rattle.text.specs.Output.{refusal-text, done-text, printed}
 
 -- A refusal says that the run stopped.

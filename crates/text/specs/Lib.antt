@@ -3,4 +3,4 @@ pub mod Input
 pub mod Running
 pub mod Output
 pub mod NewickLine
-pub mod Reading
+pub mod code

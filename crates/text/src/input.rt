@@ -4,7 +4,7 @@ ghost use mathlib.Core.List.{_∷_};
 ghost use Prim.Native.Nat.{_+_, _*_, _≤_, _<_};
 ghost use lib.ListN.{length, replicate};
 ghost use Rattle.text.specs.Input.{said};
-ghost use Rattle.text.specs.Reading.{«modes-said», IndicesRead, TermRead, TermPut, TermsRead, Reads};
+ghost use Rattle.text.specs.code.Reading.{«modes-said», IndicesRead, TermRead, TermPut, TermsRead, Reads};
 use fields::lines;
 use fields::numbers;
 use terms::copying;

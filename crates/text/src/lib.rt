@@ -4,10 +4,10 @@ ghost use Prim.Native.Nat.{_≤_};
 ghost use lib.ListN.{length, take};
 ghost use Rattle.text.specs.Output.{«answer-text»};
 
-pub mod input;
+mod input;
 pub mod newick_line;
-pub mod output;
-pub mod running;
+mod output;
+mod running;
 
 use running::Ran;
 

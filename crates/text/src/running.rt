@@ -2,7 +2,8 @@
 ghost use mathlib.Core.Path.{_≡_};
 ghost use lib.ListN.{length};
 ghost use Rattle.journal.specs.Resuming.{«hatt-run»};
-ghost use Rattle.text.specs.Running.{ended, ran, Runs};
+ghost use Rattle.text.specs.code.Runs.{Runs};
+ghost use Rattle.text.specs.Running.{ended, ran};
 use crate::input;
 use crate::input::Said;
 use journal::resuming;

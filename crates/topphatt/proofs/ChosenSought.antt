@@ -14,7 +14,7 @@ use Rattle.topphatt.specs.declared.choice.Selection.{Selection}
 use Rattle.topphatt.specs.Nodes.{active}
 use Rattle.topphatt.specs.Choices.{choices-at}
 use Rattle.topphatt.specs.Choice.{Choice, candidates, rank, chosen}
-use Rattle.topphatt.specs.Seeking.{weighed, standing, worst, sought-over, choice-of}
+use Rattle.topphatt.specs.code.Seeking.{weighed, standing, worst, sought-over, choice-of}
 
 module _ (rows : List (List ℕ)) where
   of : Choice → Selection

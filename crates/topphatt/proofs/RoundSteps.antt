@@ -14,7 +14,7 @@ use Rattle.topphatt.specs.declared.rounds.Progress.{Progress}
 use Rattle.topphatt.specs.Choices.{unassigned}
 use Rattle.topphatt.specs.Choice.{Choice, chosen}
 use Rattle.topphatt.specs.Rounds.{Rounds, before, fixed-by, after, next, rounds, ended}
-use Rattle.topphatt.specs.Seeking.{state-of}
+use Rattle.topphatt.specs.code.Seeking.{state-of}
 
 module _ (modes : ℕ) (table : List ℕ) (heuristic : ℕ) where
   pub stepped : (rows assigned : List ℕ) (progress : Progress) (now-rows now-assigned : List ℕ) (r : Progress) (choice : Choice)

@@ -9,7 +9,7 @@ use lib.ListN.{length, getD}
 use Rattle.lists.proofs.Parts.{read-within}
 use Rattle.entities.specs.declared.Triple.{Triple}
 use Rattle.topphatt.specs.Slots.{slot-of, leaf-slot, slots, unfixed, pair-of, parity-of}
-use Rattle.topphatt.specs.Seeking.{SlotsAre}
+use Rattle.topphatt.specs.code.Seeking.{SlotsAre}
 use Rattle.topphatt.proofs.SlotCases.{slot-leaf}
 
 -- As the code reads it, with any number where nothing stands.

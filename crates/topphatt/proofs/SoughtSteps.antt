@@ -17,7 +17,7 @@ use Rattle.topphatt.specs.declared.choice.Selection.{Selection}
 use Rattle.topphatt.specs.Slots.{leaf-of}
 use Rattle.topphatt.specs.Choices.{with-z, without, choices-at}
 use Rattle.topphatt.specs.Choice.{packed}
-use Rattle.topphatt.specs.Seeking.{standing, weighed, sought, sought-over}
+use Rattle.topphatt.specs.code.Seeking.{standing, weighed, sought, sought-over}
 
 module _ (best other : Selection) where
   pub by-weight : other .«min_weight» < best .«min_weight» → lighter standing best other ≡ other

@@ -7,4 +7,4 @@ pub mod Rounds
 pub mod Answer
 pub mod Promises
 pub mod Assignment
-pub mod Seeking
+pub mod code

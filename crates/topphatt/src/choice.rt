@@ -12,7 +12,7 @@ ghost use Rattle.terms.specs.Weight.{OddOf, «weight-of»};
 ghost use Rattle.topphatt.specs.Slots.{«leaf-of»};
 ghost use Rattle.topphatt.specs.Choices.{unassigned, without, numbers, «with-z», choices};
 ghost use Rattle.topphatt.specs.Choice.{packed as «packed-number»};
-ghost use Rattle.topphatt.specs.Seeking.{standing, worst, sought, «sought-over»};
+ghost use Rattle.topphatt.specs.code.Seeking.{standing, worst, sought, «sought-over»};
 use crate::nodes;
 use crate::slots;
 use entities::Triple;

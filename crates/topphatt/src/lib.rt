@@ -10,7 +10,7 @@ ghost use Rattle.topphatt.specs.Slots.{«slot-of»};
 ghost use Rattle.topphatt.specs.Rounds.{ended};
 ghost use Rattle.topphatt.specs.Answer.{«answer-table», outcome, «with-terms», «with-room»};
 ghost use Rattle.topphatt.specs.Promises.{Assigns};
-ghost use Rattle.topphatt.specs.Seeking.{Distances, Tabled};
+ghost use Rattle.topphatt.specs.code.Seeking.{Distances, Tabled};
 use entities::codes;
 use refusal::Refusal;
 use terms::copying;
@@ -18,10 +18,10 @@ use terms::given;
 use terms::given::Checked;
 use tree::TreeChecked;
 
-pub mod choice;
-pub mod nodes;
-pub mod rounds;
-pub mod slots;
+mod choice;
+mod nodes;
+mod rounds;
+mod slots;
 
 // What an assignment says: the sum of chosen weights, or why it is refused.
 pub enum Assigned {

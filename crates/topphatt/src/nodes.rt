@@ -17,7 +17,7 @@ ghost use Rattle.topphatt.specs.Nodes.{
   narrowed,
   active as «active-nodes»,
 };
-ghost use Rattle.topphatt.specs.Seeking.{Distances};
+ghost use Rattle.topphatt.specs.code.Seeking.{Distances};
 use crate::slots;
 use entities::Triple;
 use tree::table;

@@ -7,7 +7,7 @@ ghost use Rattle.terms.specs.Rows.{Held, «terms-of»};
 ghost use Rattle.terms.specs.Weight.{«weight-of»};
 ghost use Rattle.topphatt.specs.Choices.{unassigned};
 ghost use Rattle.topphatt.specs.Rounds.{fixed, ended};
-ghost use Rattle.topphatt.specs.Seeking.{Distances, Chose, «choice-of», Fixed, Going, RoundMade, Ended};
+ghost use Rattle.topphatt.specs.code.Seeking.{Distances, Chose, «choice-of», Fixed, Going, RoundMade, Ended};
 use crate::choice;
 use crate::choice::Selection;
 use crate::nodes;

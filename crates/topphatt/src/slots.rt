@@ -2,7 +2,7 @@
 ghost use mathlib.Core.Path.{_≡_};
 ghost use Prim.Native.Nat.{_+_, _*_, _≤_, _<_};
 ghost use lib.ListN.{length};
-ghost use Rattle.topphatt.specs.Seeking.{SlotsAre};
+ghost use Rattle.topphatt.specs.code.Seeking.{SlotsAre};
 ghost use Rattle.topphatt.specs.Slots.{
   «leaf-slot»,
   «slot-of»,

@@ -16,7 +16,7 @@ use Rattle.terms.specs.Good.{good-term}
 use Rattle.terms.proofs.RowSteps.{terms-step, terms-end, length-terms, rows-at}
 use Rattle.terms.proofs.StaysGood.{good-term-says}
 use Rattle.tree.specs.Weight.{edge-under, edges, node-weight, row-weight, tree-weight}
-use Rattle.tree.specs.Promises.{GoodRows}
+use Rattle.tree.specs.code.Promises.{GoodRows}
 use Rattle.tree.proofs.TableSteps.{nodes-start}
 
 -- Along a term's indices: the edges counted and those ahead are all.

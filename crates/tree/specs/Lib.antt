@@ -5,4 +5,4 @@ pub mod Pairs
 pub mod Check
 pub mod Accepted
 pub mod Weight
-pub mod Promises
+pub mod code

@@ -3,8 +3,8 @@ ghost use mathlib.Core.Path.{_≡_};
 ghost use Rattle.tree.specs.Check.{«tree-checked»};
 use refusal::Refusal;
 
-pub mod one_tree;
-pub mod pairs;
+mod one_tree;
+mod pairs;
 pub mod table;
 pub mod weight;
 

@@ -7,7 +7,7 @@ ghost use lib.ListN.{length};
 ghost use Rattle.lists.specs.Members.{every};
 ghost use Rattle.terms.specs.Rows.{«terms-of»};
 ghost use Rattle.tree.specs.Check.{«tree-checked»};
-ghost use Rattle.tree.specs.Promises.{Places, GoodRows};
+ghost use Rattle.tree.specs.code.Promises.{Places, GoodRows};
 ghost use Rattle.tree.specs.Weight.{«edge-under», «node-weight», «row-weight», «tree-weight», «tree-weighed»};
 use crate::TreeChecked;
 use crate::TreeWeighed;

@@ -1,6 +1,6 @@
 -- Each return is one arm of the definition.
 use borrow.Author.Tests.{le-leb, lt-leb, lt-ltb, le-ltb}
-use Rattle.fields.specs.Reading.{goes-on}
+use Rattle.fields.specs.code.Reading.{goes-on}
 use Rattle.fields.proofs.decimal.goes_on.Statement.{statement}
 use Rattle.fields.proofs.decimal.goes_on.Tie as tie
 

@@ -2,7 +2,7 @@
 use native.Mathlib.Omega.{arith}
 use borrow.Author.Tests.{le-leb, lt-leb}
 use borrow.Author.Needs.{needs}
-use Rattle.fields.specs.Reading.{ended-at}
+use Rattle.fields.specs.code.Reading.{ended-at}
 use Rattle.fields.proofs.numbers.ended.Statement.{statement}
 use Rattle.fields.proofs.numbers.ended.Tie as tie
 

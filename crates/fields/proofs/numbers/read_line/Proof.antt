@@ -4,7 +4,7 @@ use native.Mathlib.Omega.{arith}
 use borrow.Author.Needs.{needs}
 use borrow.Author.Tests.{not-true, not-false}
 use lib.Seq.{length-take-le}
-use Rattle.fields.specs.Reading.{fields-behind}
+use Rattle.fields.specs.code.Reading.{fields-behind}
 use Rattle.fields.proofs.Openings.{read-short, read-unlike, read-behind}
 use Rattle.fields.proofs.numbers.read_line.Statement.{statement}
 use Rattle.fields.proofs.numbers.read_line.Tie as tie

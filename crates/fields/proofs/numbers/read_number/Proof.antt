@@ -6,7 +6,7 @@ use native.Mathlib.Omega.{arith}
 use borrow.Author.Needs.{needs}
 use borrow.Author.Tests.{not-true, not-false}
 use lib.ListN.{length, getD, drop}
-use Rattle.fields.specs.Reading.{number-at}
+use Rattle.fields.specs.code.Reading.{number-at}
 use Rattle.fields.proofs.Numerals.{digit-within, digit-below, digit-above}
 use Rattle.fields.proofs.FieldRead.{read-after, read-starts, read-ends, read-tab, read-other, read-stops, read-passes, goes-room}
 use Rattle.fields.proofs.numbers.read_number.Statement.{statement}

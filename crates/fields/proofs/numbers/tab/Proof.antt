@@ -1,7 +1,7 @@
 -- A tab is byte 9.
 use native.Mathlib.Omega.{arith}
 use borrow.Author.Tests.{eq-eqb, ne-eqb}
-use Rattle.fields.specs.Reading.{tab-in}
+use Rattle.fields.specs.code.Reading.{tab-in}
 use Rattle.fields.proofs.numbers.tab.Statement.{statement}
 use Rattle.fields.proofs.numbers.tab.Tie as tie
 

@@ -4,8 +4,8 @@ use borrow.Author.Needs.{needs}
 use lib.ListN.{length-drop}
 use Rattle.lists.proofs.Steps.{part-to-end}
 use Rattle.lists.proofs.Behind.{rest-written}
-use Rattle.merging.specs.Recorded.{merge-at}
-use Rattle.journal.specs.NewLines.{noted-line}
+use Rattle.merging.specs.code.Recorded.{merge-at}
+use Rattle.journal.specs.code.NewLines.{noted-line}
 use Rattle.journal.proofs.new_lines.put_step.Statement.{statement}
 use Rattle.journal.proofs.new_lines.put_step.Tie as tie
 

@@ -5,7 +5,7 @@ use native.Mathlib.Omega.{arith}
 use borrow.Author.Needs.{needs}
 use lib.ListN.{length, length-append}
 use Rattle.lists.proofs.Behind.{written-behind-front}
-use Rattle.journal.specs.NewLines.{noted-text, first-text, all-noted}
+use Rattle.journal.specs.code.NewLines.{noted-text, first-text, all-noted}
 use Rattle.journal.proofs.new_lines.write_new.Statement.{statement}
 use Rattle.journal.proofs.new_lines.write_new.Tie as tie
 

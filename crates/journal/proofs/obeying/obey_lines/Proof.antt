@@ -7,7 +7,7 @@ use borrow.Author.Needs.{needs}
 use lib.ListN.{length, drop}
 use Rattle.fields.specs.Lines.{lines}
 use Rattle.fields.proofs.LineSteps.{lines-none, lines-next}
-use Rattle.merging.specs.State.{history-of, Holds}
+use Rattle.merging.specs.code.State.{history-of, Holds}
 use Rattle.journal.specs.Obeying.{went, obeyed-lines}
 use Rattle.journal.proofs.LinesObeyed.{Along, along-starts, along-ends, along-goes, along-stops}
 use Rattle.journal.proofs.obeying.obey_lines.Statement.{statement}

@@ -7,7 +7,7 @@ use borrow.Author.Needs.{needs}
 use borrow.Author.Tests.{not-true, not-false}
 use Rattle.refusal.specs.declared.Refusal.the-variants.{StepNotNext, ChildNotOpen, NotLawful, WeightUntrue}
 use Rattle.merging.specs.Lawful.{three-open, paired}
-use Rattle.merging.specs.State.{history-of, Holds, Ready}
+use Rattle.merging.specs.code.State.{history-of, Holds, Ready}
 use Rattle.journal.proofs.MergeObeyed.{refuses, not-next, not-open, not-paired, not-weighed, ready, merges}
 use Rattle.journal.proofs.obeying.obey_merge.Statement.{statement}
 use Rattle.journal.proofs.obeying.obey_merge.Tie as tie

@@ -3,7 +3,7 @@ use Prim.Native.Nat.{_*_, _<_, _≤_}
 use native.Mathlib.Omega.{arith}
 use borrow.Author.Needs.{needs}
 use lib.ListN.{length}
-use Rattle.journal.specs.NewLines.{all-noted}
+use Rattle.journal.specs.code.NewLines.{all-noted}
 use Rattle.journal.proofs.RunEnds.{at-the-end, new-has-room, ends}
 use Rattle.journal.proofs.resuming.go_on.Statement.{statement}
 use Rattle.journal.proofs.resuming.go_on.Tie as tie

@@ -6,7 +6,7 @@ use borrow.Author.Needs.{needs}
 use lib.ListN.{length}
 use Rattle.terms.specs.Rows.{terms-of}
 use Rattle.terms.proofs.RowSteps.{length-terms}
-use Rattle.merging.specs.State.{history-of}
+use Rattle.merging.specs.code.State.{history-of}
 use Rattle.journal.specs.Resuming.{done, ending}
 use Rattle.journal.specs.Obeying.{obeyed}
 use Rattle.journal.proofs.JournalAnswered.{nothing-altered, answers-so, journal-refused, journal-obeyed}

@@ -3,7 +3,7 @@ use mathlib.Core.Path.{sym, _∙_}
 use borrow.Author.Tests.{eq-eqb, ne-eqb, not-true, not-false}
 use borrow.Author.Needs.{needs}
 use Rattle.lists.specs.Least.{least}
-use Rattle.merging.specs.Couples.{free, seek, weight-here}
+use Rattle.merging.specs.code.Couples.{free, seek, weight-here}
 use Rattle.merging.proofs.choice.best_beside.Statement.{statement}
 use Rattle.merging.proofs.choice.best_beside.Tie as tie
 

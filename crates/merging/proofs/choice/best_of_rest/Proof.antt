@@ -7,7 +7,7 @@ use native.Mathlib.Omega.{arith}
 use borrow.Author.Needs.{needs}
 use Rattle.entities.specs.declared.Triple.{Triple}
 use Rattle.merging.specs.History.{next-parent}
-use Rattle.merging.specs.Couples.{OpensAre, beside, seek, weight-here}
+use Rattle.merging.specs.code.Couples.{OpensAre, beside, seek, weight-here}
 use Rattle.merging.proofs.Candidates.{beside-step, beside-end}
 use Rattle.merging.proofs.Seeking.{seek-joined, seek-none}
 use Rattle.merging.proofs.choice.best_of_rest.Statement.{statement}

@@ -1,7 +1,7 @@
 -- An entity without a couple names nothing; one with a couple names the couple's triples.
 use mathlib.Core.Path.{sym, _∙_}
 use borrow.Author.Needs.{needs}
-use Rattle.merging.specs.Couples.{beside-couple}
+use Rattle.merging.specs.code.Couples.{beside-couple}
 use Rattle.merging.proofs.Seeking.{seek-none}
 use Rattle.merging.proofs.choice.best_with.Statement.{statement}
 use Rattle.merging.proofs.choice.best_with.Tie as tie

@@ -1,7 +1,7 @@
 -- The test of the two weights decides.
 use borrow.Author.Tests.{lt-ltb, le-ltb}
 use Rattle.lists.specs.Least.{least, lighter}
-use Rattle.merging.specs.Couples.{weighed, seek}
+use Rattle.merging.specs.code.Couples.{weighed, seek}
 use Rattle.merging.proofs.choice.lighter.Statement.{statement}
 use Rattle.merging.proofs.choice.lighter.Tie as tie
 

@@ -2,7 +2,7 @@
 use native.Mathlib.Omega.{arith}
 use borrow.Author.Needs.{needs}
 use Rattle.merging.specs.Flatpack.{children}
-use Rattle.merging.specs.Recorded.{merge-at}
+use Rattle.merging.specs.code.Recorded.{merge-at}
 use Rattle.merging.proofs.Recording.{recorded-merge}
 use Rattle.merging.proofs.flatpack.children.Statement.{statement}
 use Rattle.merging.proofs.flatpack.children.Tie as tie

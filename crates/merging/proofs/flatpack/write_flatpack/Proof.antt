@@ -7,8 +7,8 @@ use lib.ListN.{length, getD}
 use Rattle.merging.specs.History.{z-end}
 use Rattle.merging.specs.Lawful.{LawfulHistory}
 use Rattle.merging.specs.Flatpack.{absent-leaf}
-use Rattle.merging.specs.Recorded.{recorded}
-use Rattle.merging.specs.State.{history-of}
+use Rattle.merging.specs.code.Recorded.{recorded}
+use Rattle.merging.specs.code.State.{history-of}
 use Rattle.merging.proofs.Recording.{length-recorded}
 use Rattle.merging.proofs.flatpack.write_flatpack.Statement.{statement}
 use Rattle.merging.proofs.flatpack.write_flatpack.Tie as tie

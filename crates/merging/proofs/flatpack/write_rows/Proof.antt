@@ -5,7 +5,7 @@ use native.Mathlib.Omega.{arith}
 use borrow.Author.Needs.{needs}
 use lib.ListN.{length, getD, take}
 use lib.Seq.{getD-take, length-take-le}
-use Rattle.merging.specs.Recorded.{recorded}
+use Rattle.merging.specs.code.Recorded.{recorded}
 use Rattle.merging.proofs.Recording.{length-recorded}
 use Rattle.merging.proofs.Walking.{Walking, walking-starts, walking-length, walking-ends, waiting, next-node, walking-on}
 use Rattle.merging.proofs.flatpack.write_rows.Statement.{statement}

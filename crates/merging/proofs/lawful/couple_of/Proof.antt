@@ -2,7 +2,7 @@
 use mathlib.Core.Path.{sym, _∙_}
 use borrow.Author.Tests.{not-true, not-false}
 use borrow.Author.Needs.{needs}
-use Rattle.merging.specs.Couples.{couple}
+use Rattle.merging.specs.code.Couples.{couple}
 use Rattle.merging.proofs.lawful.couple_of.Statement.{statement}
 use Rattle.merging.proofs.lawful.couple_of.Tie as tie
 

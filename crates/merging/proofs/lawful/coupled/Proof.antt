@@ -3,7 +3,7 @@ use mathlib.Core.Path.{sym, _∙_}
 use native.Mathlib.Omega.{arith}
 use borrow.Author.Tests.{eq-eqb, ne-eqb, not-true, not-false}
 use borrow.Author.Needs.{needs}
-use Rattle.merging.specs.Couples.{coupled}
+use Rattle.merging.specs.code.Couples.{coupled}
 use Rattle.merging.proofs.lawful.coupled.Statement.{statement}
 use Rattle.merging.proofs.lawful.coupled.Tie as tie
 

@@ -3,7 +3,7 @@ use mathlib.Core.Path.{_∙_}
 use native.Mathlib.Omega.{arith}
 use borrow.Author.Tests.{eq-eqb, ne-eqb, lt-ltb, le-ltb}
 use borrow.Author.Needs.{needs}
-use Rattle.merging.specs.Couples.{ends-pair}
+use Rattle.merging.specs.code.Couples.{ends-pair}
 use Rattle.merging.proofs.lawful.ends_paired.Statement.{statement}
 use Rattle.merging.proofs.lawful.ends_paired.Tie as tie
 

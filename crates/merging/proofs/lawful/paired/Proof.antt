@@ -2,7 +2,7 @@
 use borrow.Author.Tests.{eq-eqb, ne-eqb}
 use borrow.Author.Needs.{needs}
 use Rattle.merging.specs.Lawful.{paired}
-use Rattle.merging.specs.Couples.{ends-pair}
+use Rattle.merging.specs.code.Couples.{ends-pair}
 use Rattle.merging.proofs.lawful.paired.Statement.{statement}
 use Rattle.merging.proofs.lawful.paired.Tie as tie
 

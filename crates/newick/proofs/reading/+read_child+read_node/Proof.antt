@@ -12,7 +12,7 @@ use lib.ListN.{length, take}
 use lib.Seq.{length-take-le}
 use Rattle.newick.specs.declared.reading.Part.{Part}
 use Rattle.newick.specs.Reading.{Reading, follows, marked, named, node-read, child-read}
-use Rattle.newick.specs.Promises.{meant, end-of, closed-of}
+use Rattle.newick.specs.code.Promises.{meant, end-of, closed-of}
 use Rattle.newick.proofs.PartsRead.{child-absent, child-leaf, child-node, node-missing, node-crowded, node-opens, after-first, after-second, Onward, onward, stops-there, goes-behind}
 use Rattle.newick.proofs.reading.read_child.Reads as read-child
 use Rattle.newick.proofs.reading.read_child.Kinds as read-child-kinds

@@ -5,7 +5,7 @@ use native.Mathlib.Omega.{arith}
 use borrow.Author.Needs.{needs}
 use borrow.Author.Tests.{not-true, not-false}
 use lib.ListN.{take}
-use Rattle.newick.specs.Promises.{meant, end-of, closed-of}
+use Rattle.newick.specs.code.Promises.{meant, end-of, closed-of}
 use Rattle.newick.proofs.PartsRead.{named-missing, named-none, named-some, one-closed}
 use Rattle.newick.proofs.reading.close_node.Statement.{statement}
 use Rattle.newick.proofs.reading.close_node.Tie as tie

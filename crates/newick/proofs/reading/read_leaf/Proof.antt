@@ -6,7 +6,7 @@ use native.Mathlib.Omega.{arith}
 use borrow.Author.Needs.{needs}
 use lib.ListN.{take}
 use Rattle.newick.specs.Reading.{Reading, got, leaf-name}
-use Rattle.newick.specs.Promises.{meant, end-of, closed-of}
+use Rattle.newick.specs.code.Promises.{meant, end-of, closed-of}
 use Rattle.newick.proofs.PartsRead.{numbered-none, numbered-some}
 use Rattle.newick.proofs.reading.read_leaf.Statement.{statement}
 use Rattle.newick.proofs.reading.read_leaf.Tie as tie

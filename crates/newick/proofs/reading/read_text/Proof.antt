@@ -9,7 +9,7 @@ use borrow.Author.Tests.{eq-eqb, ne-eqb}
 use lib.Dec.{eqb}
 use lib.ListN.{length}
 use Rattle.newick.specs.Reading.{Reading, got, stuck, text-read}
-use Rattle.newick.specs.Promises.{meant, end-of, closed-of}
+use Rattle.newick.specs.code.Promises.{meant, end-of, closed-of}
 use Rattle.newick.proofs.PartsRead.{Onward, onward, stops-there, goes-behind}
 use Rattle.newick.proofs.reading.read_text.Statement.{statement}
 use Rattle.newick.proofs.reading.read_text.Tie as tie

@@ -3,7 +3,7 @@ use mathlib.Core.Path.{_∙_, ap}
 use mathlib.Core.Bool.{true}
 use borrow.Author.Needs.{needs}
 use lib.ListN.{set}
-use Rattle.terms.specs.Marks.{mark-of}
+use Rattle.terms.specs.code.Marks.{mark-of}
 use Rattle.terms.proofs.keeping.keep_row.Statement.{statement}
 use Rattle.terms.proofs.keeping.keep_row.Tie as tie
 

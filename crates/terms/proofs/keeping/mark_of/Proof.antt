@@ -4,7 +4,7 @@ use Prim.Native.Nat.{_<_, _≤_, _-_, _+_}
 use native.Mathlib.Omega.{arith}
 use borrow.Author.Needs.{needs}
 use lib.ListN.{length, drop}
-use Rattle.terms.specs.Marks.{next-mark, mark-after, mark-of}
+use Rattle.terms.specs.code.Marks.{next-mark, mark-after, mark-of}
 use Rattle.terms.proofs.MarkedRows.{mark-start, mark-step, mark-end}
 use Rattle.terms.proofs.keeping.mark_of.Statement.{statement}
 use Rattle.terms.proofs.keeping.mark_of.Tie as tie

@@ -8,7 +8,7 @@ use lib.ListN.{length, replicate, length-replicate}
 use Rattle.lists.specs.Members.{every}
 use Rattle.lists.proofs.Written.{put-written}
 use Rattle.terms.specs.Rows.{rows-of, terms-of}
-use Rattle.terms.specs.Marks.{Marked}
+use Rattle.terms.specs.code.Marks.{Marked}
 use Rattle.terms.proofs.ReducedRows.{Passing, passing-starts, next-room, next-within, passing-on, passing-ends}
 use Rattle.terms.proofs.reduction.reduce_hamiltonian.Statement.{statement}
 use Rattle.terms.proofs.reduction.reduce_hamiltonian.Tie as tie

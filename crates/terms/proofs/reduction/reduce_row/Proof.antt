@@ -7,7 +7,7 @@ use borrow.Author.Needs.{needs}
 use lib.ListN.{length, getD, take, drop}
 use Rattle.terms.specs.Rows.{term, terms-of}
 use Rattle.terms.specs.Reduction.{rewriting}
-use Rattle.terms.specs.Promises.{Rewritten}
+use Rattle.terms.specs.code.Promises.{Rewritten}
 use Rattle.terms.proofs.RowSteps.{row-length, row-first}
 use Rattle.terms.proofs.RowReduced.{row-stays-out, row-put, put-terms}
 use Rattle.terms.proofs.MarkedRows.{mark-below, marked-more}

@@ -1,7 +1,7 @@
 -- A choice with its weight is the one sought among one.
 use mathlib.Core.Path.{sym, _∙_}
 use borrow.Author.Needs.{needs}
-use Rattle.topphatt.specs.Seeking.{weighed}
+use Rattle.topphatt.specs.code.Seeking.{weighed}
 use Rattle.topphatt.proofs.SoughtSteps.{sought-one}
 use Rattle.topphatt.proofs.choice.against.Statement.{statement}
 use Rattle.topphatt.proofs.choice.against.Tie as tie

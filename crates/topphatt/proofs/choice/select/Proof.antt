@@ -6,7 +6,7 @@ use borrow.Author.Needs.{needs}
 use lib.ListN.{length, drop, drop-of-length-le}
 use Rattle.lists.proofs.Every.{below-at}
 use Rattle.terms.specs.Rows.{terms-of}
-use Rattle.topphatt.specs.Seeking.{sought-over, worst}
+use Rattle.topphatt.specs.code.Seeking.{sought-over, worst}
 use Rattle.topphatt.proofs.SoughtSteps.{over-none, over-step}
 use Rattle.topphatt.proofs.choice.select.Statement.{statement}
 use Rattle.topphatt.proofs.choice.select.Tie as tie

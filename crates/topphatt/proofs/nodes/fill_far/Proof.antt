@@ -10,7 +10,7 @@ use Rattle.lists.specs.Members.{keep}
 use Rattle.lists.proofs.Every.{below-at}
 use Rattle.lists.proofs.Joined.{gathered, gathered-all}
 use Rattle.lists.proofs.Steps.{keep-step, keep-end}
-use Rattle.topphatt.specs.Seeking.{Distances}
+use Rattle.topphatt.specs.code.Seeking.{Distances}
 use Rattle.topphatt.specs.Nodes.{distance, farthest}
 use Rattle.topphatt.proofs.nodes.fill_far.Statement.{statement}
 use Rattle.topphatt.proofs.nodes.fill_far.Tie as tie

@@ -6,7 +6,7 @@ use native.Mathlib.Omega.{arith}
 use borrow.Author.Needs.{needs}
 use lib.ListN.{length, drop}
 use Rattle.lists.proofs.Every.{below-at}
-use Rattle.topphatt.specs.Seeking.{Distances}
+use Rattle.topphatt.specs.code.Seeking.{Distances}
 use Rattle.topphatt.specs.Nodes.{distance, largest}
 use Rattle.topphatt.proofs.DistanceSteps.{largest-step, largest-end}
 use Rattle.topphatt.proofs.nodes.largest.Statement.{statement}

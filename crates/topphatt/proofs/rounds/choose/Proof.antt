@@ -7,7 +7,7 @@ use lib.ListN.{length, take}
 use Rattle.terms.specs.Rows.{terms-of}
 use Rattle.terms.proofs.RowSteps.{length-terms}
 use Rattle.topphatt.specs.Choice.{chosen}
-use Rattle.topphatt.specs.Seeking.{choice-of}
+use Rattle.topphatt.specs.code.Seeking.{choice-of}
 use Rattle.topphatt.proofs.ChosenSought.{over-chosen, over-weighs}
 use Rattle.topphatt.proofs.Bounds.{active-below, chosen-below}
 use Rattle.topphatt.proofs.rounds.choose.Statement.{statement}

@@ -5,7 +5,7 @@ use Prim.Native.Nat.{ℕ, _-_, _≤_}
 use native.Mathlib.Omega.{arith}
 use lib.ListN.{length}
 use Rattle.merging.specs.Run.{finished}
-use Rattle.merging.specs.State.{history-of, Holds, Went}
+use Rattle.merging.specs.code.State.{history-of, Holds, Went}
 use Rattle.merging.proofs.StateStepped.{merges-so-far, went-nowhere, went-one-more, same-end, step-more, finished-already}
 use Rattle.merging.proofs.run.Run.finished.Statement.{statement}
 use Rattle.merging.proofs.run.Run.finished.Tie as tie

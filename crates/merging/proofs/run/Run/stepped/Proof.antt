@@ -6,8 +6,8 @@ use native.Mathlib.Omega.{arith}
 use borrow.Author.Needs.{needs}
 use Rattle.merging.specs.declared.run.Run.{Run}
 use Rattle.merging.specs.Choice.{candidates, chosen}
-use Rattle.merging.specs.Couples.{weight-here, nothing, weighed, seek}
-use Rattle.merging.specs.State.{history-of, Holds, Ready}
+use Rattle.merging.specs.code.Couples.{weight-here, nothing, weighed, seek}
+use Rattle.merging.specs.code.State.{history-of, Holds, Ready}
 use Rattle.merging.proofs.StateMerged.{parent-is}
 use Rattle.merging.proofs.StateStepped.{ends-low, best-is, ready-chosen}
 use Rattle.merging.proofs.run.Run.stepped.Statement.{statement}

@@ -10,8 +10,8 @@ use Rattle.merging.specs.declared.run.Run.{Run}
 use Rattle.merging.specs.History.{rows-after}
 use Rattle.merging.specs.Lawful.{Lawful, LawfulHistory}
 use Rattle.merging.specs.Choice.{weight-in}
-use Rattle.merging.specs.Couples.{Tied}
-use Rattle.merging.specs.Recorded.{merge-at, recorded}
+use Rattle.merging.specs.code.Couples.{Tied}
+use Rattle.merging.specs.code.Recorded.{merge-at, recorded}
 use Rattle.merging.specs.Run.{run-weight}
 
 -- The merges that the state has written down, newest first.

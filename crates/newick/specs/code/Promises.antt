@@ -7,7 +7,7 @@ use lib.Dec.{leb}
 use lib.ListN.{length, take}
 use Rattle.lists.specs.Members.{every}
 use Rattle.fields.specs.Decimal.{is-digit, value}
-use Rattle.fields.specs.Reading.{goes-on}
+use Rattle.fields.specs.code.Reading.{goes-on}
 use Rattle.newick.specs.declared.reading.Part.{Part}
 use Rattle.newick.specs.declared.reading.Part.the-variants.{Child, Stuck, Crowded}
 use Rattle.newick.specs.declared.digits.Number.{Number}

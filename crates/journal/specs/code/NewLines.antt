@@ -6,7 +6,7 @@ use lib.Dec.{eqb}
 use lib.ListN.{getD}
 use Rattle.lists.specs.Ranges.{listed}
 use Rattle.merging.specs.declared.run.Run.{Run}
-use Rattle.merging.specs.Recorded.{merge-at}
+use Rattle.merging.specs.code.Recorded.{merge-at}
 use Rattle.journal.specs.LineForms.{header-text, merge-text}
 
 -- The line of one step.

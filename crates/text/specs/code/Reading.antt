@@ -9,7 +9,7 @@ use Rattle.lists.specs.Written.{written-at}
 use Rattle.fields.specs.Decimal.{value}
 use Rattle.fields.specs.Lines.{lines, kept-of}
 use Rattle.fields.specs.Fields.{fields}
-use Rattle.fields.specs.Reading.{fields-behind, says-numbers}
+use Rattle.fields.specs.code.Reading.{fields-behind, says-numbers}
 use Rattle.text.specs.declared.input.Modes.{Modes}
 use Rattle.text.specs.declared.input.Modes.the-variants.{Are, Broken}
 use Rattle.text.specs.declared.input.Said.{Said}

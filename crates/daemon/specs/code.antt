@@ -1,0 +1,2 @@
+-- How the code of the calls from C goes about it: no promise needs it.
+pub mod Reading

@@ -1,0 +1,2 @@
+-- What the functions of the reader tell one another: no promise needs it.
+pub mod Promises

@@ -1,0 +1,3 @@
+-- How the code reads a text and runs it: no promise needs it.
+pub mod Reading
+pub mod Runs
