@@ -14,6 +14,7 @@ use Rattle.tree.specs.Table.{nodes, child, place-of, parent-of, climb}
 use Rattle.tree.specs.OneTree.{root-of, leaves-once, absent-once, nodes-once, all-reached, one-tree}
 use Rattle.tree.specs.Pairs.{chain-end, pair-under, pair-right, pairs-right}
 use Rattle.tree.specs.Check.{codes-good, tree-checked}
+use Rattle.tree.specs.Laying.{row-over, laid-over, laid, modes-in}
 use Rattle.newick.specs.Grammar.{spelled}
 use Rattle.newick.specs.Writing.{end-shape, shape-under, newick-text}
 use Rattle.newick.specs.Reading.{
@@ -31,8 +32,8 @@ use Rattle.newick.specs.Reading.{
   node-read,
   text-read,
 }
-use Rattle.newick.specs.Laying.{in-range, code-of, row-over, laid-over, laid}
-use Rattle.newick.specs.Calls.{read-numbers, modes-in, table-in, taken-as, read-as, newick-read}
+use Rattle.newick.specs.Names.{in-range, code-of}
+use Rattle.newick.specs.Calls.{read-numbers, table-in, taken-as, read-as, newick-read}
 
 -- "P3's tree is `((m0,m1,m2)n0,m3,e)n1;` with no spaces."
 abbrev tree3 : List ℕ

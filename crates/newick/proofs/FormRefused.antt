@@ -15,10 +15,11 @@ use Rattle.tree.specs.declared.TreeChecked.the-variants.{Accepted, Refused}
 use Rattle.tree.specs.OneTree.{one-tree}
 use Rattle.tree.specs.Pairs.{pairs-right}
 use Rattle.tree.specs.Check.{codes-good, tree-checked}
+use Rattle.tree.specs.Laying.{modes-in}
 use Rattle.newick.specs.declared.reading.NewickRead.the-variants.{Read, Unread}
 use Rattle.newick.specs.Reading.{Reading, got, stuck, crowded, text-read}
-use Rattle.newick.specs.Laying.{in-range}
-use Rattle.newick.specs.Calls.{modes-in, table-in, taken-as, read-as, newick-read}
+use Rattle.newick.specs.Names.{in-range}
+use Rattle.newick.specs.Calls.{table-in, taken-as, read-as, newick-read}
 use Rattle.newick.specs.Stops.{StopsAt}
 use Rattle.newick.specs.Crowded.{CrowdedAt}
 use Rattle.newick.proofs.TextStops.{text-stops}

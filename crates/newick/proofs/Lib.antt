@@ -27,9 +27,8 @@ pub mod TextCrowded
 pub mod FormRefused
 pub mod NumberAhead
 pub mod PartsRead
-pub mod LayingRows
+pub mod NamesInRange
 pub mod TreeTaken
-pub mod LaidTable
 pub mod ShapeRows
 pub mod ShapeTable
 pub mod UnderShape

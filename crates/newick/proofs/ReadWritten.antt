@@ -18,16 +18,17 @@ use Rattle.tree.specs.Check.{tree-checked}
 use Rattle.tree.proofs.Under.{met}
 use Rattle.tree.proofs.AcceptedParts.{accepted-parts}
 use Rattle.tree.proofs.AcceptedTree.{accepted-tree}
+use Rattle.tree.specs.Laying.{laid-over, laid, modes-in}
+use Rattle.tree.proofs.LaidTable.{labels-of, HasAll, has-none, laid-length, has-laid}
 use Rattle.newick.specs.Grammar.{Shape, is-node, Spells}
 use Rattle.newick.specs.Writing.{shape-under, newick-text}
 use Rattle.newick.specs.Reading.{got, text-read}
-use Rattle.newick.specs.Laying.{code-of, laid-over, laid}
-use Rattle.newick.specs.Calls.{modes-in, table-in, read-as, newick-read, table-read, newick-table}
+use Rattle.newick.specs.Names.{code-of}
+use Rattle.newick.specs.Calls.{table-in, read-as, newick-read, table-read, newick-table}
 use Rattle.newick.specs.RoundTrip.{ReadsBack}
 use Rattle.newick.proofs.Shapes.{name-of, rows-in}
 use Rattle.newick.proofs.WholeUnder.{accepted-whole}
 use Rattle.newick.proofs.ShapeText.{shape-node}
-use Rattle.newick.proofs.LaidTable.{labels-of, HasAll, has-none, laid-length, has-laid}
 use Rattle.newick.proofs.ShapeRows.{labels-in, rows-in-range}
 use Rattle.newick.proofs.ShapeTable.{rows-count, within-fits, labels-below, stands-rows, row-labels}
 use Rattle.newick.proofs.UnderShape.{UnderShape, labels-met, under-shape}

@@ -9,12 +9,12 @@ use lib.Dec.{ltb}
 use Rattle.lists.specs.Members.{every}
 use Rattle.lists.proofs.Every.{every-cons, every-uncons, every-append, every-parts}
 use Rattle.entities.specs.Codes.{absent}
+use Rattle.tree.proofs.LaidTable.{Has}
 use Rattle.newick.specs.Grammar.{Shape, leaf, none, node, numbers-fit}
 use Rattle.newick.specs.Reading.{leaf-name, absent-name}
-use Rattle.newick.specs.Laying.{in-range, code-of}
+use Rattle.newick.specs.Names.{in-range, code-of}
 use Rattle.newick.proofs.Shapes.{name-of, rows-in}
 use Rattle.newick.proofs.SpelledRead.{node-fits}
-use Rattle.newick.proofs.LaidTable.{Has}
 
 -- The labels of a shape's nodes, children before their node.
 unfoldable pub labels-in : Shape → List ℕ

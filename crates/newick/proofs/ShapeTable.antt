@@ -10,13 +10,13 @@ use lib.ListN.{length, length-append}
 use Rattle.lists.specs.Members.{every}
 use Rattle.lists.proofs.Every.{every-cons, every-append}
 use Rattle.entities.specs.Codes.{absent}
+use Rattle.tree.proofs.LaidTable.{labels-of, HasAll}
 use Rattle.newick.specs.Grammar.{Shape, leaf, none, node, numbers-fit}
 use Rattle.newick.specs.Writing.{end-shape, shape-under}
-use Rattle.newick.specs.Laying.{code-of}
+use Rattle.newick.specs.Names.{code-of}
 use Rattle.newick.proofs.Shapes.{rows-in}
 use Rattle.newick.proofs.ShapeText.{shape-end, shape-node}
 use Rattle.newick.proofs.SpelledRead.{rows-length}
-use Rattle.newick.proofs.LaidTable.{labels-of, HasAll}
 use Rattle.newick.proofs.ShapeRows.{labels-in, code-in, Within, Stands, coded-rows}
 
 pub length-labels : (x y z : Shape) (label : ℕ)

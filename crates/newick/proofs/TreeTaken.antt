@@ -10,10 +10,11 @@ use Rattle.lists.specs.Members.{every}
 use Rattle.refusal.specs.declared.Refusal.the-variants.{NotOneTree, NewickForm, TooManyNodes}
 use Rattle.entities.specs.Codes.{absent}
 use Rattle.tree.specs.Check.{tree-checked}
+use Rattle.tree.specs.Laying.{laid-over, laid, modes-in}
 use Rattle.newick.specs.declared.reading.NewickRead.the-variants.{Unread}
 use Rattle.newick.specs.Reading.{got, stuck, crowded, text-read}
-use Rattle.newick.specs.Laying.{in-range, code-of, laid-over, laid}
-use Rattle.newick.specs.Calls.{modes-in, table-in, taken-as, read-as, table-read, newick-read, newick-table}
+use Rattle.newick.specs.Names.{in-range, code-of}
+use Rattle.newick.specs.Calls.{table-in, taken-as, read-as, table-read, newick-read, newick-table}
 
 module _ (modes : ℕ) (rows : List ℕ) (size : length rows ≡ 4 * modes) where
   modes-are : modes-in rows ≡ modes

@@ -24,15 +24,16 @@ use Rattle.tree.specs.Check.{tree-checked}
 use Rattle.tree.proofs.Under.{met-top}
 use Rattle.tree.proofs.AcceptedParts.{accepted-parts}
 use Rattle.tree.proofs.AcceptedTree.{accepted-says}
+use Rattle.tree.specs.Laying.{laid, modes-in}
+use Rattle.tree.proofs.LaidTable.{labels-of, laid-other, laid-has}
 use Rattle.newick.specs.declared.reading.NewickRead.the-variants.{Read, Unread}
 use Rattle.newick.specs.Grammar.{Shape, leaf, none, node, is-node}
 use Rattle.newick.specs.Writing.{shape-under, newick-text}
 use Rattle.newick.specs.Reading.{Reading, got, stuck, crowded, text-read}
-use Rattle.newick.specs.Laying.{in-range, code-of, laid}
-use Rattle.newick.specs.Calls.{modes-in, table-in, taken-as, read-as, newick-read, table-read, newick-table}
+use Rattle.newick.specs.Names.{in-range, code-of}
+use Rattle.newick.specs.Calls.{table-in, taken-as, read-as, newick-read, table-read, newick-table}
 use Rattle.newick.specs.RoundTrip.{IsWritten}
 use Rattle.newick.proofs.Shapes.{name-of, rows-in}
-use Rattle.newick.proofs.LaidTable.{labels-of, laid-other, laid-has}
 use Rattle.newick.proofs.ShapeRows.{labels-in, code-in, Within, Stands, all-within}
 use Rattle.newick.proofs.ShapeTable.{rows-count, labels-below, rows-stand, row-labels, stands-under}
 use Rattle.newick.proofs.UnderShape.{labels-met}

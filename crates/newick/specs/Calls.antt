@@ -2,7 +2,7 @@
 -- 16, then 5 where the text's exact length doesn't fit."
 use mathlib.Core.Bool.{cond}
 use mathlib.Core.List.{List, [], _∷_, map}
-use Prim.Native.Nat.{ℕ, _*_, _/_}
+use Prim.Native.Nat.{ℕ, _*_}
 use lib.Dec.{leb}
 use lib.ListN.{length}
 use Rattle.lists.specs.Members.{every}
@@ -12,13 +12,14 @@ use Rattle.refusal.specs.Numbers.{numberOf, placeOf}
 use Rattle.tree.specs.declared.TreeChecked.{TreeChecked}
 use Rattle.tree.specs.declared.TreeChecked.the-variants.{Accepted, Refused}
 use Rattle.tree.specs.Check.{tree-checked}
+use Rattle.tree.specs.Laying.{laid, modes-in}
 use Rattle.newick.specs.declared.writing.NewickWritten.{NewickWritten}
 use Rattle.newick.specs.declared.writing.NewickWritten.the-variants.{Written, Unwritten}
 use Rattle.newick.specs.declared.reading.NewickRead.{NewickRead}
 use Rattle.newick.specs.declared.reading.NewickRead.the-variants.{Read, Unread}
 use Rattle.newick.specs.Writing.{newick-text}
 use Rattle.newick.specs.Reading.{Reading, got, stuck, crowded, text-read}
-use Rattle.newick.specs.Laying.{in-range, code-of, laid}
+use Rattle.newick.specs.Names.{in-range, code-of}
 
 -- "Each returns its number and a place, zeros elsewhere": refusal, place, and the bytes written or the modes read.
 abbrev pub written-numbers : NewickWritten → List ℕ
@@ -43,10 +44,7 @@ unfoldable pub text-after : NewickWritten → List ℕ → List ℕ → List ℕ
 text-after (Written count) text before = written-at 0 text before
 text-after (Unwritten refusal) text before = before
 
--- The modes of rows of four, and the table that they make.
-unfoldable pub modes-in : List ℕ → ℕ
-modes-in rows = length rows / 4
-
+-- The table that rows of names make.
 unfoldable pub table-in : List ℕ → List ℕ
 table-in rows = laid (modes-in rows) (map (code-of (modes-in rows)) rows)
 

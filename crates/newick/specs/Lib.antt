@@ -2,7 +2,7 @@
 pub mod Grammar
 pub mod Writing
 pub mod Reading
-pub mod Laying
+pub mod Names
 pub mod Calls
 pub mod RoundTrip
 pub mod Stops

@@ -9,10 +9,11 @@ ghost use Rattle.newick.specs.Reading.{got, numbered, «leaf-name», nam
 ghost use Rattle.newick.specs.Calls.{«newick-read», «newick-table», «table-after», «read-as», «table-in», «taken-as»};
 ghost use Rattle.newick.specs.code.Promises.{meant, «end-of», «closed-of», Reads};
 use crate::digits;
-use crate::laying;
+use crate::names;
 use refusal::Refusal;
 use terms::copying;
 use tree::TreeChecked;
+use tree::laying;
 
 // What reading says: how many modes were read, or why none.
 pub enum NewickRead {
@@ -179,7 +180,7 @@ fn take_tree(modes: usize, rows: &[u32], table: &mut [u16]) -> NewickRead
 {
     let mut codes = [0u16; 1024];
     let end = 4 * modes;
-    if !laying::put_codes(modes, rows, &mut codes[..end]) {
+    if !names::put_codes(modes, rows, &mut codes[..end]) {
         return NewickRead::Unread(Refusal::NotOneTree);
     }
     let mut tree = [0u16; 768];

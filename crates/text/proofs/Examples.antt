@@ -29,10 +29,10 @@ use Rattle.tree.specs.Table.{nodes, child, place-of, parent-of, climb}
 use Rattle.tree.specs.OneTree.{root-of, leaves-once, absent-once, nodes-once, all-reached, one-tree}
 use Rattle.tree.specs.Pairs.{chain-end, pair-under, pair-right, pairs-right}
 use Rattle.tree.specs.Check.{codes-good, tree-checked}
+use Rattle.tree.specs.Laying.{row-over, laid-over, laid, modes-in}
 use Rattle.newick.specs.Grammar.{spelled}
 use Rattle.newick.specs.Writing.{end-shape, shape-under, newick-text}
-use Rattle.newick.specs.Laying.{row-over, laid-over, laid}
-use Rattle.newick.specs.Calls.{written-as, newick-written, modes-in}
+use Rattle.newick.specs.Calls.{written-as, newick-written}
 use Rattle.text.specs.Input.{modes-word, term-word, modes-line, term-line, well-formed, formed-from, formed, term-row, whole, said}
 use Rattle.text.specs.Running.{ended, ran-by, ran}
 use Rattle.text.specs.Output.{

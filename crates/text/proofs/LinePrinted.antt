@@ -17,11 +17,11 @@ use Rattle.entities.specs.Codes.{absent}
 use Rattle.tree.specs.declared.TreeChecked.{TreeChecked}
 use Rattle.tree.specs.declared.TreeChecked.the-variants.{Accepted, Refused as Unaccepted}
 use Rattle.tree.specs.Check.{tree-checked}
+use Rattle.tree.specs.Laying.{laid, laid-over, modes-in}
 use Rattle.newick.specs.declared.writing.NewickWritten.{NewickWritten}
 use Rattle.newick.specs.declared.writing.NewickWritten.the-variants.{Written, Unwritten}
 use Rattle.newick.specs.Writing.{newick-text}
-use Rattle.newick.specs.Laying.{laid, laid-over}
-use Rattle.newick.specs.Calls.{written-as, newick-written, text-after, modes-in}
+use Rattle.newick.specs.Calls.{written-as, newick-written, text-after}
 use Rattle.text.specs.declared.running.Ran.{Ran}
 use Rattle.text.specs.declared.running.Ran.the-variants.{Done, Refused}
 use Rattle.text.specs.code.Runs.{ended-as, Runs}

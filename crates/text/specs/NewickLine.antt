@@ -1,11 +1,11 @@
 -- The program `newick`: it reads what `hatt` reads and prints the tree's Newick line, or the refusal as `hatt` does.
 use mathlib.Core.List.{List, [], _∷_, _++_}
 use Prim.Native.Nat.{ℕ}
+use Rattle.tree.specs.Laying.{laid, modes-in}
 use Rattle.newick.specs.declared.writing.NewickWritten.{NewickWritten}
 use Rattle.newick.specs.declared.writing.NewickWritten.the-variants.{Written, Unwritten}
 use Rattle.newick.specs.Writing.{newick-text}
-use Rattle.newick.specs.Laying.{laid}
-use Rattle.newick.specs.Calls.{newick-written, modes-in}
+use Rattle.newick.specs.Calls.{newick-written}
 use Rattle.text.specs.Running.{Ended, came, stopped, ran}
 use Rattle.text.specs.Output.{refusal-text}
 

@@ -2,17 +2,17 @@
 ghost use mathlib.Core.Path.{_≡_};
 ghost use Prim.Native.Nat.{_*_, _≤_};
 ghost use lib.ListN.{length, take};
+ghost use Rattle.tree.specs.Laying.{laid};
 ghost use Rattle.newick.specs.Writing.{«newick-text»};
-ghost use Rattle.newick.specs.Laying.{laid};
 ghost use Rattle.newick.specs.Calls.{«newick-written», «text-after»};
 ghost use Rattle.text.specs.NewickLine.{«table-line», «newick-answer-text»};
 use crate::Printed;
 use crate::output;
 use crate::running;
 use crate::running::Ran;
-use newick::laying;
 use newick::writing;
 use newick::writing::NewickWritten;
+use tree::laying;
 
 // A tree's text written over the front, with room for a byte behind it.
 fn write_text(out: &mut [u8], modes: usize, tree: &[u16]) -> NewickWritten

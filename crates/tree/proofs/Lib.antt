@@ -1,5 +1,7 @@
--- The laws of the tree table, its check and its weight.
+-- The laws of the tree table, of rows laid out as one, of its check and its weight.
 pub mod TableSteps
+pub mod LayingRows
+pub mod LaidTable
 pub mod OneTreeParts
 pub mod AcceptedParts
 pub mod TreeWeighing

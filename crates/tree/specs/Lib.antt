@@ -1,5 +1,6 @@
--- What document 01 says of tree tables: which are accepted, and their weight.
+-- What document 01 says of tree tables: rows laid out as one, which are accepted, and their weight.
 pub mod Table
+pub mod Laying
 pub mod OneTree
 pub mod Pairs
 pub mod Check

@@ -1,8 +1,9 @@
-// The tree table: its check, refusals 1 and 13 to 16 of document 01, and the tree weight.
+// The tree table: rows laid out as one, its check, refusals 1 and 13 to 16 of document 01, and the tree weight.
 ghost use mathlib.Core.Path.{_≡_};
 ghost use Rattle.tree.specs.Check.{«tree-checked»};
 use refusal::Refusal;
 
+pub mod laying;
 mod one_tree;
 mod pairs;
 pub mod table;

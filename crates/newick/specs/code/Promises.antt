@@ -12,7 +12,7 @@ use Rattle.newick.specs.declared.reading.Part.{Part}
 use Rattle.newick.specs.declared.reading.Part.the-variants.{Child, Stuck, Crowded}
 use Rattle.newick.specs.declared.digits.Number.{Number}
 use Rattle.newick.specs.Reading.{Reading, got, stuck, crowded, number-digits}
-use Rattle.newick.specs.Laying.{in-range, code-of}
+use Rattle.newick.specs.Names.{in-range, code-of}
 
 -- Another digit may follow so many digits of this value.
 unfoldable pub may-follow : ℕ → ℕ → ℕ → Bool

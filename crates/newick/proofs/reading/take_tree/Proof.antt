@@ -11,7 +11,7 @@ use lib.Seq.{length-take-le, take-at}
 use Rattle.lists.specs.Members.{every}
 use Rattle.tree.specs.Check.{tree-checked}
 use Rattle.newick.specs.Reading.{got}
-use Rattle.newick.specs.Laying.{in-range}
+use Rattle.newick.specs.Names.{in-range}
 use Rattle.newick.specs.Calls.{table-in, taken-as, read-as, table-after}
 use Rattle.newick.proofs.TreeTaken.{table-is, out-of-range, all-in-range, laid-alike, front-fits, front-counts}
 use Rattle.newick.proofs.reading.take_tree.Statement.{statement}

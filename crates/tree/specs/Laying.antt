@@ -1,20 +1,11 @@
 -- Nodes in any order laid out as a tree table, "X, Y, Z of node 0..n-1, three codes a node".
-use mathlib.Core.Bool.{Bool, cond, _&&_, _||_}
+use mathlib.Core.Bool.{cond}
 use mathlib.Core.List.{List, [], _∷_}
-use Prim.Native.Nat.{ℕ, _+_, _-_, _*_}
-use lib.Dec.{eqb, ltb, leb}
+use Prim.Native.Nat.{ℕ, _+_, _*_, _/_}
+use lib.Dec.{ltb}
 use lib.ListN.{length, replicate}
 use Rattle.lists.specs.Written.{written-at}
 use Rattle.entities.specs.Codes.{absent}
-use Rattle.newick.specs.Reading.{absent-name}
-
--- A name is a label below n, a leaf below 2n or the absent child's: else "a node or leaf number is out of range".
-unfoldable pub in-range : ℕ → ℕ → Bool
-in-range modes name = ltb name modes || ((leb 65536 name && ltb name (65536 + 2 * modes)) || eqb name absent-name)
-
--- A name's code in a table of n modes.
-unfoldable pub code-of : ℕ → ℕ → ℕ
-code-of modes name = cond (ltb name 65536) name (cond (eqb name absent-name) absent (modes + (name - 65536)))
 
 -- A node's three children put in their place, where the table has it.
 unfoldable pub row-over : List ℕ → ℕ → List ℕ → List ℕ
@@ -31,3 +22,7 @@ laid-over table (label ∷ (x ∷ (y ∷ (z ∷ rows)))) = laid-over (row-over t
 -- The table of n modes that rows make; a node without a row has no children there.
 unfoldable pub laid : ℕ → List ℕ → List ℕ
 laid modes rows = laid-over (replicate (3 * modes) absent) rows
+
+-- The modes of a tree whose rows these are.
+unfoldable pub modes-in : List ℕ → ℕ
+modes-in rows = length rows / 4

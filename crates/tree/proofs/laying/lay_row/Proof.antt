@@ -7,9 +7,9 @@ use borrow.Author.Needs.{needs}
 use borrow.Author.Tests.{lt-ltb, le-ltb}
 use lib.ListN.{length, length-set}
 use Rattle.lists.proofs.Behind.{stores-written}
-use Rattle.newick.specs.Laying.{row-over}
-use Rattle.newick.proofs.laying.lay_row.Statement.{statement}
-use Rattle.newick.proofs.laying.lay_row.Tie as tie
+use Rattle.tree.specs.Laying.{row-over}
+use Rattle.tree.proofs.laying.lay_row.Statement.{statement}
+use Rattle.tree.proofs.laying.lay_row.Tie as tie
 
 mul-at : tie.Need-mul-at
 mul-at c = search needs

@@ -11,9 +11,9 @@ use lib.Seq.{take-all}
 use Rattle.lists.specs.Members.{every}
 use Rattle.lists.proofs.Steps.{every-passes, every-stops, every-ends}
 use Rattle.lists.proofs.Writes.{all-of, mapped-so-far}
-use Rattle.newick.specs.Laying.{in-range, code-of}
-use Rattle.newick.proofs.laying.put_codes.Statement.{statement}
-use Rattle.newick.proofs.laying.put_codes.Tie as tie
+use Rattle.newick.specs.Names.{in-range, code-of}
+use Rattle.newick.proofs.names.put_codes.Statement.{statement}
+use Rattle.newick.proofs.names.put_codes.Tie as tie
 
 abbrev Inv-loop : tie.InvT-loop
 Inv-loop modes names codes₀ at₀ codes at =

@@ -2,10 +2,10 @@
 use native.Mathlib.Omega.{arith}
 use borrow.Author.Needs.{needs}
 use borrow.Author.Tests.{lt-ltb, le-ltb, eq-eqb, ne-eqb}
-use Rattle.newick.specs.Laying.{code-of}
-use Rattle.newick.proofs.LayingRows.{leaf-in-range}
-use Rattle.newick.proofs.laying.code_of.Statement.{statement}
-use Rattle.newick.proofs.laying.code_of.Tie as tie
+use Rattle.newick.specs.Names.{code-of}
+use Rattle.newick.proofs.NamesInRange.{leaf-in-range}
+use Rattle.newick.proofs.names.code_of.Statement.{statement}
+use Rattle.newick.proofs.names.code_of.Tie as tie
 
 cast-result : tie.Need-cast-result
 cast-result c = search needs

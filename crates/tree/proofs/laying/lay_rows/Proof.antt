@@ -4,10 +4,10 @@ use Prim.Native.Nat.{_-_, _*_, _/_, _≤_}
 use native.Mathlib.Omega.{arith}
 use borrow.Author.Needs.{needs}
 use lib.ListN.{length, drop}
-use Rattle.newick.specs.Laying.{laid-over}
-use Rattle.newick.proofs.LayingRows.{laid-next, laid-ends}
-use Rattle.newick.proofs.laying.lay_rows.Statement.{statement}
-use Rattle.newick.proofs.laying.lay_rows.Tie as tie
+use Rattle.tree.specs.Laying.{laid-over}
+use Rattle.tree.proofs.LayingRows.{laid-next, laid-ends}
+use Rattle.tree.proofs.laying.lay_rows.Statement.{statement}
+use Rattle.tree.proofs.laying.lay_rows.Tie as tie
 
 abbrev Inv-loop : tie.InvT-loop
 Inv-loop rows table₀ count done₀ table done =

@@ -17,8 +17,8 @@ use Rattle.lists.proofs.Counting.{occurs-not}
 use Rattle.lists.proofs.Sums.{same-one, same-none}
 use Rattle.lists.proofs.Written.{length-written, getD-before, getD-within, drop-written}
 use Rattle.entities.specs.Codes.{absent}
 use Rattle.tree.specs.Table.{child}
-use Rattle.newick.specs.Laying.{row-over, laid-over}
+use Rattle.tree.specs.Laying.{row-over, laid-over}
 
 -- The labels of rows of four.
 unfoldable pub labels-of : List ℕ → List ℕ

@@ -6,8 +6,8 @@ use borrow.Author.Needs.{needs}
 use lib.ListN.{length, take, replicate, length-set}
 use Rattle.lists.proofs.Writes.{filled-next, all-of}
 use Rattle.entities.specs.Codes.{absent}
-use Rattle.newick.proofs.laying.clear_table.Statement.{statement}
-use Rattle.newick.proofs.laying.clear_table.Tie as tie
+use Rattle.tree.proofs.laying.clear_table.Statement.{statement}
+use Rattle.tree.proofs.laying.clear_table.Tie as tie
 
 abbrev Inv-loop : tie.InvT-loop
 Inv-loop table₀ at₀ table at = (at ≤ length table₀) × (length table ≡ length table₀) × (take at table ≡ replicate at absent)

@@ -6,9 +6,9 @@ use native.Mathlib.Omega.{arith}
 use borrow.Author.Needs.{needs}
 use borrow.Author.Tests.{lt-ltb, le-ltb, le-leb, lt-leb, eq-eqb, ne-eqb}
 use lib.Dec.{ltb, leb}
-use Rattle.newick.specs.Laying.{in-range}
-use Rattle.newick.proofs.laying.in_range.Statement.{statement}
-use Rattle.newick.proofs.laying.in_range.Tie as tie
+use Rattle.newick.specs.Names.{in-range}
+use Rattle.newick.proofs.names.in_range.Statement.{statement}
+use Rattle.newick.proofs.names.in_range.Tie as tie
 
 returns : tie.Need-returns
 unfolding in-range

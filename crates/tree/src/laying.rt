@@ -1,0 +1,52 @@
+// Rows of nodes in any order, laid out as a tree table.
+ghost use mathlib.Core.Path.{_≡_};
+ghost use mathlib.Core.List.{[], _∷_};
+ghost use Prim.Native.Nat.{_≤_};
+ghost use lib.ListN.{length, replicate};
+ghost use Rattle.entities.specs.Codes.{absent};
+ghost use Rattle.tree.specs.Laying.{«row-over», «laid-over»};
+use entities::codes;
+
+// No children anywhere.
+fn clear_table(table: &mut [u16])
+    ensures { λ r. ⌜ now (table .exit) ≡ replicate (length (now (table .entry))) absent ⌝ }
+{
+    let mut at = 0;
+    while at < table.len() {
+        table[at] = codes::ABSENT;
+        at += 1;
+    }
+}
+
+// A node's three children put in their place, where the table has it.
+fn lay_row(table: &mut [u16], label: usize, x: u16, y: u16, z: u16)
+    requires { ⌜ label ≤ 65535 ⌝ }
+    ensures { λ r. ⌜ now (table .exit) ≡ row-over (now (table .entry)) label (x ∷ (y ∷ (z ∷ []))) ⌝ }
+{
+    let at = 3 * label;
+    if at + 2 < table.len() {
+        table[at] = x;
+        table[at + 1] = y;
+        table[at + 2] = z;
+    }
+}
+
+// Rows of four, a label and three codes, laid out as a table.
+pub fn lay_rows(rows: &[u16], table: &mut [u16])
+    ensures { λ r. ⌜ now (table .exit) ≡ laid-over (replicate (length (now (table .entry))) absent) (now (rows .entry)) ⌝ }
+{
+    clear_table(table);
+    let count = rows.len() / 4;
+    let mut done = 0;
+    while done < count {
+        let at = 4 * done;
+        lay_row(
+            table,
+            entities::wide(rows[at]),
+            rows[at + 1],
+            rows[at + 2],
+            rows[at + 3],
+        );
+        done += 1;
+    }
+}
