@@ -13,8 +13,8 @@ use Rattle.refusal.specs.declared.Refusal.the-variants.{Modes, TreeLength, Chil
 use Rattle.refusal.specs.Numbers.{placeOf}
 use Rattle.terms.specs.Rows.{terms-of}
 use Rattle.terms.specs.Good.{modes-good, checked}
-use Rattle.terms.specs.declared.given.Checked.{Checked}
-use Rattle.terms.specs.declared.given.Checked.the-variants.{Good, Refused as BadTerms}
+use Rattle.terms.specs.declared.checking.Checked.{Checked}
+use Rattle.terms.specs.declared.checking.Checked.the-variants.{Good, Refused as BadTerms}
 use Rattle.tree.specs.OneTree.{one-tree}
 use Rattle.tree.specs.Pairs.{pairs-right}
 use Rattle.tree.specs.Check.{codes-good, tree-checked}

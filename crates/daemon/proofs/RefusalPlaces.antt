@@ -36,8 +36,8 @@ use Rattle.entities.specs.declared.Triple.{Triple}
 use Rattle.fields.specs.Lines.{lines}
 use Rattle.terms.specs.Rows.{terms-of}
 use Rattle.terms.specs.Good.{modes-good, good-rows, checked}
-use Rattle.terms.specs.declared.given.Checked.{Checked}
-use Rattle.terms.specs.declared.given.Checked.the-variants.{Good, Refused as BadTerms}
+use Rattle.terms.specs.declared.checking.Checked.{Checked}
+use Rattle.terms.specs.declared.checking.Checked.the-variants.{Good, Refused as BadTerms}
 use Rattle.merging.specs.Lawful.{three-open, paired}
 use Rattle.merging.specs.Choice.{weight-in}
 use Rattle.journal.specs.declared.header.Header.{Header}

@@ -11,7 +11,7 @@ use Rattle.lists.proofs.Listed.{length-listed}
 use Rattle.refusal.specs.declared.Refusal.{Refusal}
 use Rattle.refusal.specs.declared.Refusal.the-variants.{TermNumbers, TooManyTerms}
 use Rattle.terms.specs.Good.{checked}
-use Rattle.terms.specs.declared.given.Checked.the-variants.{Refused}
+use Rattle.terms.specs.declared.checking.Checked.the-variants.{Refused}
 use Rattle.journal.specs.Resuming.{with-terms, resumed}
 use Rattle.tree.specs.Check.{tree-checked}
 use Rattle.tree.specs.declared.TreeChecked.{TreeChecked}

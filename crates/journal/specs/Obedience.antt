@@ -7,7 +7,7 @@ use Rattle.entities.specs.declared.Triple.{Triple}
 use Rattle.fields.specs.Lines.{lines}
 use Rattle.terms.specs.Rows.{terms-of}
 use Rattle.terms.specs.Good.{checked}
-use Rattle.terms.specs.declared.given.Checked.the-variants.{Good}
+use Rattle.terms.specs.declared.checking.Checked.the-variants.{Good}
 use Rattle.merging.specs.Lawful.{LawfulHistory}
 use Rattle.merging.specs.Choice.{weight-in}
 use Rattle.merging.specs.Flatpack.{merge-of}

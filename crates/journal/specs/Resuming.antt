@@ -10,8 +10,8 @@ use Rattle.entities.specs.declared.Triple.{Triple}
 use Rattle.fields.specs.Lines.{kept-of}
 use Rattle.terms.specs.Rows.{terms-of}
 use Rattle.terms.specs.Good.{modes-good, checked}
-use Rattle.terms.specs.declared.given.Checked.{Checked}
-use Rattle.terms.specs.declared.given.Checked.the-variants.{Good, Refused as BadTerms}
+use Rattle.terms.specs.declared.checking.Checked.{Checked}
+use Rattle.terms.specs.declared.checking.Checked.the-variants.{Good, Refused as BadTerms}
 use Rattle.merging.specs.Run.{finished, run-weight, trials}
 use Rattle.merging.specs.Flatpack.{flatpack}
 use Rattle.journal.specs.Obeying.{Obeyed, went, refused, obeyed}

@@ -6,7 +6,7 @@ ghost use lib.ListN.{length};
 ghost use Rattle.fields.specs.Lines.{«kept-of»};
 ghost use Rattle.terms.specs.Rows.{Held, «terms-of»};
 ghost use Rattle.terms.specs.Good.{checked};
-ghost use Rattle.terms.specs.declared.given.Checked.the-variants.{Good};
+ghost use Rattle.terms.specs.declared.checking.Checked.the-variants.{Good};
 ghost use Rattle.merging.specs.code.State.{«history-of», Holds};
 ghost use Rattle.journal.specs.Obeying.{obeyed};
 ghost use Rattle.journal.specs.Resuming.{done, ending, «with-journal», «with-terms», resumed, «hatt-run»};
@@ -19,9 +19,9 @@ use merging::flatpack;
 use merging::run::Run;
 use merging::trials;
 use refusal::Refusal;
+use terms::checking;
+use terms::checking::Checked;
 use terms::copying;
-use terms::given;
-use terms::given::Checked;
 
 // The four numbers of a run: greedy weight, trials, kept bytes and new bytes.
 pub struct Numbers {
@@ -38,7 +38,7 @@ pub enum Answer {
 }
 
 // The steps that are left, and then the rows, the new lines and the zeros; nothing can refuse any more.
-fn go_on(
+fn finish_run(
     run: Run,
     own: &mut [u16],
     count: usize,
@@ -84,7 +84,7 @@ fn resume_own(
         Verdict::Refused(why) => Answer::Refused(why),
         Verdict::Fine => {
             let kept = lines::kept_bytes(read);
-            go_on(found.run, own, count, kept, work, rows, journal)
+            finish_run(found.run, own, count, kept, work, rows, journal)
         }
     }
 }
@@ -103,7 +103,7 @@ fn resume_copy(
     requires { ⌜ (8 * count ≤ length (now work)) × (4 * modes ≤ length (now rows)) × (16 + 21 * modes ≤ length (now journal)) ⌝ }
     ensures { λ r. ⌜ Answers (with-journal modes count (terms-of 8 count (now (terms .entry))) (now (read .entry)) (obeyed modes count (terms-of 8 count (now (terms .entry))) (now (read .entry)))) (now (work .entry)) (now (rows .entry)) (now (journal .entry)) (now (work .exit)) (now (rows .exit)) (now (journal .exit)) r ⌝ }
 {
-    let mut own = given::own_copy(terms);
+    let mut own = checking::own_copy(terms);
     resume_own(modes, count, &mut own, read, work, rows, journal)
 }
 
@@ -149,7 +149,7 @@ pub fn resume(
     if 256 < modes {
         return Answer::Refused(Refusal::Modes);
     }
-    match given::check_terms(modes, terms) {
+    match checking::check_terms(modes, terms) {
         Checked::Refused(refusal) => Answer::Refused(refusal),
         Checked::Good(count) => resume_good(modes, count, terms, read, work, rows, journal),
     }

@@ -7,8 +7,8 @@ use lib.ListN.{length, getD, drop}
 use Rattle.lists.specs.Members.{every, leading}
 use Rattle.lists.specs.Ranges.{ascends}
 use Rattle.refusal.specs.declared.Refusal.the-variants.{TermNumbers, TooManyTerms, BadRow}
-use Rattle.terms.specs.declared.given.Checked.{Checked}
-use Rattle.terms.specs.declared.given.Checked.the-variants.{Good, Refused}
+use Rattle.terms.specs.declared.checking.Checked.{Checked}
+use Rattle.terms.specs.declared.checking.Checked.the-variants.{Good, Refused}
 use Rattle.terms.specs.Rows.{rows-of, term}
 
 -- 1: "n is 0 or above 256"; `most` is the 256.

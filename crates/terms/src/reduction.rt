@@ -7,7 +7,7 @@ ghost use Rattle.terms.specs.Reduction.{replacement, «put-in», rewriti
 ghost use Rattle.terms.specs.code.Promises.{Rewritten, RowReduced, Reduced};
 ghost use Rattle.terms.specs.code.Marks.{Marked};
 use crate::copying;
-use crate::keeping;
+use crate::kept_rows;
 use crate::row;
 use entities::Triple;
 
@@ -98,7 +98,7 @@ fn survives<'a>(rows: &'a [u16], kept: usize, marks: &'a [bool], term: &[u16], p
     if row::all_are(term, parent) {
         return false;
     }
-    !keeping::is_kept(rows, kept, marks, term)
+    !kept_rows::is_kept(rows, kept, marks, term)
 }
 
 // One row reduced and, where it stays, put behind the rows kept; how many are kept then.
@@ -123,7 +123,7 @@ fn reduce_row(
     if !survives(rows, kept, marks, row::term_of(&aside), parent) {
         return kept;
     }
-    keeping::keep_row(rows, marks, kept, &aside);
+    kept_rows::keep_row(rows, marks, kept, &aside);
     kept + 1
 }
 

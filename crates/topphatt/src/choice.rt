@@ -85,7 +85,7 @@ fn combine(best: Selection, candidate: Selection) -> Selection
 }
 
 // The best so far against one choice of this weight.
-fn against(node: u16, triple: Triple, weight: usize, best: Selection) -> Selection
+fn better_of(node: u16, triple: Triple, weight: usize, best: Selection) -> Selection
     ensures { λ r. ⌜ ((rows : List (List ℕ)) → weight ≡ weight-of triple rows → r ≡ sought rows node best (triple ∷ [])) ⌝ }
 {
     combine(
@@ -113,7 +113,7 @@ fn best_beside<'a>(
     ensures { λ r. ⌜ r ≡ sought (terms-of 8 live (now (rows .entry))) node best (triple ∷ []) ⌝ }
 {
     let weight = weight::weight_beside(rows, live, odd, triple);
-    against(node, triple, weight, best)
+    better_of(node, triple, weight, best)
 }
 
 // The best so far against the choice whose Z leaf takes this mode, unless it is the pair's.
@@ -190,7 +190,7 @@ fn best_of_pair<'a>(
     ensures { λ r. ⌜ r ≡ sought (terms-of 8 live (now (rows .entry))) node start (with-z (slots .x) (slots .y) (numbers modes (slots .z) (without pair (now (free .entry))))) ⌝ }
 {
     if !slots::unfixed(modes, slots.z) {
-        return against(node, slots, weight::weight(rows, live, slots), start);
+        return better_of(node, slots, weight::weight(rows, live, slots), start);
     }
     let mut odd = [0u8; 2048];
     weight::count_odd(rows, live, slots.x, slots.y, &mut odd);

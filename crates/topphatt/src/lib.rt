@@ -13,9 +13,9 @@ ghost use Rattle.topphatt.specs.Promises.{Assigns};
 ghost use Rattle.topphatt.specs.code.Seeking.{Distances, Tabled};
 use entities::codes;
 use refusal::Refusal;
+use terms::checking;
+use terms::checking::Checked;
 use terms::copying;
-use terms::given;
-use terms::given::Checked;
 use tree::TreeChecked;
 
 mod choice;
@@ -112,7 +112,7 @@ fn assign_terms(
     requires { ⌜ (length (now terms) ≡ 8 * live) × Held 8 live (now terms) ⌝ }
     ensures { λ r. ⌜ Tabled modes (now (tree .entry)) (ended modes (now (tree .entry)) heuristic (terms-of 8 live (now (terms .entry)))) (now (table .entry)) (now (table .exit)) r ⌝ }
 {
-    let mut rows = given::own_copy(terms);
+    let mut rows = checking::own_copy(terms);
     assign_rows(modes, tree, heuristic, &mut rows, live, table)
 }
 
@@ -154,7 +154,7 @@ fn assign_accepted(
     requires { ⌜ (1 ≤ modes) × (modes ≤ 256) × (length (now tree) ≡ 3 * modes) ⌝ }
     ensures { λ r. ⌜ Assigns (with-terms modes (now (tree .entry)) heuristic (now (terms .entry)) (length (now (work .entry))) (length (now (table .entry))) (checked modes (now (terms .entry)))) (now (work .entry)) (now (table .entry)) (now (work .exit)) (now (table .exit)) r ⌝ }
 {
-    match given::check_terms(modes, terms) {
+    match checking::check_terms(modes, terms) {
         Checked::Refused(refusal) => Assigned::Unassigned(refusal),
         Checked::Good(count) => assign_good(modes, tree, heuristic, terms, count, work, table),
     }

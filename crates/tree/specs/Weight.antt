@@ -7,8 +7,8 @@ use lib.ListN.{length}
 use Rattle.lists.specs.Counting.{sum, occurrences}
 use Rattle.terms.specs.Rows.{terms-of}
 use Rattle.terms.specs.Good.{checked}
-use Rattle.terms.specs.declared.given.Checked.{Checked}
-use Rattle.terms.specs.declared.given.Checked.the-variants.{Good, Refused as BadTerms}
+use Rattle.terms.specs.declared.checking.Checked.{Checked}
+use Rattle.terms.specs.declared.checking.Checked.the-variants.{Good, Refused as BadTerms}
 use Rattle.tree.specs.declared.TreeChecked.{TreeChecked}
 use Rattle.tree.specs.declared.TreeChecked.the-variants.{Accepted, Refused}
 use Rattle.tree.specs.declared.TreeWeighed.{TreeWeighed}

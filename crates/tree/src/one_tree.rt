@@ -27,7 +27,7 @@ fn leaves_once(modes: usize, tree: &[u16]) -> bool
 }
 
 // How often a node is to stand in the table: the root nowhere, any other once.
-fn times(node: usize, root: usize) -> usize
+fn times_due(node: usize, root: usize) -> usize
     ensures { λ r. ⌜ r ≡ cond (eqb node root) 0 1 ⌝ }
 {
     if node == root { 0 } else { 1 }
@@ -39,7 +39,7 @@ fn nodes_once(modes: usize, tree: &[u16], root: usize) -> bool
 {
     let mut node = 0;
     while node < modes {
-        if table::count(tree, node) != times(node, root) {
+        if table::count(tree, node) != times_due(node, root) {
             return false;
         }
         node += 1;

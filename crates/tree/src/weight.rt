@@ -12,8 +12,8 @@ ghost use Rattle.tree.specs.Weight.{«edge-under», «node-weight», «r
 use crate::TreeChecked;
 use crate::TreeWeighed;
 use crate::table;
-use terms::given;
-use terms::given::Checked;
+use terms::checking;
+use terms::checking::Checked;
 use terms::row;
 
 // The place of each code below the table's length, so that the way up takes no search.
@@ -132,7 +132,7 @@ pub fn tree_weight(modes: usize, tree: &[u16], terms: &[u16]) -> TreeWeighed
 {
     match crate::check_tree(modes, tree) {
         TreeChecked::Refused(refusal) => TreeWeighed::Unweighed(refusal),
-        TreeChecked::Accepted => match given::check_terms(modes, terms) {
+        TreeChecked::Accepted => match checking::check_terms(modes, terms) {
             Checked::Refused(refusal) => TreeWeighed::Unweighed(refusal),
             Checked::Good(count) => TreeWeighed::Weight(accepted_weight(modes, tree, terms, count)),
         },

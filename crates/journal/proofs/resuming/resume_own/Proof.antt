@@ -25,8 +25,8 @@ enum-told c = search needs
 kept-bytes-requires : tie.Need-kept-bytes-requires
 kept-bytes-requires c κs = search needs
 
-go-on-requires : tie.Need-go-on-requires
-go-on-requires c κs =
+finish-run-requires : tie.Need-finish-run-requires
+finish-run-requires c κs =
     let start = c .before .before .before .before .before .before .before .before .before .before .before .before .before .before .before .before in
     let args = start .args in
     let own = args .own .now in
@@ -77,7 +77,7 @@ returns-2 c =
     answers-so (args .work .now) (args .rows .now) (args .journal .now) _ _ _ _ _ _
     (journal-obeyed (args .modes) (args .count) terms (args .read .now) meant (obey .result .verdict) (obey .result .run) (obey .ensures .comes-to) (told .1)
     ∙ ap (λ n. done (ending n (args .count) terms (args .read .now) (history-of (obey .result .run)))) (sym (obey .ensures .same-modes)))
-    (c .before .before .before .before .before .before .before .before .go-on .ensures terms (args .read .now) (obey .ensures .holds) (length-terms 8 (args .count) own) (c .before .before .before .before .before .before .before .before .before .before .before .before .before .kept-bytes .ensures .0))
+    (c .before .before .before .before .before .before .before .before .finish-run .ensures terms (args .read .now) (obey .ensures .holds) (length-terms 8 (args .count) own) (c .before .before .before .before .before .before .before .before .before .before .before .before .before .kept-bytes .ensures .0))
 
 pub resume-own-spec : {M : Type 1} → statement M
 resume-own-spec =
@@ -87,7 +87,7 @@ resume-own-spec =
     enum-known-verdict
     enum-told
     kept-bytes-requires
-    go-on-requires
+    finish-run-requires
     same-length
     returns
     same-length-2

@@ -15,14 +15,14 @@ unfixed-requires c κs = search needs
 weight-requires : tie.Need-weight-requires
 weight-requires c κs = search needs
 
-against-requires : tie.Need-against-requires
-against-requires c κs = search needs
+better-of-requires : tie.Need-better-of-requires
+better-of-requires c κs = search needs
 
 returns : tie.Need-returns
 unfolding numbers with-z
 returns c =
     let asked = c .before .before in
-    rw (sym (asked .before .unfixed .ensures) ∙ not-true _ (asked .if1 .taken)) (c .against .ensures _ (c .before .weight .ensures .0))
+    rw (sym (asked .before .unfixed .ensures) ∙ not-true _ (asked .if1 .taken)) (c .better-of .ensures _ (c .before .weight .ensures .0))
 
 slice-aggregate-count-odd : tie.Need-slice-aggregate-count-odd
 slice-aggregate-count-odd c = search needs
@@ -54,7 +54,7 @@ best-of-pair-spec =
     (tie.spec
     unfixed-requires
     weight-requires
-    against-requires
+    better-of-requires
     returns
     slice-aggregate-count-odd
     count-odd-requires

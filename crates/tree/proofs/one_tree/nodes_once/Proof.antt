@@ -33,8 +33,8 @@ loop-holds c =
 count-requires : tie.Need-count-requires Inv-loop μ-loop
 count-requires c κs = search needs
 
-times-requires : tie.Need-times-requires Inv-loop μ-loop
-times-requires c κs = search needs
+times-due-requires : tie.Need-times-due-requires Inv-loop μ-loop
+times-due-requires c κs = search needs
 
 returns : tie.Need-returns Inv-loop μ-loop
 returns c =
@@ -42,7 +42,7 @@ returns c =
     sym
     (here .loop .inv .1
     ∙ every-off _ (λ v. v) _ (here .loop .node) (omega arith)
-    (ne-eqb _ _ (λ e. c .if1 .taken (c .before .before .count .ensures ∙ e ∙ sym (c .before .times .ensures)))))
+    (ne-eqb _ _ (λ e. c .if1 .taken (c .before .before .count .ensures ∙ e ∙ sym (c .before .times-due .ensures)))))
 
 add-node : tie.Need-add-node Inv-loop μ-loop
 add-node c = search needs
@@ -56,7 +56,7 @@ loop-again c =
       omega arith,
       here .loop .inv .1
           ∙ every-on _ (λ v. v) _ (here .loop .node) (omega arith)
-          (eq-eqb _ _ (sym (c .before .before .count .ensures) ∙ c .if1 .left ∙ c .before .times .ensures)),
+          (eq-eqb _ _ (sym (c .before .before .count .ensures) ∙ c .if1 .left ∙ c .before .times-due .ensures)),
     )
 
 returns-2 : tie.Need-returns-2 Inv-loop μ-loop
@@ -72,7 +72,7 @@ nodes-once-spec =
     μ-loop
     loop-holds
     count-requires
-    times-requires
+    times-due-requires
     returns
     add-node
     loop-less
