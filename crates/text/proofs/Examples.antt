@@ -34,7 +34,7 @@ use Rattle.newick.specs.Grammar.{spelled}
 use Rattle.newick.specs.Writing.{end-shape, shape-under, newick-text}
 use Rattle.newick.specs.Calls.{written-as, newick-written}
 use Rattle.text.specs.Input.{modes-word, term-word, modes-line, term-line, well-formed, formed-from, formed, term-row, whole, said}
-use Rattle.text.specs.Running.{ended, ran-by, ran}
+use Rattle.text.specs.Running.{program-rooms, ended, ran-by, ran}
 use Rattle.text.specs.Output.{
   line-of,
   weight-word,
@@ -98,8 +98,8 @@ both-refuse text number place = record { reads = text; prints = refused number p
 -- The definitions print for the text what the case claims, with 256 modes and 2048 terms at most and room for them.
 unfoldable pub right : Case → Bool
 right case =
-    alike (answer-text 256 2048 16384 1024 5392 (case .reads)) (case .prints)
-    && alike (newick-answer-text 256 2048 16384 1024 5392 8191 (case .reads)) (case .draws)
+    alike (answer-text program-rooms (case .reads)) (case .prints)
+    && alike (newick-answer-text program-rooms 8191 (case .reads)) (case .draws)
 
 unfoldable pub examples : List Case
 examples =

@@ -21,7 +21,7 @@ use Rattle.text.specs.declared.input.Said.{Said}
 use Rattle.text.specs.declared.input.Said.the-variants.{Given, Malformed}
 use Rattle.text.specs.declared.input.Terms.{Terms}
 use Rattle.text.specs.Input.{modes-line, well-formed, formed-from, formed, whole, said, given, malformed}
-use Rattle.text.specs.Running.{stopped, ended, ran-by, ran}
+use Rattle.text.specs.Running.{stopped, Rooms, ran-by, ran}
 use Rattle.text.specs.code.Reading.{modes-said, all-terms, TermsRead, meant-by, terms-given, Reads}
 
 eqb-behind : (n a b : ℕ) → eqb (n + a) (n + b) ≡ eqb a b
@@ -142,16 +142,14 @@ module _ (most : ℕ) (text numbers : List ℕ) (r : Said) (reads : Reads most (
     unfolding terms-given
     given-few = rw e at (reads .few)
 
-    pub given-ran : (modes-most work rows journal : ℕ)
-        → ended (hatt-run modes-most n (take (8 * count) numbers) work rows journal) ≡ ran modes-most most work rows journal text
+    pub given-ran : (rooms : Rooms) → rooms .terms ≡ most → ran-by rooms (given n (take (8 * count) numbers)) ≡ ran rooms text
     unfolding ran ran-by meant-by
-    given-ran modes-most work rows journal =
+    given-ran rooms fits =
         let says : given n (take (8 * count) numbers) ≡ said most text = rw e at (reads .says) in
-        rw (← says)
+        rw (fits, ← says)
 
-  pub malformed-ran : (line : ℕ) → r ≡ Malformed line → (modes-most work rows journal : ℕ)
-      → stopped (Badly line) ≡ ran modes-most most work rows journal text
+  pub malformed-ran : (line : ℕ) → r ≡ Malformed line → (rooms : Rooms) → rooms .terms ≡ most → stopped (Badly line) ≡ ran rooms text
   unfolding ran ran-by meant-by
-  malformed-ran line e modes-most work rows journal =
+  malformed-ran line e rooms fits =
       let says : malformed line ≡ said most text = rw e at (reads .says) in
-      rw (← says)
+      rw (fits, ← says)

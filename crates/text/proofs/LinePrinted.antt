@@ -25,7 +25,7 @@ use Rattle.newick.specs.Calls.{written-as, newick-written, text-after}
 use Rattle.text.specs.declared.running.Ran.{Ran}
 use Rattle.text.specs.declared.running.Ran.the-variants.{Done, Refused}
 use Rattle.text.specs.code.Runs.{ended-as, Runs}
-use Rattle.text.specs.Running.{Ended, came}
+use Rattle.text.specs.Running.{Ended, came, Rooms}
 use Rattle.text.specs.Output.{refusal-text}
 use Rattle.text.specs.NewickLine.{line-as, table-line, newick-printed, newick-answer-text}
 use Rattle.text.proofs.LongInput.{cut-runs}
@@ -110,8 +110,7 @@ module _ (most room : ℕ) (means : Ended) (rows : List ℕ) (r : Ran) (runs : R
       ap (λ n. table-line most room n (laid n front)) size ∙ ap (newick-printed most room) says
 
 -- A text cut behind the longest well-formed one is answered as the whole text is.
-pub cut-newick : (modes-most most work rows journal room cut : ℕ) (text : List ℕ) → 12 + 47 * most < cut
-    → newick-answer-text modes-most most work rows journal room (take cut text) ≡ newick-answer-text modes-most most work rows journal room text
+pub cut-newick : (rooms : Rooms) (line cut : ℕ) (text : List ℕ) → 12 + 47 * rooms .terms < cut
+    → newick-answer-text rooms line (take cut text) ≡ newick-answer-text rooms line text
 unfolding newick-answer-text
-cut-newick modes-most most work rows journal room cut text h =
-    ap (newick-printed modes-most room) (cut-runs modes-most most work rows journal cut text h)
+cut-newick rooms line cut text h = ap (newick-printed (rooms .modes) line) (cut-runs rooms cut text h)

@@ -21,7 +21,7 @@ use Rattle.fields.proofs.Tabbed.{tabbed-fields}
 use Rattle.fields.proofs.LinesJoined.{lines-joined, kept-line, lines-one, lines-are-lines, line-cut}
 use Rattle.fields.proofs.LineSteps.{first-line-stands, next-line, no-next-line}
 use Rattle.text.specs.Input.{modes-word, term-word, modes-line, term-line, well-formed, formed-from, formed, whole, said, malformed}
-use Rattle.text.specs.Running.{ran-by, ran}
+use Rattle.text.specs.Running.{Rooms, ran-by, ran}
 use Rattle.text.specs.Output.{printed, answer-text}
 
 -- A number has five digits at most.
@@ -198,12 +198,10 @@ cut-says most cut text h = go (ltb cut (length text)) refl
     go false e = ap (said most) (take-all cut text (ltb-false cut (length text) e))
 
 -- And its run ends as that of the whole text does: a buffer of that many bytes and one is enough for an input of any length.
-pub cut-runs : (modes-most most work rows journal cut : ℕ) (text : List ℕ) → 12 + 47 * most < cut
-    → ran modes-most most work rows journal (take cut text) ≡ ran modes-most most work rows journal text
+pub cut-runs : (rooms : Rooms) (cut : ℕ) (text : List ℕ) → 12 + 47 * rooms .terms < cut → ran rooms (take cut text) ≡ ran rooms text
 unfolding ran
-cut-runs modes-most most work rows journal cut text h = ap (ran-by modes-most work rows journal) (cut-says most cut text h)
+cut-runs rooms cut text h = ap (ran-by rooms) (cut-says (rooms .terms) cut text h)
 
-pub cut-answers : (modes-most most work rows journal cut : ℕ) (text : List ℕ) → 12 + 47 * most < cut
-    → answer-text modes-most most work rows journal (take cut text) ≡ answer-text modes-most most work rows journal text
+pub cut-answers : (rooms : Rooms) (cut : ℕ) (text : List ℕ) → 12 + 47 * rooms .terms < cut → answer-text rooms (take cut text) ≡ answer-text rooms text
 unfolding answer-text
-cut-answers modes-most most work rows journal cut text h = ap printed (cut-runs modes-most most work rows journal cut text h)
+cut-answers rooms cut text h = ap printed (cut-runs rooms cut text h)

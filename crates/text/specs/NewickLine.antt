@@ -6,7 +6,7 @@ use Rattle.newick.specs.declared.writing.NewickWritten.{NewickWritten}
 use Rattle.newick.specs.declared.writing.NewickWritten.the-variants.{Written, Unwritten}
 use Rattle.newick.specs.Writing.{newick-text}
 use Rattle.newick.specs.Calls.{newick-written}
-use Rattle.text.specs.Running.{Ended, came, stopped, ran}
+use Rattle.text.specs.Running.{Ended, came, stopped, Rooms, ran}
 use Rattle.text.specs.Output.{refusal-text}
 
 -- What writing came to: the text and LF behind it, or its refusal.
@@ -23,7 +23,6 @@ unfoldable pub newick-printed : ℕ → ℕ → Ended → List ℕ
 newick-printed most room (came weight trials rows) = table-line most room (modes-in rows) (laid (modes-in rows) rows)
 newick-printed most room (stopped refusal) = refusal-text refusal
 
--- The program's answer to a text: with so many modes and terms at most, and so much room of its own for work, rows, journal and line.
-unfoldable pub newick-answer-text : ℕ → ℕ → ℕ → ℕ → ℕ → ℕ → List ℕ → List ℕ
-newick-answer-text modes-most most work rows journal room bytes =
-    newick-printed modes-most room (ran modes-most most work rows journal bytes)
+-- The program's answer to a text, in these rooms and with so many bytes for the line.
+unfoldable pub newick-answer-text : Rooms → ℕ → List ℕ → List ℕ
+newick-answer-text rooms line bytes = newick-printed (rooms .modes) line (ran rooms bytes)

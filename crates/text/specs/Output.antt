@@ -10,7 +10,7 @@ use Rattle.entities.specs.Codes.{absent}
 use Rattle.fields.specs.Decimal.{decimal}
 use Rattle.fields.specs.Fields.{tabbed}
 use Rattle.terms.specs.Rows.{rows-of}
-use Rattle.text.specs.Running.{Ended, came, stopped, ran}
+use Rattle.text.specs.Running.{Ended, came, stopped, Rooms, ran}
 
 -- A line: fields parted by tabs, and LF.
 unfoldable pub line-of : List (List ℕ) → List ℕ
@@ -56,6 +56,6 @@ unfoldable pub printed : Ended → List ℕ
 printed (came weight trials rows) = done-text weight trials rows
 printed (stopped refusal) = refusal-text refusal
 
--- The program's answer to a text: with so many modes and terms at most, and so much room of its own for work, rows and journal.
-unfoldable pub answer-text : ℕ → ℕ → ℕ → ℕ → ℕ → List ℕ → List ℕ
-answer-text modes-most most work rows journal bytes = printed (ran modes-most most work rows journal bytes)
+-- The program's answer to a text, in these rooms.
+unfoldable pub answer-text : Rooms → List ℕ → List ℕ
+answer-text rooms bytes = printed (ran rooms bytes)

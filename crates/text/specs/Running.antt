@@ -1,6 +1,6 @@
 -- What a program's text asks for: "The program `hatt` reads standard input …", and 18 "before any other number".
 use mathlib.Core.List.{List}
-use Prim.Native.Nat.{ℕ}
+use Prim.Native.Nat.{ℕ, _+_, _*_}
 use Rattle.refusal.specs.declared.Refusal.{Refusal}
 use Rattle.refusal.specs.declared.Refusal.the-variants.{Malformed}
 use Rattle.journal.specs.Resuming.{Outcome, done, refuses, hatt-run}
@@ -15,11 +15,23 @@ unfoldable pub ended : Outcome → Ended
 ended (done ending) = came (ending .weight) (ending .trials) (ending .rows)
 ended (refuses refusal) = stopped refusal
 
--- 18 is "before any other number".
-unfoldable pub ran-by : ℕ → ℕ → ℕ → ℕ → Said → Ended
-ran-by modes-most work rows journal (given modes numbers) = ended (hatt-run modes-most modes numbers work rows journal)
-ran-by modes-most work rows journal (malformed line) = stopped (Malformed line)
+-- What a program has room for: the most modes and terms, and how many numbers and bytes of its own for work, rows and journal.
+pub record Rooms : Type 0 where
+  pub modes : ℕ
+  pub terms : ℕ
+  pub work : ℕ
+  pub rows : ℕ
+  pub journal : ℕ
 
--- A text's run: with so many modes and terms at most, and so much room of its own for work, rows and journal.
-unfoldable pub ran : ℕ → ℕ → ℕ → ℕ → ℕ → List ℕ → Ended
-ran modes-most most work rows journal bytes = ran-by modes-most work rows journal (said most bytes)
+-- "Modes n: 1 to 256. … Terms T: 0 to 2048"; "Room: work 8T numbers; rows 4n; … journal bytes 16 + 21n."
+abbrev pub program-rooms : Rooms
+program-rooms = record { modes = 256; terms = 2048; work = 8 * 2048; rows = 4 * 256; journal = 16 + 21 * 256 }
+
+-- 18 is "before any other number".
+unfoldable pub ran-by : Rooms → Said → Ended
+ran-by rooms (given modes numbers) = ended (hatt-run (rooms .modes) modes numbers (rooms .work) (rooms .rows) (rooms .journal))
+ran-by rooms (malformed line) = stopped (Malformed line)
+
+-- A text's run in these rooms.
+unfoldable pub ran : Rooms → List ℕ → Ended
+ran rooms bytes = ran-by rooms (said (rooms .terms) bytes)

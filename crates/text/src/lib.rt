@@ -2,6 +2,7 @@
 ghost use mathlib.Core.Path.{_≡_};
 ghost use Prim.Native.Nat.{_≤_};
 ghost use lib.ListN.{length, take};
+ghost use Rattle.text.specs.Running.{«program-rooms»};
 ghost use Rattle.text.specs.Output.{«answer-text»};
 
 mod input;
@@ -20,7 +21,7 @@ pub struct Printed {
 // The answer to a text printed over the front, in lent room for its rows; how many bytes that is.
 fn print_answer(input: &[u8], rows: &mut [u16], out: &mut [u8]) -> usize
     requires { ⌜ (length (now rows) ≡ 1024) × (length (now out) ≡ 8192) ⌝ }
-    ensures { λ r. ⌜ (take r (now (out .exit)) ≡ answer-text 256 2048 16384 1024 5392 (now (input .entry))) × (r ≤ 8192) ⌝ }
+    ensures { λ r. ⌜ (take r (now (out .exit)) ≡ answer-text program-rooms (now (input .entry))) × (r ≤ 8192) ⌝ }
 {
     match running::run_text(input, rows) {
         Ran::Refused(refusal) => output::put_refusal(out, refusal),
@@ -34,7 +35,7 @@ fn print_answer(input: &[u8], rows: &mut [u16], out: &mut [u8]) -> usize
 // The same in room of its own.
 fn put_answer(input: &[u8], out: &mut [u8]) -> usize
     requires { ⌜ length (now out) ≡ 8192 ⌝ }
-    ensures { λ r. ⌜ (take r (now (out .exit)) ≡ answer-text 256 2048 16384 1024 5392 (now (input .entry))) × (r ≤ 8192) ⌝ }
+    ensures { λ r. ⌜ (take r (now (out .exit)) ≡ answer-text program-rooms (now (input .entry))) × (r ≤ 8192) ⌝ }
 {
     let mut rows = [0u16; 1024];
     print_answer(input, &mut rows, out)
@@ -42,7 +43,7 @@ fn put_answer(input: &[u8], out: &mut [u8]) -> usize
 
 // The program's answer to a text.
 pub fn answer(input: &[u8]) -> Printed
-    ensures { λ r. ⌜ take (r .count) (r .bytes) ≡ answer-text 256 2048 16384 1024 5392 (now (input .entry)) ⌝ }
+    ensures { λ r. ⌜ take (r .count) (r .bytes) ≡ answer-text program-rooms (now (input .entry)) ⌝ }
     ensures { λ r. ⌜ (r .count ≤ 8192) × (length (r .bytes) ≡ 8192) ⌝ }
 {
     let mut bytes = [0u8; 8192];

@@ -5,6 +5,7 @@ ghost use lib.ListN.{length, take};
 ghost use Rattle.tree.specs.Laying.{laid};
 ghost use Rattle.newick.specs.Writing.{«newick-text»};
 ghost use Rattle.newick.specs.Calls.{«newick-written», «text-after»};
+ghost use Rattle.text.specs.Running.{«program-rooms»};
 ghost use Rattle.text.specs.NewickLine.{«table-line», «newick-answer-text»};
 use crate::Printed;
 use crate::output;
@@ -58,7 +59,7 @@ fn put_rows(out: &mut [u8], modes: usize, rows: &[u16], table: &mut [u16]) -> us
 // The answer to a text printed over the front, in lent room for its rows and its table; how many bytes that is.
 fn print_newick(input: &[u8], rows: &mut [u16], table: &mut [u16], out: &mut [u8]) -> usize
     requires { ⌜ (length (now rows) ≡ 1024) × (length (now table) ≡ 768) × (length (now out) ≡ 8192) ⌝ }
-    ensures { λ r. ⌜ (take r (now (out .exit)) ≡ newick-answer-text 256 2048 16384 1024 5392 8191 (now (input .entry))) × (r ≤ 8192) ⌝ }
+    ensures { λ r. ⌜ (take r (now (out .exit)) ≡ newick-answer-text program-rooms 8191 (now (input .entry))) × (r ≤ 8192) ⌝ }
 {
     match running::run_text(input, rows) {
         Ran::Refused(refusal) => output::put_refusal(out, refusal),
@@ -72,7 +73,7 @@ fn print_newick(input: &[u8], rows: &mut [u16], table: &mut [u16], out: &mut [u8
 // The same in room of its own.
 fn put_newick(input: &[u8], out: &mut [u8]) -> usize
     requires { ⌜ length (now out) ≡ 8192 ⌝ }
-    ensures { λ r. ⌜ (take r (now (out .exit)) ≡ newick-answer-text 256 2048 16384 1024 5392 8191 (now (input .entry))) × (r ≤ 8192) ⌝ }
+    ensures { λ r. ⌜ (take r (now (out .exit)) ≡ newick-answer-text program-rooms 8191 (now (input .entry))) × (r ≤ 8192) ⌝ }
 {
     let mut rows = [0u16; 1024];
     let mut table = [0u16; 768];
@@ -81,7 +82,7 @@ fn put_newick(input: &[u8], out: &mut [u8]) -> usize
 
 // The answer to a text as a Newick line.
 pub fn answer_newick(input: &[u8]) -> Printed
-    ensures { λ r. ⌜ take (r .count) (r .bytes) ≡ newick-answer-text 256 2048 16384 1024 5392 8191 (now (input .entry)) ⌝ }
+    ensures { λ r. ⌜ take (r .count) (r .bytes) ≡ newick-answer-text program-rooms 8191 (now (input .entry)) ⌝ }
     ensures { λ r. ⌜ (r .count ≤ 8192) × (length (r .bytes) ≡ 8192) ⌝ }
 {
     let mut bytes = [0u8; 8192];

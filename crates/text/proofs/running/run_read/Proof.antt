@@ -1,11 +1,12 @@
 -- What was read says what the text says: it is malformed, or its terms are run.
-use mathlib.Core.Path.{sym}
+use mathlib.Core.Path.{refl, sym}
 use Prim.Native.Nat.{_*_, _≤_}
 use native.Mathlib.Omega.{arith}
 use borrow.Author.Needs.{needs}
 use lib.Seq.{length-take-le}
 use lib.ListN.{length}
 use Rattle.refusal.specs.declared.Refusal.the-variants.{Malformed}
+use Rattle.text.specs.Running.{program-rooms}
 use Rattle.text.proofs.InputSaid.{given-few, given-ran, malformed-ran}
 use Rattle.text.proofs.RunEnds.{stopped-runs, same-runs}
 use Rattle.text.proofs.running.run_read.Statement.{statement}
@@ -53,7 +54,7 @@ returns c =
     let start = c .before .before .before .before .before .before .before .before .before .before in
     let read = c .before .before .before .before .before .read-input in
     let told = c .before .line .given in
-    stopped-runs 256 _ _ (Malformed (told .0 .0)) (malformed-ran 2048 (start .args .input .now) _ _ (read .ensures) _ (told .1) 256 16384 1024 5392)
+    stopped-runs 256 _ _ (Malformed (told .0 .0)) (malformed-ran 2048 (start .args .input .now) _ _ (read .ensures) _ (told .1) program-rooms refl)
 
 same-length-2 : tie.Need-same-length-2
 same-length-2 c = search needs
@@ -66,7 +67,7 @@ returns-2 c =
     let start = c .before .before .before .before .before .before .before .before .before .before .before .before .before .before .before in
     let read = c .before .before .before .before .before .before .before .before .before .before .read-input in
     let told = c .before .before .before .before .before .before .modes .given in
-    same-runs 256 _ _ _ _ (given-ran 2048 (start .args .input .now) _ _ (read .ensures) _ _ (told .1) 256 16384 1024 5392) (c .before .before .run-given .ensures)
+    same-runs 256 _ _ _ _ (given-ran 2048 (start .args .input .now) _ _ (read .ensures) _ _ (told .1) program-rooms refl) (c .before .before .run-given .ensures)
 
 pub run-read-spec : {M : Type 1} → statement M
 run-read-spec =

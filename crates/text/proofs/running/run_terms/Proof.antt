@@ -1,6 +1,7 @@
 -- The answer is a refusal, or a run whose rows stand in front: either way it says what the definitions end in.
 use mathlib.Core.Path.{sym, _∙_}
 use borrow.Author.Needs.{needs}
+use Rattle.text.specs.Running.{ran-by}
 use Rattle.text.proofs.RunEnds.{refused-runs, done-runs}
 use Rattle.text.proofs.running.run_terms.Statement.{statement}
 use Rattle.text.proofs.running.run_terms.Tie as tie
@@ -24,6 +25,7 @@ same-length-3 : tie.Need-same-length-3
 same-length-3 c = search needs
 
 returns : tie.Need-returns
+unfolding ran-by
 returns c =
     let start = c .before .before .before .before .before .before .before .before .before .before .before .before .before .before .before .before .before in
     let hatt = c .before .before .before .before .before .before .before .before .before .hatt in
@@ -41,6 +43,7 @@ same-length-6 : tie.Need-same-length-6
 same-length-6 c = search needs
 
 returns-2 : tie.Need-returns-2
+unfolding ran-by
 returns-2 c =
     let start = c .before .before .before .before .before .before .before .before .before .before .before .before .before .before .before .before .before in
     let hatt = c .before .before .before .before .before .before .before .before .before .hatt in
