@@ -1,6 +1,7 @@
 //! Times HATT and assign on the same input by the proved library, ferrmion's Rust and the plain program; prints medians of five and ratios.
 
-use cases::{any_tree, flat, terms, Random, Shape};
+use compare::cases::{any_tree, flat, terms, Random, Shape};
+use compare::proved;
 use std::hint::black_box;
 
 /// Runs of each; the median of them counts.

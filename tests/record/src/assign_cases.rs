@@ -1,6 +1,6 @@
 //! The assign inputs that are recorded, each under all three heuristics.
 
-use cases::{any_terms, permute_labels, tree, tree_of_rows, Growth, Random, ABSENT};
+use compare::cases::{any_terms, permute_labels, tree, tree_of_rows, Growth, Random, ABSENT};
 
 pub struct AssignCase {
     pub kind: &'static str,

@@ -1,6 +1,6 @@
 //! The HATT inputs that are recorded.
 
-use cases::{terms, Random, Shape, SHAPES};
+use compare::cases::{terms, Random, Shape, SHAPES};
 
 pub struct HattCase {
     pub kind: &'static str,

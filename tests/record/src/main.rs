@@ -6,6 +6,7 @@ mod tally;
 mod tree_cases;
 mod write;
 
+use compare::cases::flat;
 use std::path::Path;
 use std::{env, fs, io};
 use tally::Tally;
@@ -50,7 +51,7 @@ fn record_assign(path: &Path) -> io::Result<()> {
 fn record_tree(path: &Path) -> io::Result<()> {
     let (mut text, mut kinds, mut marks) = (String::new(), Tally::default(), Tally::default());
     for case in tree_cases::all() {
-        let answer = plain::tree_weight(case.modes, &case.tree, &cases::flat(&case.terms));
+        let answer = plain::tree_weight(case.modes, &case.tree, &flat(&case.terms));
         write::tree_case(&mut text, &case, &answer);
         kinds.count("all");
         kinds.count(case.kind);

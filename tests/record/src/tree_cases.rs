@@ -1,6 +1,8 @@
 //! The tree tables that are recorded, good and damaged, each with good terms.
 
-use cases::{any_terms, any_tree, change_length, exchange_codes, replace_code, Random, ABSENT};
+use compare::cases::{
+    any_terms, any_tree, change_length, exchange_codes, replace_code, Random, ABSENT,
+};
 
 pub struct TreeCase {
     pub kind: &'static str,

@@ -1,9 +1,9 @@
-//! A case and its answer as lines of text, in the form that tests/answers/README.md gives.
+//! A case and its answer as lines of text, in the form that tests/record/README.md gives.
 
 use crate::assign_cases::AssignCase;
 use crate::hatt_cases::HattCase;
 use crate::tree_cases::TreeCase;
-use cases::ABSENT;
+use compare::cases::ABSENT;
 
 /// Writes a HATT case: modes, terms, weight and the rows in their order.
 pub fn hatt_case(text: &mut String, case: &HattCase, answer: &(Vec<[u16; 4]>, usize)) {

@@ -1,0 +1,48 @@
+//! Compares the plain program with the oracle on seeded inputs, and its journals with themselves and the proved library; prints counts by kind.
+
+mod bounds;
+mod calls;
+mod cuts;
+mod damage;
+mod invariants;
+mod judge;
+mod refused;
+mod rust;
+mod tally;
+
+use compare::cases::Random;
+use tally::Tally;
+
+/// The seed that is used when none is given.
+const SEED: u64 = 1;
+
+fn main() {
+    let given = std::env::args().nth(1);
+    let seed = given.map_or(SEED, |text| text.parse().expect("the seed is a number"));
+    println!("seed {seed}");
+    let mut tally = Tally::default();
+    let parts = [
+        rust::hatt_on_small,
+        rust::hatt_on_large,
+        rust::assign_on_small,
+        rust::assign_on_large,
+        cuts::cut_everywhere,
+        cuts::wander,
+        damage::damage_everywhere,
+        bounds::boundaries,
+        refused::assign_refused,
+        rust::hatt_on_every,
+        rust::hatt_on_counts,
+        rust::hatt_on_all_short,
+        rust::assign_on_every,
+    ];
+    // Each part has its own seed, so that a change to one leaves the inputs of the others alone.
+    for (number, part) in parts.iter().enumerate() {
+        let mut random = Random::new(seed.wrapping_mul(1000) + number as u64);
+        part(&mut random, &mut tally);
+    }
+    print!("{tally}");
+    if tally.disagreed() {
+        std::process::exit(1);
+    }
+}
