@@ -17,8 +17,22 @@ impl<R: Ord + Debug> Kinds<R> {
         Kinds(vec![])
     }
 
-    /// Counts one case.
-    pub fn count(&mut self, kind: &'static str, refused: R, agreed: bool) {
+    /// Counts one case by what the two sides answered to it, and prints it where they differ.
+    pub fn compare<A: PartialEq + Debug>(
+        &mut self,
+        kind: &'static str,
+        refused: R,
+        [ours, plainly]: [A; 2],
+        input: impl FnOnce() -> String,
+    ) {
+        let agreed = ours == plainly;
+        self.count(kind, refused, agreed);
+        if !agreed {
+            println!("{kind}: {}: ours {ours:?}, plain {plainly:?}", input());
+        }
+    }
+
+    fn count(&mut self, kind: &'static str, refused: R, agreed: bool) {
         let place = self.0.iter().position(|(name, _)| *name == kind);
         let place = place.unwrap_or_else(|| {
             self.0.push((kind, Tally::new()));

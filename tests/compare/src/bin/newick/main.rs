@@ -13,11 +13,9 @@ use judges::{ours, plainly, Case};
 fn main() {
     let mut kinds = Kinds::new();
     let mut ask = |kind, case: Case| {
-        let (ours, plainly) = (ours(case), plainly(case));
-        kinds.count(kind, plainly.refused_by(), ours == plainly);
-        if ours != plainly {
-            println!("{kind}: {case:?}: ours {ours:?}, plain {plainly:?}");
-        }
+        let sides = [ours(case), plainly(case)];
+        let refused = sides[1].refused_by();
+        kinds.compare(kind, refused, sides, || format!("{case:?}"));
     };
     trees::each(&mut ask);
     texts::each(&mut ask);

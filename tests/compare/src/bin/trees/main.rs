@@ -9,12 +9,12 @@ use judges::{ours, plainly};
 fn main() {
     let mut kinds = Kinds::new();
     tables::each(&mut |kind, modes, tree, terms| {
-        let (ours, plainly) = (ours(modes, tree, terms), plainly(modes, tree, terms));
-        // the refusals of the check and of the weight
-        kinds.count(kind, (plainly[0], plainly[3]), ours == plainly);
-        if ours != plainly {
-            println!("{kind}: modes {modes}, tree {tree:?}, terms {terms:?}: ours {ours:?}, plain {plainly:?}");
-        }
+        let sides = [ours(modes, tree, terms), plainly(modes, tree, terms)];
+        // by the plain program: of the check and of the weight
+        let refused = (sides[1][0][0], sides[1][1][0]);
+        kinds.compare(kind, refused, sides, || {
+            format!("modes {modes}, tree {tree:?}, terms {terms:?}")
+        });
     });
     assert_eq!(kinds.print("check and weight refused by"), 0);
 }
