@@ -5,8 +5,6 @@ mod common;
 use common::*;
 use plain::Done;
 
-const ABSENT: u16 = 65535;
-
 #[test]
 fn p1() {
     let answer = accepted(1, &flat(&[&[0, 1]]), "");

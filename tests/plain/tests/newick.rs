@@ -6,7 +6,6 @@ use common::*;
 use plain::{read_newick, write_newick, Refusal};
 
 const P3_NEWICK: &str = "((m0,m1,m2)n0,m3,e)n1;";
-const ABSENT: u16 = 65535;
 
 /// Writes into so many bytes. A refusal must alter nothing; a success returns the text.
 fn written(modes: usize, tree: &[u16], room: usize) -> Result<String, (u16, usize)> {
@@ -43,6 +42,13 @@ fn read(text: &str, room: usize) -> Result<Vec<u16>, (u16, usize)> {
 /// What a text is refused by where the table has room for any.
 fn refused(text: &str) -> (u16, usize) {
     read(text, 769).expect_err(text)
+}
+
+/// Each text is refused by 19 at its place.
+fn nineteen_at(texts: &[(&str, usize)]) {
+    for &(text, place) in texts {
+        assert_eq!(refused(text), (19, place), "{text:?}");
+    }
 }
 
 #[test]
@@ -118,9 +124,7 @@ fn nineteen_at_a_byte() {
         ("('m0',m1,e)n0;", 1),
         ("(m-1,m1,e)n0;", 2),
     ];
-    for (text, place) in texts {
-        assert_eq!(refused(text), (19, place), "{text:?}");
-    }
+    nineteen_at(&texts);
 }
 
 /// "numbers as in the journal": no leading zero, at most 65535.
@@ -136,9 +140,7 @@ fn nineteen_in_a_number() {
         ("(m100000,m1,e)n0;", 7),
         ("(m0,m1,e)n65536;", 14),
     ];
-    for (text, place) in texts {
-        assert_eq!(refused(text), (19, place), "{text:?}");
-    }
+    nineteen_at(&texts);
 }
 
 /// A chain of so many nodes by the X child, up to the last node's first child; and the rest of it.

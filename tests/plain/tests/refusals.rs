@@ -5,10 +5,17 @@ mod common;
 use common::*;
 use plain::{check_tree, tree_weight, Refusal};
 
-const ABSENT: u16 = 65535;
-
 fn header_and(line: &str) -> String {
     format!("hatt\t1\t2\t3\n{line}")
+}
+
+/// Each line, in a journal between these others, is refused by its number.
+fn each_is_refused(before: &str, lines: &[(&str, u16)], after: &str) {
+    let place = 1 + before.lines().count();
+    for &(line, number) in lines {
+        let read = header_and(&format!("{before}{line}\n{after}"));
+        assert_eq!(refused(2, &p3(), &read), (number, place), "{line:?}");
+    }
 }
 
 fn tree_refusal(modes: usize, tree: &[u16]) -> (u16, usize) {
@@ -184,10 +191,7 @@ fn eight_to_eleven() {
         ("0\t0\t1\t2\t3", 11),
         ("0\t0\t1\t4\t65535", 11),
     ];
-    for (line, number) in cases {
-        let read = header_and(&format!("{line}\nx\n"));
-        assert_eq!(refused(2, &p3(), &read), (number, 1), "{line:?}");
-    }
+    each_is_refused("", &cases, "x\n");
 }
 
 /// After the first merge its children are closed and its parent, 5, is open.
@@ -202,10 +206,7 @@ fn eight_to_eleven_on_a_later_line() {
         ("1\t5\t4\t3\t2", 10),
         ("1\t5\t3\t4\t3", 11),
     ];
-    for (line, number) in cases {
-        let read = header_and(&format!("0\t0\t1\t2\t2\n{line}\n"));
-        assert_eq!(refused(2, &p3(), &read), (number, 2), "{line:?}");
-    }
+    each_is_refused("0\t0\t1\t2\t2\n", &cases, "");
 }
 
 /// "12 comes before 6 on its line", and "the first bad journal line wins".

@@ -6,11 +6,14 @@ use plain::{Done, Refusal};
 pub const MARK: u16 = 43690;
 pub const BYTE_MARK: u8 = 170;
 
+/// The code of the one absent child.
+pub const ABSENT: u16 = 65535;
+
 /// P3's terms: rows 01, 23, 0123.
 pub const P3_ROWS: [&[u16]; 3] = [&[0, 1], &[2, 3], &[0, 1, 2, 3]];
 pub const P3_JOURNAL: &str = "hatt\t1\t2\t3\n0\t0\t1\t2\t2\n1\t5\t3\t4\t2\n";
 /// P3's tree by labels: 2,3,4; 0,5,-.
-pub const P3_TREE: [u16; 6] = [2, 3, 4, 0, 5, 65535];
+pub const P3_TREE: [u16; 6] = [2, 3, 4, 0, 5, ABSENT];
 
 pub fn flat(rows: &[&[u16]]) -> Vec<u16> {
     let mut terms = Vec::new();
