@@ -11,6 +11,7 @@ mod rust;
 mod tally;
 
 use compare::cases::Random;
+use rust::{assign, hatt, short};
 use tally::Tally;
 
 /// The seed that is used when none is given.
@@ -22,19 +23,19 @@ fn main() {
     println!("seed {seed}");
     let mut tally = Tally::default();
     let parts = [
-        rust::hatt_on_small,
-        rust::hatt_on_large,
-        rust::assign_on_small,
-        rust::assign_on_large,
+        hatt::on_small,
+        hatt::on_large,
+        assign::on_small,
+        assign::on_large,
         cuts::cut_everywhere,
         cuts::wander,
         damage::damage_everywhere,
         bounds::boundaries,
         refused::assign_refused,
-        rust::hatt_on_every,
-        rust::hatt_on_counts,
-        rust::hatt_on_all_short,
-        rust::assign_on_every,
+        hatt::on_every,
+        hatt::on_counts,
+        short::on_all_short,
+        assign::on_every,
     ];
     // Each part has its own seed, so that a change to one leaves the inputs of the others alone.
     for (number, part) in parts.iter().enumerate() {

@@ -2,51 +2,68 @@
 
 use crate::calls::assign_in;
 use crate::tally::Tally;
-use compare::cases::{
-    any_terms, any_tree, change_length, exchange_codes, flat, replace_code, Random,
-};
+use compare::cases::{any_terms, any_tree, flat, Random};
+use compare::cases::{change_length, exchange_codes, replace_code};
+
+/// What a call is given; the rooms are those of work and table.
+#[derive(Debug)]
+struct Given {
+    modes: usize,
+    tree: Vec<u16>,
+    heuristic: usize,
+    terms: Vec<u16>,
+    rooms: (usize, usize),
+}
 
 /// Good trees and terms of 1 to 6 modes, each damaged in some of these ways at once, so that the order of refusals shows.
 pub fn assign_refused(random: &mut Random, tally: &mut Tally) {
     for modes in 1..=6 {
         for _ in 0..1500 {
-            let tree = any_tree(random, modes);
-            let mut terms = flat(&any_terms(random, modes, 6));
-            let mut rooms = (terms.len(), 3 * modes);
-            let mut heuristic = random.below(3);
-            let tree = match random.below(8) {
-                0 => replace_code(random, tree),
-                1 => exchange_codes(random, tree),
-                2 => change_length(random, tree),
-                _ => tree,
+            let given = damaged(random, modes);
+            let size = 1000 * modes + given.terms.len();
+            let comparison = || {
+                let Given { tree, terms, .. } = &given;
+                assign_in(given.modes, tree, given.heuristic, terms, given.rooms).map(|_| ())
             };
-            if random.below(4) == 0 {
-                heuristic += 3;
-            }
-            if random.below(3) == 0 && !terms.is_empty() {
-                let place = random.below(terms.len());
-                terms[place] = random.below(16) as u16;
-            }
-            if random.below(5) == 0 {
-                terms.push(0);
-                rooms.0 = terms.len();
-            }
-            match random.below(6) {
-                0 => rooms.0 = rooms.0.saturating_sub(1),
-                1 => rooms.1 -= 1,
-                _ => {}
-            }
-            let given = if random.below(12) == 0 { 257 } else { modes };
-            let input = || {
-                format!("modes {given}, tree {tree:?}, heuristic {heuristic}, terms {terms:?}, rooms {rooms:?}")
-            };
-            let comparison = || assign_in(given, &tree, heuristic, &terms, rooms).map(|_| ());
-            tally.compare(
-                "assign with damaged inputs",
-                1000 * modes + terms.len(),
-                input,
-                comparison,
-            );
+            let kind = "assign with damaged inputs";
+            tally.compare(kind, size, || format!("{given:?}"), comparison);
         }
+    }
+}
+
+fn damaged(random: &mut Random, modes: usize) -> Given {
+    let tree = any_tree(random, modes);
+    let mut terms = flat(&any_terms(random, modes, 6));
+    let mut rooms = (terms.len(), 3 * modes);
+    let mut heuristic = random.below(3);
+    let tree = match random.below(8) {
+        0 => replace_code(random, tree),
+        1 => exchange_codes(random, tree),
+        2 => change_length(random, tree),
+        _ => tree,
+    };
+    if random.below(4) == 0 {
+        heuristic += 3;
+    }
+    if random.below(3) == 0 && !terms.is_empty() {
+        let place = random.below(terms.len());
+        terms[place] = random.below(16) as u16;
+    }
+    if random.below(5) == 0 {
+        terms.push(0);
+        rooms.0 = terms.len();
+    }
+    match random.below(6) {
+        0 => rooms.0 = rooms.0.saturating_sub(1),
+        1 => rooms.1 -= 1,
+        _ => {}
+    }
+    let modes = if random.below(12) == 0 { 257 } else { modes };
+    Given {
+        modes,
+        tree,
+        heuristic,
+        terms,
+        rooms,
     }
 }

@@ -1,0 +1,68 @@
+//! `assign`.
+
+use super::{from_c, BEYOND};
+use crate::tally::equal;
+use compare::{numbers, proved, BYTE_MARK, MARK};
+use plain::Refusal;
+
+/// Assigns where 01 leaves no ground for a refusal; returns the table and the weight.
+pub fn assign(
+    modes: usize,
+    tree: &[u16],
+    heuristic: usize,
+    terms: &[u16],
+) -> Result<(Vec<u16>, u64), String> {
+    let rooms = (terms.len() + BEYOND, 3 * modes + BEYOND);
+    let (answer, mut work, mut table) = assign_in(modes, tree, heuristic, terms, rooms)?;
+    let weight = answer.map_err(|refusal| format!("refused: {refusal:?}"))?;
+    let beyond = table.split_off(3 * modes);
+    equal("table's rest stays", beyond, vec![MARK; BEYOND])?;
+    let beyond = work.split_off(terms.len());
+    equal("work's rest stays", beyond, vec![MARK; BEYOND])?;
+    equal("work is zero", work, vec![0; terms.len()])?;
+    Ok((table, weight))
+}
+
+/// Assigns with these rooms for work and table: the plain program's answer, and both slices after it. The error says that the proved library answers or leaves anything else.
+pub fn assign_in(
+    modes: usize,
+    tree: &[u16],
+    heuristic: usize,
+    terms: &[u16],
+    rooms: (usize, usize),
+) -> Result<(Result<u64, Refusal>, Vec<u16>, Vec<u16>), String> {
+    let marked = || (vec![MARK; rooms.0], vec![MARK; rooms.1]);
+    let (mut work, mut table) = marked();
+    let answer = plain::assign(modes, tree, heuristic, terms, &mut work, &mut table);
+    let numbers = numbers(answer);
+    let mut ours = marked();
+    let proved = proved::assign(modes, tree, heuristic, terms, &mut ours.0, &mut ours.1);
+    equal("proved numbers", proved, numbers)?;
+    equal("proved work", &ours.0, &work)?;
+    equal("proved table", &ours.1, &table)?;
+    // Work is the C call's own, so that too little of it can't be lent.
+    if rooms.0 >= terms.len() {
+        c_alike(modes, tree, heuristic, terms, numbers, &table)?;
+    }
+    if answer.is_err() {
+        equal("work stays", &work, &vec![MARK; rooms.0])?;
+        equal("table stays", &table, &vec![MARK; rooms.1])?;
+    }
+    Ok((answer, work, table))
+}
+
+/// The call for C, with bytes as the table's were: the same numbers, and every byte as the plain program left it.
+fn c_alike(
+    modes: usize,
+    tree: &[u16],
+    heuristic: usize,
+    terms: &[u16],
+    numbers: [u64; 3],
+    left: &[u16],
+) -> Result<(), String> {
+    let mut table = vec![BYTE_MARK; 2 * left.len()];
+    let mut weight = from_c::marked_answer(1);
+    let result = proved::c::assign(modes, tree, heuristic, terms, &mut table, &mut weight);
+    from_c::tells(result, &weight, &numbers)?;
+    equal("C table", table, proved::c::two_bytes(left))
+}

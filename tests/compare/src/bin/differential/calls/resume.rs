@@ -1,0 +1,143 @@
+//! `resume`, of which `hatt` is the case of an empty journal.
+
+use super::{from_c, BEYOND};
+use crate::tally::equal;
+use compare::{numbers, proved, BYTE_MARK, MARK};
+use plain::{Done, Refusal};
+
+/// What an accepted resume left behind.
+#[derive(Clone, Debug, PartialEq)]
+pub struct Finished {
+    pub done: Done,
+    pub rows: Vec<[u16; 4]>,
+    pub new: Vec<u8>,
+}
+
+/// The lengths of work, rows and journal that a call is lent.
+#[derive(Clone, Copy, Debug)]
+pub struct Rooms {
+    pub work: usize,
+    pub rows: usize,
+    pub journal: usize,
+}
+
+/// The slices that a call is lent.
+struct Lent {
+    work: Vec<u16>,
+    rows: Vec<u16>,
+    journal: Vec<u8>,
+}
+
+impl Rooms {
+    /// A little more than 01 asks for.
+    fn ample(modes: usize, terms: &[u16]) -> Self {
+        Rooms {
+            work: terms.len() + BEYOND,
+            rows: 4 * modes + BEYOND,
+            journal: 16 + 21 * modes + BEYOND,
+        }
+    }
+
+    fn marked(self) -> Lent {
+        Lent {
+            work: vec![MARK; self.work],
+            rows: vec![MARK; self.rows],
+            journal: vec![BYTE_MARK; self.journal],
+        }
+    }
+}
+
+/// Resumes where 01 leaves no ground for a refusal.
+pub fn accepted(modes: usize, terms: &[u16], read: &[u8]) -> Result<Finished, String> {
+    resume(modes, terms, read)?.map_err(|refusal| format!("refused: {refusal:?}"))
+}
+
+/// Resumes with ample room. The outer error says that an element was altered which should not have been, or that the proved library answers or leaves anything else.
+pub fn resume(
+    modes: usize,
+    terms: &[u16],
+    read: &[u8],
+) -> Result<Result<Finished, Refusal>, String> {
+    resume_in(modes, terms, read, Rooms::ample(modes, terms))
+}
+
+/// The same, with these rooms.
+pub fn resume_in(
+    modes: usize,
+    terms: &[u16],
+    read: &[u8],
+    rooms: Rooms,
+) -> Result<Result<Finished, Refusal>, String> {
+    let mut left = rooms.marked();
+    let (work, rows, journal) = (&mut left.work, &mut left.rows, &mut left.journal);
+    let answer = plain::resume(modes, terms, read, work, rows, journal);
+    let numbers = six(answer);
+    proved_alike(modes, terms, read, rooms, numbers, &left)?;
+    // Work is the C call's own, so that too little of it can't be lent.
+    if rooms.work >= terms.len() {
+        c_alike(modes, terms, read, rooms, numbers, &left)?;
+    }
+    let (written, new) = match answer {
+        Ok(done) => (1, done.new),
+        Err(_) => (0, 0),
+    };
+    let (zeros, work_beyond) = left.work.split_at(written * terms.len());
+    let (rows, rows_beyond) = left.rows.split_at(written * 4 * modes);
+    let (new, journal_beyond) = left.journal.split_at(new);
+    let stayed = work_beyond.iter().all(|&number| number == MARK)
+        && rows_beyond.iter().all(|&number| number == MARK)
+        && journal_beyond.iter().all(|&byte| byte == BYTE_MARK);
+    equal("elements that stay, stay", stayed, true)?;
+    let zeroed = zeros.iter().all(|&number| number == 0);
+    equal("work is zero", zeroed, true)?;
+    let by_four = |row: &[u16]| [row[0], row[1], row[2], row[3]];
+    Ok(answer.map(|done| Finished {
+        done,
+        rows: rows.chunks(4).map(by_four).collect(),
+        new: new.to_vec(),
+    }))
+}
+
+/// Refusal, place, weight, trials, kept and new bytes.
+fn six(answer: Result<Done, Refusal>) -> [u64; 6] {
+    let [number, place, weight] = numbers(answer.map(|done| done.weight));
+    let others = answer.map(|done| [done.trials, done.kept as u64, done.new as u64]);
+    let [trials, kept, new] = others.unwrap_or_default();
+    [number, place, weight, trials, kept, new]
+}
+
+/// The proved call, with slices as they were lent: the same numbers, and every element as the plain program left it.
+fn proved_alike(
+    modes: usize,
+    terms: &[u16],
+    read: &[u8],
+    rooms: Rooms,
+    numbers: [u64; 6],
+    left: &Lent,
+) -> Result<(), String> {
+    let mut lent = rooms.marked();
+    let (work, rows, journal) = (&mut lent.work, &mut lent.rows, &mut lent.journal);
+    let proved = proved::resume(modes, terms, read, work, rows, journal);
+    equal("proved numbers", proved, numbers)?;
+    equal("proved work", &lent.work, &left.work)?;
+    equal("proved rows", &lent.rows, &left.rows)?;
+    equal("proved journal", &lent.journal, &left.journal)
+}
+
+/// The same of the call for C.
+fn c_alike(
+    modes: usize,
+    terms: &[u16],
+    read: &[u8],
+    rooms: Rooms,
+    numbers: [u64; 6],
+    left: &Lent,
+) -> Result<(), String> {
+    let mut rows = vec![BYTE_MARK; 2 * rooms.rows];
+    let mut journal = vec![BYTE_MARK; rooms.journal];
+    let mut answer = from_c::marked_answer(4);
+    let result = proved::c::resume(modes, terms, read, &mut rows, &mut journal, &mut answer);
+    from_c::tells(result, &answer, &numbers)?;
+    equal("C rows", rows, proved::c::two_bytes(&left.rows))?;
+    equal("C journal", &journal, &left.journal)
+}
