@@ -2,7 +2,8 @@
 
 use super::{from_c, BEYOND};
 use crate::tally::equal;
-use compare::{numbers, proved, BYTE_MARK, MARK};
+use compare::proved::{self, c};
+use compare::{numbers, BYTE_MARK, MARK};
 use plain::Refusal;
 
 /// Assigns where 01 leaves no ground for a refusal; returns the table and the weight.
@@ -62,7 +63,7 @@ fn c_alike(
 ) -> Result<(), String> {
     let mut table = vec![BYTE_MARK; 2 * left.len()];
     let mut weight = from_c::marked_answer(1);
-    let result = proved::c::assign(modes, tree, heuristic, terms, &mut table, &mut weight);
+    let result = c::assign(modes, tree, heuristic, terms, &mut table, &mut weight);
     from_c::tells(result, &weight, &numbers)?;
-    equal("C table", table, proved::c::two_bytes(left))
+    equal("C table", table, c::two_bytes(left))
 }

@@ -2,7 +2,8 @@
 
 use super::{from_c, BEYOND};
 use crate::tally::equal;
-use compare::{numbers, proved, BYTE_MARK, MARK};
+use compare::proved::{self, c};
+use compare::{numbers, BYTE_MARK, MARK};
 use plain::{Done, Refusal};
 
 /// What an accepted resume left behind.
@@ -71,12 +72,26 @@ pub fn resume_in(
     let mut left = rooms.marked();
     let (work, rows, journal) = (&mut left.work, &mut left.rows, &mut left.journal);
     let answer = plain::resume(modes, terms, read, work, rows, journal);
-    let numbers = six(answer);
-    proved_alike(modes, terms, read, rooms, numbers, &left)?;
-    // Work is the C call's own, so that too little of it can't be lent.
-    if rooms.work >= terms.len() {
-        c_alike(modes, terms, read, rooms, numbers, &left)?;
-    }
+    let call = Call {
+        modes,
+        terms,
+        read,
+        rooms,
+        numbers: six(answer),
+        left: &left,
+    };
+    call.proved_alike()?;
+    call.c_alike()?;
+    looked_over(modes, terms, answer, &left)
+}
+
+/// What an accepted call left, once it is seen that nothing else was altered.
+fn looked_over(
+    modes: usize,
+    terms: &[u16],
+    answer: Result<Done, Refusal>,
+    left: &Lent,
+) -> Result<Result<Finished, Refusal>, String> {
     let (written, new) = match answer {
         Ok(done) => (1, done.new),
         Err(_) => (0, 0),
@@ -106,38 +121,46 @@ fn six(answer: Result<Done, Refusal>) -> [u64; 6] {
     [number, place, weight, trials, kept, new]
 }
 
-/// The proved call, with slices as they were lent: the same numbers, and every element as the plain program left it.
-fn proved_alike(
+/// A call that was made of the plain program: what it was given, what it answered, and what it left of the slices.
+struct Call<'a> {
     modes: usize,
-    terms: &[u16],
-    read: &[u8],
+    terms: &'a [u16],
+    read: &'a [u8],
     rooms: Rooms,
     numbers: [u64; 6],
-    left: &Lent,
-) -> Result<(), String> {
-    let mut lent = rooms.marked();
-    let (work, rows, journal) = (&mut lent.work, &mut lent.rows, &mut lent.journal);
-    let proved = proved::resume(modes, terms, read, work, rows, journal);
-    equal("proved numbers", proved, numbers)?;
-    equal("proved work", &lent.work, &left.work)?;
-    equal("proved rows", &lent.rows, &left.rows)?;
-    equal("proved journal", &lent.journal, &left.journal)
+    left: &'a Lent,
 }
 
-/// The same of the call for C.
-fn c_alike(
-    modes: usize,
-    terms: &[u16],
-    read: &[u8],
-    rooms: Rooms,
-    numbers: [u64; 6],
-    left: &Lent,
-) -> Result<(), String> {
-    let mut rows = vec![BYTE_MARK; 2 * rooms.rows];
-    let mut journal = vec![BYTE_MARK; rooms.journal];
-    let mut answer = from_c::marked_answer(4);
-    let result = proved::c::resume(modes, terms, read, &mut rows, &mut journal, &mut answer);
-    from_c::tells(result, &answer, &numbers)?;
-    equal("C rows", rows, proved::c::two_bytes(&left.rows))?;
-    equal("C journal", &journal, &left.journal)
+impl Call<'_> {
+    /// The proved call, with slices as they were lent: the same numbers, and every element as the plain program left it.
+    fn proved_alike(&self) -> Result<(), String> {
+        let mut lent = self.rooms.marked();
+        let (work, rows, journal) = (&mut lent.work, &mut lent.rows, &mut lent.journal);
+        let Call {
+            modes, terms, read, ..
+        } = *self;
+        let proved = proved::resume(modes, terms, read, work, rows, journal);
+        equal("proved numbers", proved, self.numbers)?;
+        equal("proved work", &lent.work, &self.left.work)?;
+        equal("proved rows", &lent.rows, &self.left.rows)?;
+        equal("proved journal", &lent.journal, &self.left.journal)
+    }
+
+    /// The same of the call for C.
+    fn c_alike(&self) -> Result<(), String> {
+        // Work is that call's own, so that too little of it can't be lent.
+        if self.rooms.work < self.terms.len() {
+            return Ok(());
+        }
+        let mut rows = vec![BYTE_MARK; 2 * self.rooms.rows];
+        let mut journal = vec![BYTE_MARK; self.rooms.journal];
+        let mut answer = from_c::marked_answer(4);
+        let Call {
+            modes, terms, read, ..
+        } = *self;
+        let result = c::resume(modes, terms, read, &mut rows, &mut journal, &mut answer);
+        from_c::tells(result, &answer, &self.numbers)?;
+        equal("C rows", rows, c::two_bytes(&self.left.rows))?;
+        equal("C journal", &journal, &self.left.journal)
+    }
 }
