@@ -4,7 +4,7 @@ use crate::lines;
 use crate::recorded;
 use crate::recorded::Recorded;
 use fields::numbers::Field;
-use terms::row;
+use terms::slices;
 use topphatt::Assigned;
 
 // The case is read whole and the library answers the same.
@@ -132,7 +132,7 @@ fn same_table(rows: &[u16], table: &[u16]) -> bool {
     if table.len() < end {
         return false;
     }
-    row::all_are(&table[end..], fronts::UNTOUCHED)
+    slices::all_are(&table[end..], fronts::UNTOUCHED)
 }
 
 // The row at this place has this label and the table's three codes of it.

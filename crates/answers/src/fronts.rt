@@ -1,5 +1,5 @@
 // What a call left in a lent slice: the front that it wrote, and all behind it untouched.
-use terms::row;
+use terms::slices;
 
 // What stands in a lent slice before a call: no index, label, code or zero is this number.
 pub const UNTOUCHED: u16 = 40000;
@@ -13,25 +13,10 @@ pub fn holds(numbers: &[u16], wanted: &[u16]) -> bool {
     if numbers.len() < end {
         return false;
     }
-    if !same_front(numbers, wanted) {
+    if !slices::same(&numbers[..end], wanted) {
         return false;
     }
-    row::all_are(&numbers[end..], UNTOUCHED)
-}
-
-// The numbers begin with the wanted ones.
-fn same_front(numbers: &[u16], wanted: &[u16]) -> bool {
-    let mut at = 0;
-    while at < wanted.len() {
-        if numbers.len() <= at {
-            return false;
-        }
-        if numbers[at] != wanted[at] {
-            return false;
-        }
-        at += 1;
-    }
-    true
+    slices::all_are(&numbers[end..], UNTOUCHED)
 }
 
 // So many numbers are zero, and nothing behind them was touched.
@@ -39,10 +24,10 @@ pub fn cleared(numbers: &[u16], end: usize) -> bool {
     if numbers.len() < end {
         return false;
     }
-    if !row::all_are(&numbers[0..end], 0) {
+    if !slices::all_are(&numbers[0..end], 0) {
         return false;
     }
-    row::all_are(&numbers[end..], UNTOUCHED)
+    slices::all_are(&numbers[end..], UNTOUCHED)
 }
 
 // No byte from this place on was touched.

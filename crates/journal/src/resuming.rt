@@ -21,7 +21,7 @@ use merging::trials;
 use refusal::Refusal;
 use terms::checking;
 use terms::checking::Checked;
-use terms::copying;
+use terms::slices;
 
 // The four numbers of a run: greedy weight, trials, kept bytes and new bytes.
 pub struct Numbers {
@@ -55,7 +55,7 @@ fn finish_run(
     let end = run.finished(own);
     flatpack::write_flatpack(end, rows);
     let new = new_lines::write_new(end, from, count, kept, journal);
-    copying::clear_front(work, 8 * count);
+    slices::clear_front(work, 8 * count);
     Answer::Done(Numbers {
         weight: end.weight as u64,
         trials: trials::trial_total(end.modes - from),

@@ -10,7 +10,6 @@ ghost use Rattle.merging.specs.Choice.{chosen};
 ghost use Rattle.merging.specs.Run.{finished as «finished-from»};
 ghost use Rattle.merging.specs.code.State.{«history-of», Holds, EntitiesMerged, Noted, Ready, Went};
 use crate::choice;
-use crate::choice::Best;
 use entities::Triple;
 use entities::parents;
 use terms::reduction;

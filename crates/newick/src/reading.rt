@@ -11,7 +11,7 @@ ghost use Rattle.newick.specs.code.Promises.{meant, «end-of», «closed
 use crate::digits;
 use crate::names;
 use refusal::Refusal;
-use terms::copying;
+use terms::slices;
 use tree::TreeChecked;
 use tree::laying;
 
@@ -168,7 +168,7 @@ fn take_table(modes: usize, tree: &[u16], table: &mut [u16]) -> NewickRead
     if table.len() < tree.len() {
         return NewickRead::Unread(Refusal::Room);
     }
-    copying::put_front(tree, table);
+    slices::put_front(tree, table);
     NewickRead::Read(modes)
 }
 

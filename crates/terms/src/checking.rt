@@ -3,8 +3,8 @@ ghost use mathlib.Core.Path.{_≡_};
 ghost use Prim.Native.Nat.{_*_, _≤_};
 ghost use lib.ListN.{length, take};
 ghost use Rattle.terms.specs.Good.{«good-indices», «good-row», «good-rows», checked};
-use crate::copying;
 use crate::row;
+use crate::slices;
 use refusal::Refusal;
 
 pub enum Checked {
@@ -50,7 +50,7 @@ fn good_row(modes: usize, numbers: &[u16]) -> bool
         return false;
     }
     let end = count + 1;
-    row::all_are(&numbers[end..], 0)
+    slices::all_are(&numbers[end..], 0)
 }
 
 // How many rows are good before the first bad one.
@@ -92,6 +92,6 @@ pub fn own_copy(terms: &[u16]) -> [u16; 16384]
     ensures { λ r. ⌜ (length r ≡ 16384) × (take (length (now (terms .entry))) r ≡ now (terms .entry)) ⌝ }
 {
     let mut own = [0u16; 16384];
-    copying::put_front(terms, &mut own);
+    slices::put_front(terms, &mut own);
     own
 }

@@ -7,8 +7,8 @@ ghost use Rattle.lists.specs.Members.{«some-of», alike};
 ghost use Rattle.lists.specs.Written.{«written-at»};
 ghost use Rattle.terms.specs.Rows.{Held, term as «term-in», «terms-of»};
 ghost use Rattle.terms.specs.code.Marks.{«mark-of», Marked};
-use crate::copying;
 use crate::row;
+use crate::slices;
 
 // The term's mark, a number made from its indices: terms with different marks differ.
 fn mark_of(term: &[u16]) -> usize
@@ -30,7 +30,7 @@ fn has_term(rows: &[u16], count: usize, term: &[u16]) -> bool
 {
     let mut place = 0;
     while place < count {
-        if row::same_term(term, row::term_at(rows, place)) {
+        if slices::same(term, row::term_at(rows, place)) {
             return true;
         }
         place += 1;
@@ -60,7 +60,7 @@ fn put_row(rows: &mut [u16], place: usize, row: &[u16])
 {
     let from = 8 * place;
     let end = from + 8;
-    copying::copy(row, &mut rows[from..end]);
+    slices::copy(row, &mut rows[from..end]);
 }
 
 // The row written over the one at this place, and its term's mark set.

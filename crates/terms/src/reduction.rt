@@ -6,9 +6,9 @@ ghost use Rattle.terms.specs.Rows.{Held, «terms-of»};
 ghost use Rattle.terms.specs.Reduction.{replacement, «put-in», rewriting, stays};
 ghost use Rattle.terms.specs.code.Promises.{Rewritten, RowReduced, Reduced};
 ghost use Rattle.terms.specs.code.Marks.{Marked};
-use crate::copying;
 use crate::kept_rows;
 use crate::row;
+use crate::slices;
 use entities::Triple;
 
 fn smaller(a: u16, b: u16) -> u16
@@ -83,7 +83,7 @@ fn rewritten(row: &[u16], triple: Triple, parent: u16) -> [u16; 8]
     ensures { λ r. ⌜ (length r ≡ 8) × Rewritten triple parent (now (row .entry)) r ⌝ }
 {
     let mut aside = [0u16; 8];
-    copying::copy(row, &mut aside);
+    slices::copy(row, &mut aside);
     rewrite_row(&mut aside, triple, parent);
     aside
 }
@@ -95,7 +95,7 @@ fn survives<'a>(rows: &'a [u16], kept: usize, marks: &'a [bool], term: &[u16], p
     requires { ⌜ Marked 16384 (terms-of 8 kept (now rows)) (now marks) ⌝ }
     ensures { λ r. ⌜ r ≡ stays parent (terms-of 8 kept (now (rows .entry))) (now (term .entry)) ⌝ }
 {
-    if row::all_are(term, parent) {
+    if slices::all_are(term, parent) {
         return false;
     }
     !kept_rows::is_kept(rows, kept, marks, term)
@@ -142,6 +142,6 @@ pub fn reduce_hamiltonian(rows: &mut [u16], live: usize, parent: u16, selection:
     }
     let from = 8 * kept;
     let end = 8 * live;
-    copying::clear(&mut rows[from..end]);
+    slices::fill(&mut rows[from..end], 0);
     kept
 }

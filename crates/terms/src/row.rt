@@ -1,9 +1,7 @@
-// One row of eight numbers, its term, and tests on terms that the other files share.
+// One row of eight numbers, and its term.
 ghost use mathlib.Core.Path.{_≡_};
 ghost use Prim.Native.Nat.{_+_, _*_, _≤_, _<_};
-ghost use lib.Dec.{eqb};
 ghost use lib.ListN.{length, getD, take, drop};
-ghost use Rattle.lists.specs.Members.{every, alike};
 ghost use Rattle.terms.specs.Rows.{term};
 
 // The row at this place of rows that stand one after the other.
@@ -31,35 +29,4 @@ pub fn term_at(rows: &[u16], place: usize) -> &[u16]
     ensures { λ r. ⌜ now r ≡ term (take 8 (drop (8 * place) (now (rows .entry)))) ⌝ }
 {
     term_of(row_at(rows, place))
-}
-
-// Every number is this one.
-pub fn all_are(numbers: &[u16], number: u16) -> bool
-    ensures { λ r. ⌜ r ≡ every (λ v. eqb v number) (now (numbers .entry)) ⌝ }
-{
-    let mut at = 0;
-    while at < numbers.len() {
-        if numbers[at] != number {
-            return false;
-        }
-        at += 1;
-    }
-    true
-}
-
-// The two terms are the same.
-pub fn same_term(a: &[u16], b: &[u16]) -> bool
-    ensures { λ r. ⌜ r ≡ alike (now (a .entry)) (now (b .entry)) ⌝ }
-{
-    if a.len() != b.len() {
-        return false;
-    }
-    let mut at = 0;
-    while at < a.len() {
-        if a[at] != b[at] {
-            return false;
-        }
-        at += 1;
-    }
-    true
 }

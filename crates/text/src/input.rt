@@ -7,7 +7,7 @@ ghost use Rattle.text.specs.Input.{said};
 ghost use Rattle.text.specs.code.Reading.{«modes-said», IndicesRead, TermRead, TermPut, TermsRead, Reads};
 use fields::lines;
 use fields::numbers;
-use terms::copying;
+use terms::slices;
 
 // What a text says: modes and so many terms, or the line at which it is malformed.
 pub enum Said {
@@ -43,7 +43,7 @@ fn begin_row(row: &mut [u16], count: usize)
     requires { ⌜ (count ≤ 7) × (length (now row) ≡ 8) ⌝ }
     ensures { λ r. ⌜ now (row .exit) ≡ count ∷ replicate 7 0 ⌝ }
 {
-    copying::clear(row);
+    slices::fill(row, 0);
     row[0] = count as u16;
 }
 

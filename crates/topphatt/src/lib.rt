@@ -15,7 +15,7 @@ use entities::codes;
 use refusal::Refusal;
 use terms::checking;
 use terms::checking::Checked;
-use terms::copying;
+use terms::slices;
 use tree::TreeChecked;
 
 mod choice;
@@ -138,7 +138,7 @@ fn assign_good(
         return Assigned::Unassigned(Refusal::Room);
     }
     let weight = assign_terms(modes, tree, heuristic, terms, count, table);
-    copying::clear_front(work, end);
+    slices::clear_front(work, end);
     Assigned::Weight(weight as u64)
 }
 

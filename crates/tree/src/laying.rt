@@ -6,17 +6,7 @@ ghost use lib.ListN.{length, replicate};
 ghost use Rattle.entities.specs.Codes.{absent};
 ghost use Rattle.tree.specs.Laying.{«row-over», «laid-over»};
 use entities::codes;
-
-// No children anywhere.
-fn clear_table(table: &mut [u16])
-    ensures { λ r. ⌜ now (table .exit) ≡ replicate (length (now (table .entry))) absent ⌝ }
-{
-    let mut at = 0;
-    while at < table.len() {
-        table[at] = codes::ABSENT;
-        at += 1;
-    }
-}
+use terms::slices;
 
 // A node's three children put in their place, where the table has it.
 fn lay_row(table: &mut [u16], label: usize, x: u16, y: u16, z: u16)
@@ -35,7 +25,7 @@ fn lay_row(table: &mut [u16], label: usize, x: u16, y: u16, z: u16)
 pub fn lay_rows(rows: &[u16], table: &mut [u16])
     ensures { λ r. ⌜ now (table .exit) ≡ laid-over (replicate (length (now (table .entry))) absent) (now (rows .entry)) ⌝ }
 {
-    clear_table(table);
+    slices::fill(table, codes::ABSENT);
     let count = rows.len() / 4;
     let mut done = 0;
     while done < count {

@@ -27,8 +27,8 @@ term-at-requires c κs =
     let here = c .before in
     (omega arith, here .before .before .before .pre .within (here .loop .place) (omega arith))
 
-same-term-requires : tie.Need-same-term-requires Inv-loop μ-loop
-same-term-requires c κs = search needs
+same-requires : tie.Need-same-requires Inv-loop μ-loop
+same-requires c κs = search needs
 
 returns : tie.Need-returns Inv-loop μ-loop
 returns c =
@@ -37,7 +37,7 @@ returns c =
     sym
     (here .loop .inv .1
     ∙ sought-found (args .term .now) (args .count) (here .loop .place) (args .rows .now) (omega arith)
-    (rw (c .before .before .term-at .ensures) at (sym (c .before .same-term .ensures) ∙ c .if1 .taken)))
+    (rw (c .before .before .term-at .ensures) at (sym (c .before .same .ensures) ∙ c .if1 .taken)))
 
 add-place : tie.Need-add-place Inv-loop μ-loop
 add-place c = search needs
@@ -52,7 +52,7 @@ loop-again c =
       omega arith,
       here .loop .inv .1
           ∙ sought-passes (args .term .now) (args .count) (here .loop .place) (args .rows .now) (omega arith)
-          (rw (c .before .before .term-at .ensures) at (sym (c .before .same-term .ensures) ∙ c .if1 .left)),
+          (rw (c .before .before .term-at .ensures) at (sym (c .before .same .ensures) ∙ c .if1 .left)),
     )
 
 returns-2 : tie.Need-returns-2 Inv-loop μ-loop
@@ -69,7 +69,7 @@ has-term-spec =
     μ-loop
     loop-holds
     term-at-requires
-    same-term-requires
+    same-requires
     returns
     add-place
     loop-less

@@ -71,20 +71,20 @@ mul-from c = search needs
 mul-end : tie.Need-mul-end Inv-loop μ-loop
 mul-end c = search needs
 
-mul-clear : tie.Need-mul-clear Inv-loop μ-loop
-mul-clear c = search needs
+mul-fill : tie.Need-mul-fill Inv-loop μ-loop
+mul-fill c = search needs
 
-sub-clear : tie.Need-sub-clear Inv-loop μ-loop
-sub-clear c = search needs
+sub-fill : tie.Need-sub-fill Inv-loop μ-loop
+sub-fill c = search needs
 
-part-clear-start : tie.Need-part-clear-start Inv-loop μ-loop
-part-clear-start c = search needs
+part-fill-start : tie.Need-part-fill-start Inv-loop μ-loop
+part-fill-start c = search needs
 
-part-clear-end : tie.Need-part-clear-end Inv-loop μ-loop
-part-clear-end c = search needs
+part-fill-end : tie.Need-part-fill-end Inv-loop μ-loop
+part-fill-end c = search needs
 
-clear-requires : tie.Need-clear-requires Inv-loop μ-loop
-clear-requires c κs = search needs
+fill-requires : tie.Need-fill-requires Inv-loop μ-loop
+fill-requires c κs = search needs
 
 same-length : tie.Need-same-length Inv-loop μ-loop
 same-length c = search needs
@@ -99,7 +99,7 @@ returns c =
     let from = 8 * here .loop .kept in
     let end = 8 * args .live in
     let room : end ≤ length rows = rw (p .same-length) (start .pre .room) in
-    let cleared = c .before .before .clear .ensures ∙ ap (λ n. replicate n 0) (mid-len from end rows room) in
+    let cleared = c .before .before .fill .ensures ∙ ap (λ n. replicate n 0) (mid-len from end rows room) in
     rw cleared
     (rw (put-written from (replicate (end - from) 0) rows (end - from) (length-replicate (end - from) 0))
     (passing-ends (args .selection) (args .parent) (args .live) (args .rows .now) (start .pre) rows _ _ p (omega arith)))
@@ -118,10 +118,10 @@ reduce-hamiltonian-spec =
     loop-again
     mul-from
     mul-end
-    mul-clear
-    sub-clear
-    part-clear-start
-    part-clear-end
-    clear-requires
+    mul-fill
+    sub-fill
+    part-fill-start
+    part-fill-end
+    fill-requires
     same-length
     returns)

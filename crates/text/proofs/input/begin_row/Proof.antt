@@ -3,8 +3,8 @@ use borrow.Author.Needs.{needs}
 use Rattle.text.proofs.input.begin_row.Statement.{statement}
 use Rattle.text.proofs.input.begin_row.Tie as tie
 
-clear-requires : tie.Need-clear-requires
-clear-requires c κs = search needs
+fill-requires : tie.Need-fill-requires
+fill-requires c κs = search needs
 
 cast-row : tie.Need-cast-row
 cast-row c = search needs
@@ -18,7 +18,7 @@ same-length c = search needs
 returns : tie.Need-returns
 returns c =
     let start = c .before .before .before .before .before in
-    rw (c .before .before .clear .ensures, start .pre .1)
+    rw (c .before .before .fill .ensures, start .pre .1)
 
 pub begin-row-spec : {M : Type 1} → statement M
-begin-row-spec = tie.close (tie.spec clear-requires cast-row slice-write-row same-length returns)
+begin-row-spec = tie.close (tie.spec fill-requires cast-row slice-write-row same-length returns)

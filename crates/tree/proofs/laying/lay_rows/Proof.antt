@@ -17,8 +17,8 @@ Inv-loop rows table₀ count done₀ table done =
 abbrev μ-loop : tie.MeasureT-loop
 μ-loop rows table₀ count done₀ table done = count - done
 
-clear-table-requires : tie.Need-clear-table-requires Inv-loop μ-loop
-clear-table-requires c κs = search needs
+fill-requires : tie.Need-fill-requires Inv-loop μ-loop
+fill-requires c κs = search needs
 
 loop-holds : tie.Need-loop-holds Inv-loop μ-loop
 loop-holds c = (refl, (omega arith, (refl, refl)))
@@ -89,7 +89,7 @@ returns : tie.Need-returns Inv-loop μ-loop
 returns c =
     let here = c .before in
     let start = here .before .before .before .before .before .before .before in
-    let clear = here .before .before .before .clear-table in
+    let clear = here .before .before .before .fill in
     sym (laid-ends (here .loop .table) (start .args .rows .now) (here .loop .done) (omega (arith, here .loop .inv .0)))
     ∙ here .loop .inv .1 .1 .1
     ∙ ap (λ l. laid-over l (start .args .rows .now)) (clear .ensures)
@@ -100,7 +100,7 @@ lay-rows-spec =
     (tie.spec
     Inv-loop
     μ-loop
-    clear-table-requires
+    fill-requires
     loop-holds
     mul-at
     mul-wide

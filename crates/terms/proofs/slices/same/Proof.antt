@@ -7,8 +7,8 @@ use lib.ListN.{length, drop}
 use Rattle.lists.specs.Members.{alike}
 use Rattle.lists.proofs.Alike.{alike-lengths}
 use Rattle.lists.proofs.Steps.{alike-passes, alike-stops, alike-ends}
-use Rattle.terms.proofs.row.same_term.Statement.{statement}
-use Rattle.terms.proofs.row.same_term.Tie as tie
+use Rattle.terms.proofs.slices.same.Statement.{statement}
+use Rattle.terms.proofs.slices.same.Tie as tie
 
 abbrev Inv-loop : tie.InvT-loop
 Inv-loop a b at₀ at = (at ≤ length a) × (alike a b ≡ alike (drop at a) (drop at b))
@@ -60,8 +60,8 @@ returns-3 c =
     let args = here .before .before .args in
     sym (here .loop .inv .1 ∙ alike-ends (args .a .now) (args .b .now) (here .loop .at) (omega arith) (omega arith))
 
-pub same-term-spec : {M : Type 1} → statement M
-same-term-spec =
+pub same-spec : {M : Type 1} → statement M
+same-spec =
     tie.close
     (tie.spec
     Inv-loop

@@ -1,7 +1,9 @@
-// Numbers copied and cleared in lent slices.
+// Slices of numbers: copied, filled, compared with one another and with one number.
 ghost use mathlib.Core.Path.{_≡_};
 ghost use Prim.Native.Nat.{_≤_};
+ghost use lib.Dec.{eqb};
 ghost use lib.ListN.{length, take, replicate};
+ghost use Rattle.lists.specs.Members.{every, alike};
 ghost use Rattle.lists.specs.Written.{«written-at»};
 
 // The numbers written over as many others.
@@ -26,13 +28,13 @@ pub fn put_front(from: &[u16], to: &mut [u16])
     copy(from, &mut to[..end]);
 }
 
-// Zeros over all the numbers.
-pub fn clear(numbers: &mut [u16])
-    ensures { λ r. ⌜ now (numbers .exit) ≡ replicate (length (now (numbers .entry))) 0 ⌝ }
+// One number over all of them.
+pub fn fill(numbers: &mut [u16], number: u16)
+    ensures { λ r. ⌜ now (numbers .exit) ≡ replicate (length (now (numbers .entry))) number ⌝ }
 {
     let mut at = 0;
     while at < numbers.len() {
-        numbers[at] = 0;
+        numbers[at] = number;
         at += 1;
     }
 }
@@ -42,5 +44,36 @@ pub fn clear_front(numbers: &mut [u16], count: usize)
     requires { ⌜ count ≤ length (now numbers) ⌝ }
     ensures { λ r. ⌜ now (numbers .exit) ≡ written-at 0 (replicate count 0) (now (numbers .entry)) ⌝ }
 {
-    clear(&mut numbers[..count]);
+    fill(&mut numbers[..count], 0);
+}
+
+// Every number is this one.
+pub fn all_are(numbers: &[u16], number: u16) -> bool
+    ensures { λ r. ⌜ r ≡ every (λ v. eqb v number) (now (numbers .entry)) ⌝ }
+{
+    let mut at = 0;
+    while at < numbers.len() {
+        if numbers[at] != number {
+            return false;
+        }
+        at += 1;
+    }
+    true
+}
+
+// The two slices are the same.
+pub fn same(a: &[u16], b: &[u16]) -> bool
+    ensures { λ r. ⌜ r ≡ alike (now (a .entry)) (now (b .entry)) ⌝ }
+{
+    if a.len() != b.len() {
+        return false;
+    }
+    let mut at = 0;
+    while at < a.len() {
+        if a[at] != b[at] {
+            return false;
+        }
+        at += 1;
+    }
+    true
 }

@@ -6,8 +6,8 @@ use borrow.Author.Needs.{needs}
 use lib.ListN.{length, take, length-set}
 use lib.Seq.{take-all}
 use Rattle.lists.proofs.Writes.{copied-next, all-of}
-use Rattle.terms.proofs.copying.copy.Statement.{statement}
-use Rattle.terms.proofs.copying.copy.Tie as tie
+use Rattle.terms.proofs.slices.copy.Statement.{statement}
+use Rattle.terms.proofs.slices.copy.Tie as tie
 
 abbrev Inv-loop : tie.InvT-loop
 Inv-loop from to₀ at₀ to at = (at ≤ length from) × (length to ≡ length from) × (take at to ≡ take at from)

@@ -1,18 +1,18 @@
--- What is passed is zeros; at the end that is everything.
+-- What is passed is the number; at the end that is everything.
 use mathlib.Core.Path.{_≡_, ap, _∙_}
 use Prim.Native.Nat.{_≤_, _-_}
 use native.Mathlib.Omega.{arith}
 use borrow.Author.Needs.{needs}
 use lib.ListN.{length, take, replicate, length-set}
 use Rattle.lists.proofs.Writes.{filled-next, all-of}
-use Rattle.terms.proofs.copying.clear.Statement.{statement}
-use Rattle.terms.proofs.copying.clear.Tie as tie
+use Rattle.terms.proofs.slices.fill.Statement.{statement}
+use Rattle.terms.proofs.slices.fill.Tie as tie
 
 abbrev Inv-loop : tie.InvT-loop
-Inv-loop numbers₀ at₀ numbers at = (at ≤ length numbers₀) × (length numbers ≡ length numbers₀) × (take at numbers ≡ replicate at 0)
+Inv-loop numbers₀ number at₀ numbers at = (at ≤ length numbers₀) × (length numbers ≡ length numbers₀) × (take at numbers ≡ replicate at number)
 
 abbrev μ-loop : tie.MeasureT-loop
-μ-loop numbers₀ at₀ numbers at = length numbers₀ - at
+μ-loop numbers₀ number at₀ numbers at = length numbers₀ - at
 
 loop-holds : tie.Need-loop-holds Inv-loop μ-loop
 loop-holds c = search needs
@@ -34,7 +34,7 @@ loop-again c =
     let here = c .before in (
       omega arith,
       simp length-set (omega arith),
-      filled-next (here .loop .numbers) (here .loop .at) 0 (omega arith) (here .loop .inv .2),
+      filled-next (here .loop .numbers) (here .loop .at) (here .before .args .number) (omega arith) (here .loop .inv .2),
     )
 
 same-length : tie.Need-same-length Inv-loop μ-loop
@@ -44,10 +44,10 @@ returns : tie.Need-returns Inv-loop μ-loop
 returns c =
     let here = c .before in
     let e : here .loop .at ≡ length (here .before .args .numbers .now) = omega arith in
-    all-of (here .loop .numbers) _ (here .loop .at) (omega arith) (here .loop .inv .2 ∙ ap (λ n. replicate n 0) e)
+    all-of (here .loop .numbers) _ (here .loop .at) (omega arith) (here .loop .inv .2 ∙ ap (λ n. replicate n (here .before .args .number)) e)
 
-pub clear-spec : {M : Type 1} → statement M
-clear-spec =
+pub fill-spec : {M : Type 1} → statement M
+fill-spec =
     tie.close
     (tie.spec
     Inv-loop

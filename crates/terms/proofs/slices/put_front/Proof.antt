@@ -5,8 +5,8 @@ use borrow.Author.Needs.{needs}
 use lib.ListN.{length, drop}
 use lib.Seq.{length-take-le, take-at}
 use Rattle.lists.specs.Written.{written-at}
-use Rattle.terms.proofs.copying.put_front.Statement.{statement}
-use Rattle.terms.proofs.copying.put_front.Tie as tie
+use Rattle.terms.proofs.slices.put_front.Statement.{statement}
+use Rattle.terms.proofs.slices.put_front.Tie as tie
 
 slice-relend-prefix-copy : tie.Need-slice-relend-prefix-copy
 slice-relend-prefix-copy c = search needs

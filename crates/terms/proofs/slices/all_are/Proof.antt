@@ -8,8 +8,8 @@ use lib.Dec.{eqb}
 use lib.ListN.{length, drop}
 use Rattle.lists.specs.Members.{every}
 use Rattle.lists.proofs.Steps.{every-passes, every-stops, every-ends}
-use Rattle.terms.proofs.row.all_are.Statement.{statement}
-use Rattle.terms.proofs.row.all_are.Tie as tie
+use Rattle.terms.proofs.slices.all_are.Statement.{statement}
+use Rattle.terms.proofs.slices.all_are.Tie as tie
 
 abbrev Inv-loop : tie.InvT-loop
 Inv-loop numbers number at₀ at =
