@@ -25,11 +25,11 @@ use Rattle.tree.proofs.OneTreeSays.{OneTreeSays, says-one-tree, parent-below}
 use Rattle.tree.proofs.AcceptedTree.{accepted-says, pairs-lead}
 use Rattle.tree.proofs.TableSteps.{code-good}
 use Rattle.tree.proofs.EachHosts.{host, host-pair}
-use Rattle.topphatt.specs.Slots.{parity-of}
+use Rattle.slots.specs.Slots.{parity-of}
+use Rattle.slots.proofs.SlotCases.{even-pair, odd-pair, even-parity, odd-parity}
 use Rattle.topphatt.specs.Answer.{answer-table}
 use Rattle.topphatt.specs.Rounds.{ended}
 use Rattle.topphatt.specs.Assignment.{AllAssigned}
-use Rattle.topphatt.proofs.SlotCases.{even-pair, odd-pair, even-parity, odd-parity}
 use Rattle.topphatt.proofs.RoundsGo.{all-assigned}
 use Rattle.topphatt.proofs.AnswerShape.{relabelled, node-kept, absent-kept, mode-of, mode-below, leaf-relabelled, answer-at, answer-length, pair-with, node-same, node-counts, same-shape}
 

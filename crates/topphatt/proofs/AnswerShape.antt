@@ -19,11 +19,11 @@ use Rattle.tree.specs.Table.{place-of}
 use Rattle.tree.specs.Check.{tree-checked}
 use Rattle.tree.proofs.Standing.{place-within, stands-there}
 use Rattle.tree.proofs.AcceptedTree.{accepted-says}
-use Rattle.topphatt.specs.Slots.{pair-of, parity-of, slot-of}
+use Rattle.slots.specs.Slots.{pair-of, parity-of, slot-of}
+use Rattle.slots.proofs.SlotCases.{slot-child, slot-empty, slot-fixed, pair-below}
 use Rattle.topphatt.specs.Answer.{answer-table}
 use Rattle.topphatt.specs.Rounds.{ended}
 use Rattle.topphatt.specs.Assignment.{AllAssigned, SameShape}
-use Rattle.topphatt.proofs.SlotCases.{slot-child, slot-empty, slot-fixed, pair-below}
 use Rattle.topphatt.proofs.RoundsGo.{all-assigned}
 
 -- What the answer has in place of a code.

@@ -1,57 +1,25 @@
--- Modes and nodes of a round are below the number of modes, and so is the node of its choice.
+-- The unassigned modes are below the number of modes, and so is the node of a round's choice.
 use mathlib.Core.Path.{_≡_, refl, ap}
-use mathlib.Core.Bool.{Bool, true, false, cond}
+use mathlib.Core.Bool.{true}
 use mathlib.Core.List.{List, [], _∷_, map, flatMap}
-use Prim.Native.Nat.{ℕ, _-_, _<_, _≤_}
+use Prim.Native.Nat.{ℕ, _<_, _≤_}
 use native.Mathlib.Omega.{arith}
-use borrow.Author.Tests.{ltb-true, lt-ltb, ne-eqb}
-use lib.Dec.{ltb, eqb}
-use lib.ListN.{length, take, drop}
-use Rattle.lists.specs.Members.{keep, every, firsts}
+use borrow.Author.Tests.{ltb-true, ne-eqb}
+use lib.Dec.{ltb}
+use Rattle.lists.specs.Members.{keep, every}
 use Rattle.lists.specs.Least.{least-of}
 use Rattle.lists.specs.Ranges.{listed}
-use Rattle.lists.proofs.Every.{every-kept, every-first, every-uncons, every-append, every-taken, every-dropped}
+use Rattle.lists.proofs.Every.{every-kept, every-uncons, every-append}
 use Rattle.lists.proofs.Least.{least-passes}
-use Rattle.lists.proofs.Ranges.{every-from}
 use Rattle.entities.specs.declared.Triple.{Triple}
-use Rattle.tree.specs.Table.{nodes}
-use Rattle.topphatt.specs.Nodes.{remaining, farthest, narrowed, active}
+use Rattle.slots.specs.Nodes.{active}
+use Rattle.slots.proofs.NodeBounds.{Below, listed-below, active-below}
 use Rattle.topphatt.specs.Choices.{unassigned, without, choices-at}
 use Rattle.topphatt.specs.Choice.{Choice, candidates, rank, chosen}
-
-abbrev pub Below : ℕ → List ℕ → Type 0
-Below modes l = every (λ v. ltb v modes) l ≡ true
-
-listed-below : (modes : ℕ) → Below modes (listed (λ v. v) 0 modes)
-listed-below modes = every-from (λ v. ltb v modes) 0 modes (λ v low high. lt-ltb v modes (omega arith))
 
 pub unassigned-below : (modes : ℕ) (assigned : List ℕ) → Below modes (unassigned modes assigned)
 unfolding unassigned
 unassigned-below modes assigned = every-kept (λ v. ltb v modes) _ (listed (λ v. v) 0 modes) (listed-below modes)
-
-pub remaining-below : (modes : ℕ) (table : List ℕ) (round : ℕ) (assigned : List ℕ) → Below modes (remaining modes table round assigned)
-unfolding remaining nodes
-remaining-below modes table round assigned = every-kept (λ v. ltb v modes) _ (listed (λ v. v) 0 modes) (listed-below modes)
-
-pub farthest-below : (modes : ℕ) (table left : List ℕ) → Below modes left → Below modes (farthest modes table left)
-unfolding farthest
-farthest-below modes table left e = every-kept (λ v. ltb v modes) _ left e
-
-narrowed-below : (modes heuristic : ℕ) (like : ℕ → ℕ → Bool) (far : List ℕ) → Below modes far → Below modes (narrowed heuristic like far)
-unfolding narrowed firsts
-narrowed-below modes heuristic like far e = go (eqb heuristic 0) (eqb heuristic 1)
-  where
-    go : (a b : Bool) → Below modes (cond a (firsts like far) (cond b (take 1 far) (drop (length far - 1) far)))
-    go true b = every-first (λ v. ltb v modes) like [] far e
-    go false true = every-taken (λ v. ltb v modes) 1 far e
-    go false false = every-dropped (λ v. ltb v modes) (length far - 1) far e
-
-pub active-below : (modes : ℕ) (table : List ℕ) (heuristic round : ℕ) (assigned : List ℕ)
-    → Below modes (active modes table heuristic round assigned)
-unfolding active
-active-below modes table heuristic round assigned =
-    narrowed-below modes heuristic _ (farthest modes table (remaining modes table round assigned))
-    (farthest-below modes table (remaining modes table round assigned) (remaining-below modes table round assigned))
 
 -- A mode that none of them is, left out.
 pub without-none : (modes : ℕ) (free : List ℕ) → Below modes free → without modes free ≡ free

@@ -14,16 +14,17 @@ use Rattle.tree.specs.declared.TreeChecked.the-variants.{Accepted}
 use Rattle.tree.specs.Table.{child}
 use Rattle.tree.specs.Check.{tree-checked}
 use Rattle.tree.proofs.EachHosts.{each-hosts, pair-children}
-use Rattle.topphatt.specs.Slots.{pair-of, slot-of, slot, unfixed, leaf-of}
-use Rattle.topphatt.specs.Nodes.{complete}
+use Rattle.slots.specs.Slots.{pair-of, slot-of, slot, unfixed, leaf-of}
+use Rattle.slots.specs.Nodes.{complete}
+use Rattle.slots.proofs.SlotBounds.{slot-most, leaf-most}
+use Rattle.slots.proofs.ActiveNodes.{of-active}
+use Rattle.slots.proofs.SlotCases.{Without, without-unfixed, unfixed-without, pair-below, low-fixed}
 use Rattle.topphatt.specs.Choices.{unassigned, without, numbers, choices-at}
 use Rattle.topphatt.specs.Choice.{Choice, candidates}
 use Rattle.topphatt.specs.Rounds.{fixed, fixed-by}
 use Rattle.topphatt.specs.Assignment.{Fair}
-use Rattle.topphatt.proofs.ActiveNodes.{of-active}
-use Rattle.topphatt.proofs.NumberBounds.{slot-most, leaf-most, of-unassigned, of-without, of-numbers, Pairwise, Singly, of-choices}
+use Rattle.topphatt.proofs.NumberBounds.{of-unassigned, of-without, of-numbers, Pairwise, Singly, of-choices}
 use Rattle.topphatt.proofs.ChosenRight.{of-candidates}
-use Rattle.topphatt.proofs.SlotCases.{Without, without-unfixed, unfixed-without, pair-below, low-fixed}
 use Rattle.topphatt.proofs.RoundGives.{slots-together}
 
 module _ (modes : ℕ) (assigned : List ℕ) (whole : length assigned ≡ modes) (k mode : ℕ) (low : mode < modes) (code : ℕ) where

@@ -13,10 +13,10 @@ use Rattle.lists.proofs.Narrowing.{any-ascends}
 use Rattle.lists.proofs.Least.{FirstLeast, least-of-first}
 use Rattle.entities.specs.declared.Triple.{Triple}
 use Rattle.terms.specs.Weight.{weight-of}
-use Rattle.topphatt.specs.Nodes.{active}
+use Rattle.slots.specs.Nodes.{active}
+use Rattle.slots.proofs.ActiveNodes.{active-ascends}
 use Rattle.topphatt.specs.Choices.{choices-at}
 use Rattle.topphatt.specs.Choice.{Choice, candidates, packed, rank, chosen, Larger, Chosen}
-use Rattle.topphatt.proofs.ActiveNodes.{active-ascends}
 use Rattle.topphatt.proofs.NumberBounds.{choices-small}
 
 -- One choice of no higher node than another.

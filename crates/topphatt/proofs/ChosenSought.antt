@@ -10,8 +10,8 @@ use Rattle.lists.proofs.Least.{least-found}
 use Rattle.entities.specs.declared.Triple.{Triple}
 use Rattle.terms.specs.Weight.{weight-of}
 use Rattle.terms.proofs.WeightBound.{weight-at-most}
+use Rattle.slots.specs.Nodes.{active}
 use Rattle.topphatt.specs.declared.choice.Selection.{Selection}
-use Rattle.topphatt.specs.Nodes.{active}
 use Rattle.topphatt.specs.Choices.{choices-at}
 use Rattle.topphatt.specs.Choice.{Choice, candidates, rank, chosen}
 use Rattle.topphatt.specs.code.Seeking.{weighed, standing, worst, sought-over, choice-of}

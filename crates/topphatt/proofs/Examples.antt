@@ -18,8 +18,8 @@ use Rattle.tree.specs.Table.{nodes, child, place-of, parent-of, climb}
 use Rattle.tree.specs.OneTree.{root-of, leaves-once, absent-once, nodes-once, all-reached, one-tree}
 use Rattle.tree.specs.Pairs.{chain-end, pair-under, pair-right, pairs-right}
 use Rattle.tree.specs.Check.{codes-good, tree-checked}
-use Rattle.topphatt.specs.Slots.{pair-of, parity-of, leaf-slot, slot-of, slot, slots, unfixed, leaf-of}
-use Rattle.topphatt.specs.Nodes.{distance, is-fixed, complete, remaining, largest, farthest, narrowed, active}
+use Rattle.slots.specs.Slots.{pair-of, parity-of, leaf-slot, slot-of, slot, slots, unfixed, leaf-of}
+use Rattle.slots.specs.Nodes.{distance, is-fixed, complete, remaining, largest, farthest, narrowed, active}
 use Rattle.topphatt.specs.Choices.{unassigned, without, numbers, with-z, choices, choices-at}
 use Rattle.topphatt.specs.Choice.{candidates, packed, rank, chosen}
 use Rattle.topphatt.specs.Rounds.{before, fixed, fixed-by, after, next, rounds, ended}

@@ -7,7 +7,7 @@ use borrow.Author.Tests.{eq-eqb, ne-eqb}
 use lib.ListN.{set}
 use Rattle.lists.specs.Members.{keep}
 use Rattle.tree.specs.Table.{child}
-use Rattle.topphatt.specs.Slots.{slot, slot-of, unfixed, pair-of}
+use Rattle.slots.specs.Slots.{slot, slot-of, unfixed, pair-of}
 use Rattle.topphatt.specs.Choices.{without}
 use Rattle.topphatt.specs.Rounds.{fixed}
 

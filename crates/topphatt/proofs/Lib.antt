@@ -1,13 +1,9 @@
 -- The laws of assignment.
 pub mod Examples
-pub mod ActiveNodes
 pub mod NumberBounds
 pub mod ChosenRight
 pub mod ChosenOne
 pub mod FairCounts
-pub mod SlotCases
-pub mod Distances
-pub mod ActiveSlots
 pub mod SomeChoice
 pub mod RoundGives
 pub mod RoundsGo
@@ -20,8 +16,6 @@ pub mod OneAnswer
 pub mod RoundList
 pub mod ChosenLeaves
 pub mod WeightAtMost
-pub mod SlotKinds
-pub mod DistanceSteps
 pub mod SoughtSteps
 pub mod FixedSteps
 pub mod Bounds

@@ -1,46 +1,22 @@
--- The numbers of slots and of choices are small: a slot is at most 3n+2, a leaf below 2n.
+-- What the choices of a node are made of; their numbers are small, as those of slots are: at most 3n+2.
 use mathlib.Core.Path.{_≡_, refl, ap, sym}
 use mathlib.Core.Bool.{Bool, true, false, cond, not, _&&_}
 use mathlib.Core.List.{List, [], _∷_, map, flatMap, List·Memᴰ, List·Memᴰ·eq-of-singleton, Memᴰ·of-map}
 use mathlib.Core.Logic.{_⊎_, inl, inr, ⊎-elim}
 use Prim.Native.Nat.{ℕ, _+_, _*_, _<_, _≤_}
 use native.Mathlib.Omega.{arith}
-use borrow.Author.Tests.{ltb-true, eqb-false, not-true}
-use lib.Dec.{eqb, ltb}
-use lib.ListN.{getD}
+use borrow.Author.Tests.{eqb-false, not-true}
+use lib.Dec.{eqb}
 use Rattle.lists.specs.Members.{some-of}
 use Rattle.lists.specs.Ranges.{listed}
 use Rattle.lists.proofs.Membership.{of-kept, of-joined, counted-below}
 use Rattle.entities.specs.declared.Triple.{Triple}
 use Rattle.tree.specs.Table.{child}
-use Rattle.topphatt.specs.Slots.{pair-of, parity-of, leaf-slot, slot-of, slot, unfixed, leaf-of}
+use Rattle.slots.specs.Slots.{slot-of, slot, unfixed, leaf-of}
+use Rattle.slots.proofs.SlotBounds.{slot-most, leaf-most}
 use Rattle.topphatt.specs.Choices.{unassigned, without, numbers, with-z, choices, choices-at}
 
 module _ (modes : ℕ) where
-  pub leaf-slot-most : (mode parity : ℕ) → parity ≤ 1 → leaf-slot modes mode parity ≤ 3 * modes + 2
-  unfolding leaf-slot
-  leaf-slot-most mode parity p = go (ltb mode modes) refl
-    where
-      go : (b : Bool) → ltb mode modes ≡ b → cond b (2 * mode + parity) (3 * modes + 1 + parity) ≤ 3 * modes + 2
-      go true q = omega (arith, ltb-true mode modes q)
-      go false q = omega arith
-
-  pub slot-most : (assigned : List ℕ) (code : ℕ) → slot-of modes assigned code ≤ 3 * modes + 2
-  unfolding slot-of parity-of
-  slot-most assigned code = go (ltb code modes) refl (ltb code (3 * modes)) refl
-    where
-      go : (n : Bool) → ltb code modes ≡ n → (l : Bool) → ltb code (3 * modes) ≡ l
-          → cond n (2 * modes + 1 + code)
-          (cond l (leaf-slot modes (getD assigned (pair-of modes code) modes) (parity-of modes code)) (2 * modes))
-          ≤ 3 * modes + 2
-      go true q l r = omega (arith, ltb-true code modes q)
-      go false q true r = leaf-slot-most (getD assigned (pair-of modes code) modes) (parity-of modes code) (omega arith)
-      go false q false r = omega arith
-
-  pub leaf-most : (slot mode : ℕ) → slot ≤ 3 * modes + 2 → mode < modes → leaf-of modes slot mode < 2 * modes
-  unfolding leaf-of
-  leaf-most slot mode h k = omega arith
-
   -- An unassigned mode is a mode; no entry has it.
   pub of-unassigned : {mode : ℕ} (assigned : List ℕ) → List·Memᴰ mode (unassigned modes assigned) → (mode < modes) × (some-of (eqb mode) assigned ≡ false)
   unfolding unassigned
@@ -119,7 +95,7 @@ module _ (modes : ℕ) where
       → List·Memᴰ number (numbers modes slot free) → number ≤ 3 * modes + 2
   number-most slot free h below m =
       ⊎-elim
-      (λ leaf. omega (arith, leaf .1 .2, leaf-most slot (leaf .1 .0) h (below (leaf .1 .0) (leaf .1 .1))))
+      (λ leaf. omega (arith, leaf .1 .2, leaf-most modes slot (leaf .1 .0) h (below (leaf .1 .0) (leaf .1 .1))))
       (λ same. omega (arith, same .1))
       (of-numbers slot free m)
 
@@ -130,16 +106,16 @@ module _ (modes : ℕ) where
       let y = slot-of modes assigned (child table node 1) in
       let z = slot-of modes assigned (child table node 2) in
       let free = unassigned modes assigned in
-      let hx : x ≤ 3 * modes + 2 = slot-most assigned (child table node 0) in
-      let hy : y ≤ 3 * modes + 2 = slot-most assigned (child table node 1) in
-      let hz : z ≤ 3 * modes + 2 = slot-most assigned (child table node 2) in
+      let hx : x ≤ 3 * modes + 2 = slot-most modes assigned (child table node 0) in
+      let hy : y ≤ 3 * modes + 2 = slot-most modes assigned (child table node 1) in
+      let hz : z ≤ 3 * modes + 2 = slot-most modes assigned (child table node 2) in
       let below : (mode : ℕ) → List·Memᴰ mode free → mode < modes = λ mode n. of-unassigned assigned n .0 in
       ⊎-elim {C = Small triple}
       (λ (c : Pairwise free x y z triple).
       let h = below (c .mode) (c .member) in
       record {
-        x-small = omega (arith, c .x-is, leaf-most x (c .mode) hx h);
-        y-small = omega (arith, c .y-is, leaf-most y (c .mode) hy h);
+        x-small = omega (arith, c .x-is, leaf-most modes x (c .mode) hx h);
+        y-small = omega (arith, c .y-is, leaf-most modes y (c .mode) hy h);
         z-small = number-most z (without (c .mode) free) hz (λ mode n. below mode (of-without (c .mode) free n .0)) (c .z-is);
       })
       (λ (c : Singly free x y z triple).

@@ -15,18 +15,18 @@ use Rattle.entities.specs.Codes.{absent}
 use Rattle.tree.specs.declared.TreeChecked.the-variants.{Accepted}
 use Rattle.tree.specs.Table.{child}
 use Rattle.tree.specs.Check.{tree-checked}
-use Rattle.topphatt.specs.Slots.{pair-of, parity-of, slot-of, slot, unfixed, leaf-of}
-use Rattle.topphatt.specs.Nodes.{active}
+use Rattle.slots.specs.Slots.{pair-of, parity-of, slot-of, slot, unfixed, leaf-of}
+use Rattle.slots.specs.Nodes.{active}
+use Rattle.slots.proofs.ActiveNodes.{of-active}
+use Rattle.slots.proofs.SlotCases.{Without, slot-without, without-unfixed, unfixed-without, fixed-not-unfixed, pair-below, even-pair, odd-pair, even-without, edge-unfixed}
+use Rattle.slots.proofs.ActiveSlots.{PairHere, OnlyZ, active-slots, here-unfixed}
 use Rattle.topphatt.specs.Choices.{unassigned, without, numbers, choices-at}
 use Rattle.topphatt.specs.Choice.{Choice, candidates}
 use Rattle.topphatt.specs.Rounds.{fixed, fixed-by}
 use Rattle.topphatt.specs.Assignment.{Fair, Given}
-use Rattle.topphatt.proofs.ActiveNodes.{of-active}
 use Rattle.topphatt.proofs.NumberBounds.{of-unassigned, of-without, of-numbers, Pairwise, Singly, of-choices}
 use Rattle.topphatt.proofs.ChosenRight.{of-candidates}
 use Rattle.topphatt.proofs.FairCounts.{given, given-twice, others-stay}
-use Rattle.topphatt.proofs.SlotCases.{Without, slot-without, without-unfixed, unfixed-without, fixed-not-unfixed, pair-below, even-pair, odd-pair, even-without, edge-unfixed}
-use Rattle.topphatt.proofs.ActiveSlots.{PairHere, OnlyZ, active-slots, here-unfixed}
 
 module _ (modes : ℕ) (table : List ℕ) (node edge number : ℕ) (assigned : List ℕ) where
   stays-fixed : unfixed modes (slot modes table assigned node edge) ≡ false → fixed modes table node edge number assigned ≡ assigned

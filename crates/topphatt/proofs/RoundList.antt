@@ -12,10 +12,10 @@ use Rattle.lists.specs.Members.{keep}
 use Rattle.lists.proofs.Tests.{both}
 use Rattle.lists.proofs.Kept.{keep-twice}
 use Rattle.tree.specs.Table.{nodes, child}
-use Rattle.topphatt.specs.Slots.{pair-of, slot-of, slot, unfixed}
-use Rattle.topphatt.specs.Nodes.{is-fixed, complete, remaining}
+use Rattle.slots.specs.Slots.{pair-of, slot-of, slot, unfixed}
+use Rattle.slots.specs.Nodes.{is-fixed, complete, remaining}
+use Rattle.slots.proofs.SlotCases.{slot-child, slot-empty, slot-leaf, without-unfixed}
 use Rattle.topphatt.specs.Assignment.{Given}
-use Rattle.topphatt.proofs.SlotCases.{slot-child, slot-empty, slot-leaf, without-unfixed}
 
 module _ (modes : ℕ) (assigned now : List ℕ) (given : Given modes assigned now) where
   pub slot-stays : (code : ℕ) → unfixed modes (slot-of modes assigned code) ≡ false → slot-of modes now code ≡ slot-of modes assigned code

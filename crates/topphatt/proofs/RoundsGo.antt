@@ -13,14 +13,14 @@ use Rattle.lists.proofs.Pigeonholes.{counted-with}
 use Rattle.tree.specs.declared.TreeChecked.the-variants.{Accepted}
 use Rattle.tree.specs.Table.{child}
 use Rattle.tree.specs.Check.{tree-checked}
-use Rattle.topphatt.specs.Slots.{pair-of, slot, unfixed}
+use Rattle.slots.specs.Slots.{pair-of, slot, unfixed}
+use Rattle.slots.proofs.SlotCases.{Without, unfixed-without, pair-below}
 use Rattle.topphatt.specs.Choices.{unassigned}
 use Rattle.topphatt.specs.Choice.{chosen}
 use Rattle.topphatt.specs.Rounds.{Rounds, before, after, next, rounds, ended}
 use Rattle.topphatt.specs.Assignment.{Fair, RoundGoes, UnderWay, AllAssigned}
 use Rattle.topphatt.proofs.ChosenRight.{of-candidates, chosen-first, chosen-right}
 use Rattle.topphatt.proofs.FairCounts.{fair-before, as-many, each-assigned}
-use Rattle.topphatt.proofs.SlotCases.{Without, unfixed-without, pair-below}
 use Rattle.topphatt.proofs.SomeChoice.{some-choice}
 use Rattle.topphatt.proofs.RoundGives.{slots-together, choice-gives}
 use Rattle.topphatt.proofs.RoundList.{complete-leave}

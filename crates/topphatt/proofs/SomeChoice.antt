@@ -20,16 +20,16 @@ use Rattle.tree.specs.Pairs.{chain-end}
 use Rattle.tree.specs.Check.{tree-checked}
 use Rattle.tree.proofs.TableSteps.{chain-rests}
 use Rattle.tree.proofs.EachHosts.{host, host-pair, child-apart}
-use Rattle.topphatt.specs.Slots.{pair-of, slot, unfixed, leaf-of}
-use Rattle.topphatt.specs.Nodes.{active, complete}
+use Rattle.slots.specs.Slots.{pair-of, slot, unfixed, leaf-of}
+use Rattle.slots.specs.Nodes.{active, complete}
+use Rattle.slots.proofs.ActiveNodes.{Active, of-active, some-active}
+use Rattle.slots.proofs.SlotCases.{Without, unfixed-without, pair-below, even-without, edge-unfixed}
+use Rattle.slots.proofs.Distances.{chain-holder}
+use Rattle.slots.proofs.ActiveSlots.{PairHere, OnlyZ, active-slots, here-unfixed, left-incomplete, z-incomplete, x-incomplete}
 use Rattle.topphatt.specs.Choices.{unassigned, without, numbers, with-z, choices, choices-at}
 use Rattle.topphatt.specs.Choice.{candidates}
 use Rattle.topphatt.specs.Assignment.{Fair}
-use Rattle.topphatt.proofs.ActiveNodes.{Active, of-active, some-active}
 use Rattle.topphatt.proofs.FairCounts.{pair-without, two-left}
-use Rattle.topphatt.proofs.SlotCases.{Without, unfixed-without, pair-below, even-without, edge-unfixed}
-use Rattle.topphatt.proofs.Distances.{chain-holder}
-use Rattle.topphatt.proofs.ActiveSlots.{PairHere, OnlyZ, active-slots, here-unfixed, left-incomplete, z-incomplete, x-incomplete}
 
 module _ (modes : ℕ) where
   -- A slot has a number where it isn't unfixed, and where a mode is free.

@@ -13,8 +13,8 @@ use Rattle.lists.proofs.Kept.{keep-joined}
 use Rattle.lists.proofs.Joined.{flatMap-joined}
 use Rattle.lists.proofs.Least.{ahead, behind, least-joined, least-map-joined}
 use Rattle.entities.specs.declared.Triple.{Triple}
+use Rattle.slots.specs.Slots.{leaf-of}
 use Rattle.topphatt.specs.declared.choice.Selection.{Selection}
-use Rattle.topphatt.specs.Slots.{leaf-of}
 use Rattle.topphatt.specs.Choices.{with-z, without, choices-at}
 use Rattle.topphatt.specs.Choice.{packed}
 use Rattle.topphatt.specs.code.Seeking.{standing, weighed, sought, sought-over}

@@ -13,7 +13,7 @@ use Rattle.terms.specs.declared.checking.Checked.the-variants.{Good, Refused as
 use Rattle.tree.specs.Check.{tree-checked}
 use Rattle.tree.specs.declared.TreeChecked.{TreeChecked}
 use Rattle.tree.specs.declared.TreeChecked.the-variants.{Accepted, Refused as BadTree}
-use Rattle.topphatt.specs.Slots.{slot-of}
+use Rattle.slots.specs.Slots.{slot-of}
 use Rattle.topphatt.specs.Rounds.{ended}
 
 -- The codes of the slots, where the given tree has its own.

@@ -9,8 +9,8 @@ use Rattle.lists.specs.Members.{keep}
 use Rattle.entities.specs.Codes.{absent}
 use Rattle.tree.specs.Check.{tree-checked}
 use Rattle.tree.specs.declared.TreeChecked.the-variants.{Accepted}
-use Rattle.topphatt.specs.Slots.{slot, unfixed}
-use Rattle.topphatt.specs.Nodes.{complete, remaining}
+use Rattle.slots.specs.Slots.{slot, unfixed}
+use Rattle.slots.specs.Nodes.{complete, remaining}
 use Rattle.topphatt.specs.Choices.{unassigned}
 use Rattle.topphatt.specs.Choice.{Choice, candidates, Chosen}
 use Rattle.topphatt.specs.Rounds.{Rounds, before, after}

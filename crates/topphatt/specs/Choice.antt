@@ -6,7 +6,7 @@ use Prim.Native.Nat.{ℕ, _+_, _-_, _*_, _≤_, _<_}
 use Rattle.lists.specs.Least.{least-of}
 use Rattle.entities.specs.declared.Triple.{Triple}
 use Rattle.terms.specs.Weight.{weight-of}
-use Rattle.topphatt.specs.Nodes.{active}
+use Rattle.slots.specs.Nodes.{active}
 use Rattle.topphatt.specs.Choices.{choices-at}
 
 -- A node with the numbers that its three slots are to stand as.

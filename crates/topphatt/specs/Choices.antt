@@ -6,7 +6,7 @@ use lib.Dec.{eqb}
 use Rattle.lists.specs.Members.{keep, some-of}
 use Rattle.lists.specs.Ranges.{listed}
 use Rattle.entities.specs.declared.Triple.{Triple}
-use Rattle.topphatt.specs.Slots.{slot, unfixed, leaf-of}
+use Rattle.slots.specs.Slots.{slot, unfixed, leaf-of}
 
 -- The modes that no pair has yet, ascending.
 unfoldable pub unassigned : ℕ → List ℕ → List ℕ

@@ -1,6 +1,4 @@
--- What document 01 says of one assignment: slots, the nodes of a round, their choices, the rounds and the answer.
-pub mod Slots
-pub mod Nodes
+-- What document 01 says of one assignment: the choices of a round's nodes, the rounds and the answer.
 pub mod Choices
 pub mod Choice
 pub mod Rounds

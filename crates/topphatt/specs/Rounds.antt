@@ -8,7 +8,7 @@ use Rattle.entities.specs.Parents.{parent-number}
 use Rattle.terms.specs.Weight.{weight-of}
 use Rattle.terms.specs.Reduction.{reduction}
 use Rattle.tree.specs.Table.{child}
-use Rattle.topphatt.specs.Slots.{pair-of, slot, unfixed}
+use Rattle.slots.specs.Slots.{pair-of, slot, unfixed}
 use Rattle.topphatt.specs.Choices.{unassigned}
 use Rattle.topphatt.specs.Choice.{Choice, chosen}
 

@@ -9,13 +9,12 @@ ghost use Rattle.lists.specs.Members.{every, «some-of»};
 ghost use Rattle.lists.specs.Least.{lighter};
 ghost use Rattle.terms.specs.Rows.{Held, «terms-of»};
 ghost use Rattle.terms.specs.Weight.{OddOf, «weight-of»};
-ghost use Rattle.topphatt.specs.Slots.{«leaf-of»};
+ghost use Rattle.slots.specs.Slots.{«leaf-of»};
 ghost use Rattle.topphatt.specs.Choices.{unassigned, without, numbers, «with-z», choices};
 ghost use Rattle.topphatt.specs.Choice.{packed as «packed-number»};
 ghost use Rattle.topphatt.specs.code.Seeking.{standing, worst, sought, «sought-over»};
-use crate::nodes;
-use crate::slots;
 use entities::Triple;
+use slots::nodes;
 use terms::weight;
 
 // The best choice so far: its weight, its node, and the numbers that the node's three slots are to stand as.

@@ -6,22 +6,22 @@ ghost use Rattle.lists.specs.Written.{«written-at»};
 ghost use Rattle.entities.specs.Codes.{code};
 ghost use Rattle.terms.specs.Rows.{Held, «terms-of»};
 ghost use Rattle.terms.specs.Good.{checked};
-ghost use Rattle.topphatt.specs.Slots.{«slot-of»};
+ghost use Rattle.slots.specs.Slots.{«slot-of»};
+ghost use Rattle.slots.specs.code.Promises.{Distances};
 ghost use Rattle.topphatt.specs.Rounds.{ended};
 ghost use Rattle.topphatt.specs.Answer.{«answer-table», outcome, «with-terms», «with-room»};
 ghost use Rattle.topphatt.specs.Promises.{Assigns};
-ghost use Rattle.topphatt.specs.code.Seeking.{Distances, Tabled};
+ghost use Rattle.topphatt.specs.code.Seeking.{Tabled};
 use entities::codes;
 use refusal::Refusal;
+use slots::nodes;
 use terms::checking;
 use terms::checking::Checked;
 use terms::slices;
 use tree::TreeChecked;
 
 mod choice;
-mod nodes;
 mod rounds;
-mod slots;
 
 // What an assignment says: the sum of chosen weights, or why it is refused.
 pub enum Assigned {

@@ -9,8 +9,8 @@ use lib.Seq.{take-all}
 use Rattle.lists.specs.Written.{written-at}
 use Rattle.lists.proofs.Behind.{mapped-start, mapped-next}
 use Rattle.entities.specs.Codes.{code}
+use Rattle.slots.specs.Slots.{slot-of}
 use Rattle.topphatt.specs.Answer.{answer-table}
-use Rattle.topphatt.specs.Slots.{slot-of}
 use Rattle.topphatt.proofs.write_table.Statement.{statement}
 use Rattle.topphatt.proofs.write_table.Tie as tie
 

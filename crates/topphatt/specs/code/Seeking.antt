@@ -2,34 +2,19 @@
 use mathlib.Core.Path.{_≡_}
 use mathlib.Core.List.{List, map, flatMap}
 use Prim.Native.Nat.{ℕ, suc, _+_, _-_, _*_, _≤_, _<_}
-use lib.ListN.{length, getD}
+use lib.ListN.{length}
 use Rattle.lists.specs.Least.{least}
 use Rattle.lists.specs.Written.{written-at}
 use Rattle.entities.specs.declared.Triple.{Triple}
 use Rattle.terms.specs.Rows.{Held, terms-of}
 use Rattle.terms.specs.Weight.{weight-of}
+use Rattle.slots.specs.code.Promises.{Distances}
 use Rattle.topphatt.specs.declared.choice.Selection.{Selection}
 use Rattle.topphatt.specs.declared.rounds.Progress.{Progress}
-use Rattle.topphatt.specs.Slots.{slot}
-use Rattle.topphatt.specs.Nodes.{distance}
 use Rattle.topphatt.specs.Choices.{choices-at}
 use Rattle.topphatt.specs.Choice.{Choice, packed, chosen}
 use Rattle.topphatt.specs.Rounds.{Rounds, fixed-by, next}
 use Rattle.topphatt.specs.Answer.{answer-table}
-
--- The slots of a node, and that each fits.
-pub record SlotsAre (modes : ℕ) (table assigned : List ℕ) (node : ℕ) (r : Triple) : Type 0 where
-  pub x-is : r .x ≡ slot modes table assigned node 0
-  pub y-is : r .y ≡ slot modes table assigned node 1
-  pub z-is : r .z ≡ slot modes table assigned node 2
-  pub x-fits : r .x ≤ 3 * modes + 2
-  pub y-fits : r .y ≤ 3 * modes + 2
-  pub z-fits : r .z ≤ 3 * modes + 2
-
--- The distance of each node stands at the node.
-pub record Distances (modes : ℕ) (table distances : List ℕ) : Type 0 where
-  pub room : modes ≤ length distances
-  pub each : (node : ℕ) → node < modes → getD distances node 0 ≡ distance table modes node
 
 -- A choice with its weight.
 unfoldable pub weighed : List (List ℕ) → ℕ → Triple → Selection

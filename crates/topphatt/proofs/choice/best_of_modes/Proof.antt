@@ -8,9 +8,9 @@ use lib.ListN.{length, drop, drop-of-length-le}
 use Rattle.lists.specs.Members.{keep}
 use Rattle.lists.proofs.Every.{below-at}
 use Rattle.terms.specs.Rows.{terms-of}
+use Rattle.slots.specs.Slots.{leaf-of}
 use Rattle.topphatt.specs.code.Seeking.{sought}
 use Rattle.topphatt.specs.Choices.{with-z, without}
-use Rattle.topphatt.specs.Slots.{leaf-of}
 use Rattle.topphatt.proofs.SoughtSteps.{sought-none, modes-step}
 use Rattle.topphatt.proofs.choice.best_of_modes.Statement.{statement}
 use Rattle.topphatt.proofs.choice.best_of_modes.Tie as tie

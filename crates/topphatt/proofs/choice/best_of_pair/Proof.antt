@@ -4,8 +4,8 @@ use native.Mathlib.Omega.{arith}
 use borrow.Author.Tests.{not-true, not-false}
 use borrow.Author.Needs.{needs}
 use lib.ListN.{length}
+use Rattle.slots.proofs.SlotKinds.{unfixed-above}
 use Rattle.topphatt.specs.Choices.{with-z, numbers}
-use Rattle.topphatt.proofs.SlotKinds.{unfixed-above}
 use Rattle.topphatt.proofs.choice.best_of_pair.Statement.{statement}
 use Rattle.topphatt.proofs.choice.best_of_pair.Tie as tie
 

@@ -9,9 +9,9 @@ use Rattle.lists.proofs.Every.{below-at}
 use Rattle.lists.proofs.Steps.{joined-step, joined-end}
 use Rattle.entities.specs.declared.Triple.{Triple}
 use Rattle.terms.specs.Rows.{terms-of}
+use Rattle.slots.specs.Slots.{leaf-of}
 use Rattle.topphatt.specs.code.Seeking.{sought}
 use Rattle.topphatt.specs.Choices.{with-z, without, numbers}
-use Rattle.topphatt.specs.Slots.{leaf-of}
 use Rattle.topphatt.proofs.SoughtSteps.{sought-none, sought-joined}
 use Rattle.topphatt.proofs.choice.best_of_pairs.Statement.{statement}
 use Rattle.topphatt.proofs.choice.best_of_pairs.Tie as tie

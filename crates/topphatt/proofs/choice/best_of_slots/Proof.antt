@@ -3,9 +3,9 @@ use mathlib.Core.Path.{_∙_, sym}
 use native.Mathlib.Omega.{arith}
 use borrow.Author.Tests.{not-true, not-false}
 use borrow.Author.Needs.{needs}
+use Rattle.slots.proofs.SlotKinds.{unfixed-above}
 use Rattle.topphatt.specs.Choices.{choices}
 use Rattle.topphatt.proofs.Bounds.{without-none}
-use Rattle.topphatt.proofs.SlotKinds.{unfixed-above}
 use Rattle.topphatt.proofs.choice.best_of_slots.Statement.{statement}
 use Rattle.topphatt.proofs.choice.best_of_slots.Tie as tie
 

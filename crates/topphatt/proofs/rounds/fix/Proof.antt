@@ -4,9 +4,9 @@ use native.Mathlib.Omega.{arith}
 use borrow.Author.Tests.{not-true, not-false}
 use borrow.Author.Needs.{needs}
 use lib.ListN.{length-set}
-use Rattle.topphatt.specs.Slots.{slot-of, unfixed}
+use Rattle.slots.specs.Slots.{slot-of, unfixed}
+use Rattle.slots.proofs.SlotCases.{unfixed-without}
 use Rattle.topphatt.proofs.FixedSteps.{fixed-not, fixed-set}
-use Rattle.topphatt.proofs.SlotCases.{unfixed-without}
 use Rattle.topphatt.proofs.rounds.fix.Statement.{statement}
 use Rattle.topphatt.proofs.rounds.fix.Tie as tie
 

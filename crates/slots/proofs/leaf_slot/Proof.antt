@@ -1,0 +1,50 @@
+-- The test of the mode decides.
+use native.Mathlib.Omega.{arith}
+use borrow.Author.Tests.{lt-ltb, le-ltb}
+use borrow.Author.Needs.{needs}
+use Rattle.slots.specs.Slots.{leaf-slot}
+use Rattle.slots.proofs.leaf_slot.Statement.{statement}
+use Rattle.slots.proofs.leaf_slot.Tie as tie
+
+mul-result : tie.Need-mul-result
+mul-result c = search needs
+
+add-result : tie.Need-add-result
+add-result c = search needs
+
+cast-result : tie.Need-cast-result
+cast-result c = search needs
+
+returns : tie.Need-returns
+unfolding leaf-slot
+returns c = (rw (lt-ltb _ _ (c .if1 .taken)), omega arith)
+
+mul-result-2 : tie.Need-mul-result-2
+mul-result-2 c = search needs
+
+add-result-2 : tie.Need-add-result-2
+add-result-2 c = search needs
+
+add-result-3 : tie.Need-add-result-3
+add-result-3 c = search needs
+
+cast-result-2 : tie.Need-cast-result-2
+cast-result-2 c = search needs
+
+returns-2 : tie.Need-returns-2
+unfolding leaf-slot
+returns-2 c = (rw (le-ltb _ _ (c .if1 .left)), omega arith)
+
+pub leaf-slot-spec : {M : Type 1} → statement M
+leaf-slot-spec =
+    tie.close
+    (tie.spec
+    mul-result
+    add-result
+    cast-result
+    returns
+    mul-result-2
+    add-result-2
+    add-result-3
+    cast-result-2
+    returns-2)

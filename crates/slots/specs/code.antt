@@ -1,0 +1,2 @@
+-- What the functions on slots and nodes promise whoever calls them: no definition for readers needs it.
+pub mod Promises
