@@ -6,7 +6,7 @@ fn main() {
     }
     let archives = format!("{}/../../target/native", env!("CARGO_MANIFEST_DIR"));
     println!("cargo:rustc-link-search=native={archives}");
-    for name in ["bench", "daemon"] {
+    for name in ["test_calls", "daemon"] {
         println!("cargo:rustc-link-lib=static={name}");
         println!("cargo:rerun-if-changed={archives}/lib{name}.a");
     }

@@ -1,4 +1,4 @@
-//! The proved library's calls, as crate `bench` exports them, and those for C.
+//! The proved library's calls, as crate `test_calls` exports them, and those for C.
 
 pub mod c;
 

@@ -3,8 +3,8 @@ use mathlib.Core.Path.{sym}
 use native.Mathlib.Omega.{arith}
 use borrow.Author.Needs.{needs}
 use lib.Seq.{length-take-le}
-use Rattle.bench.proofs.put_six.Statement.{statement}
-use Rattle.bench.proofs.put_six.Tie as tie
+use Rattle.test_calls.proofs.put_six.Statement.{statement}
+use Rattle.test_calls.proofs.put_six.Tie as tie
 
 returns : tie.Need-returns
 returns c = search needs
