@@ -12,7 +12,7 @@ use tree::TreeWeighed;
 
 // The call `resume` as it is; its six numbers follow: refusal, place, weight, trials, kept and new bytes.
 #[no_mangle]
-pub extern "C" fn bench_resume(
+pub extern "C" fn test_resume(
     modes: usize,
     terms: &[u16],
     read: &[u8],
@@ -41,7 +41,7 @@ pub extern "C" fn bench_resume(
 
 // The call `assign` as it is; its refusal's number and place follow, and the weight.
 #[no_mangle]
-pub extern "C" fn bench_assign(
+pub extern "C" fn test_assign(
     modes: usize,
     tree: &[u16],
     heuristic: usize,
@@ -65,7 +65,7 @@ pub extern "C" fn bench_assign(
 
 // What the check of a tree answers: its refusal's number and place, and a zero; nothing where there is no room.
 #[no_mangle]
-pub extern "C" fn bench_check_tree(modes: usize, tree: &[u16], answer: &mut [u64]) {
+pub extern "C" fn test_check_tree(modes: usize, tree: &[u16], answer: &mut [u64]) {
     match tree::check_tree(modes, tree) {
         TreeChecked::Accepted => put(answer, 0, 0, 0),
         TreeChecked::Refused(refusal) => {
@@ -81,7 +81,7 @@ pub extern "C" fn bench_check_tree(modes: usize, tree: &[u16], answer: &mut [u64
 
 // What the tree weight answers: its refusal's number and place, and the weight; nothing where there is no room.
 #[no_mangle]
-pub extern "C" fn bench_tree_weight(modes: usize, tree: &[u16], terms: &[u16], answer: &mut [u64]) {
+pub extern "C" fn test_tree_weight(modes: usize, tree: &[u16], terms: &[u16], answer: &mut [u64]) {
     match tree::weight::tree_weight(modes, tree, terms) {
         TreeWeighed::Weight(weight) => put(answer, 0, 0, weight),
         TreeWeighed::Unweighed(refusal) => {
@@ -97,7 +97,7 @@ pub extern "C" fn bench_tree_weight(modes: usize, tree: &[u16], terms: &[u16], a
 
 // The call `write_newick` as it is; its refusal's number and place follow, and the bytes written.
 #[no_mangle]
-pub extern "C" fn bench_write_newick(
+pub extern "C" fn test_write_newick(
     modes: usize,
     tree: &[u16],
     text: &mut [u8],
@@ -118,7 +118,7 @@ pub extern "C" fn bench_write_newick(
 
 // The call `read_newick` as it is; its refusal's number and place follow, and the modes read.
 #[no_mangle]
-pub extern "C" fn bench_read_newick(text: &[u8], table: &mut [u16], answer: &mut [u64]) {
+pub extern "C" fn test_read_newick(text: &[u8], table: &mut [u16], answer: &mut [u64]) {
     match reading::read_newick(text, table) {
         NewickRead::Read(modes) => put(answer, 0, 0, modes as u64),
         NewickRead::Unread(refusal) => {

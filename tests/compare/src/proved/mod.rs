@@ -3,7 +3,7 @@
 pub mod c;
 
 extern "C" {
-    fn bench_resume(
+    fn test_resume(
         modes: usize,
         terms: *const u16,
         numbers: usize,
@@ -18,7 +18,7 @@ extern "C" {
         answer: *mut u64,
         answer_room: usize,
     );
-    fn bench_assign(
+    fn test_assign(
         modes: usize,
         tree: *const u16,
         codes: usize,
@@ -32,14 +32,14 @@ extern "C" {
         answer: *mut u64,
         answer_room: usize,
     );
-    fn bench_check_tree(
+    fn test_check_tree(
         modes: usize,
         tree: *const u16,
         codes: usize,
         answer: *mut u64,
         answer_room: usize,
     );
-    fn bench_tree_weight(
+    fn test_tree_weight(
         modes: usize,
         tree: *const u16,
         codes: usize,
@@ -48,7 +48,7 @@ extern "C" {
         answer: *mut u64,
         answer_room: usize,
     );
-    fn bench_write_newick(
+    fn test_write_newick(
         modes: usize,
         tree: *const u16,
         codes: usize,
@@ -57,7 +57,7 @@ extern "C" {
         answer: *mut u64,
         answer_room: usize,
     );
-    fn bench_read_newick(
+    fn test_read_newick(
         text: *const u8,
         bytes: usize,
         table: *mut u16,
@@ -79,7 +79,7 @@ pub fn resume(
     let mut answer = [u64::MAX; 6];
     // The library reads terms and journal, and writes the four slices within their lengths.
     unsafe {
-        bench_resume(
+        test_resume(
             modes,
             terms.as_ptr(),
             terms.len(),
@@ -110,7 +110,7 @@ pub fn assign(
     let mut answer = [u64::MAX; 3];
     // The library reads tree and terms, and writes the three slices within their lengths.
     unsafe {
-        bench_assign(
+        test_assign(
             modes,
             tree.as_ptr(),
             tree.len(),
@@ -134,7 +134,7 @@ pub fn check_tree(modes: usize, tree: &[u16]) -> [u64; 3] {
     let mut answer = [u64::MAX; 3];
     // The library reads the tree and writes the three numbers.
     unsafe {
-        bench_check_tree(
+        test_check_tree(
             modes,
             tree.as_ptr(),
             tree.len(),
@@ -150,7 +150,7 @@ pub fn tree_weight(modes: usize, tree: &[u16], terms: &[u16]) -> [u64; 3] {
     let mut answer = [u64::MAX; 3];
     // The library reads tree and terms and writes the three numbers.
     unsafe {
-        bench_tree_weight(
+        test_tree_weight(
             modes,
             tree.as_ptr(),
             tree.len(),
@@ -168,7 +168,7 @@ pub fn write_newick(modes: usize, tree: &[u16], text: &mut [u8]) -> [u64; 3] {
     let mut answer = [u64::MAX; 3];
     // The library reads the tree, and writes the two slices within their lengths.
     unsafe {
-        bench_write_newick(
+        test_write_newick(
             modes,
             tree.as_ptr(),
             tree.len(),
@@ -186,7 +186,7 @@ pub fn read_newick(text: &[u8], table: &mut [u16]) -> [u64; 3] {
     let mut answer = [u64::MAX; 3];
     // The library reads the text, and writes the two slices within their lengths.
     unsafe {
-        bench_read_newick(
+        test_read_newick(
             text.as_ptr(),
             text.len(),
             table.as_mut_ptr(),
