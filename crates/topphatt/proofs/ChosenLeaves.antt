@@ -19,12 +19,12 @@ use Rattle.slots.specs.Nodes.{complete}
 use Rattle.slots.proofs.SlotBounds.{slot-most, leaf-most}
 use Rattle.slots.proofs.ActiveNodes.{of-active}
 use Rattle.slots.proofs.SlotCases.{Without, without-unfixed, unfixed-without, pair-below, low-fixed}
-use Rattle.topphatt.specs.Choices.{unassigned, without, numbers, choices-at}
-use Rattle.topphatt.specs.Choice.{Choice, candidates}
+use Rattle.choice.specs.Choices.{unassigned, without, numbers, choices-at}
+use Rattle.choice.specs.Choice.{Choice, candidates}
+use Rattle.choice.proofs.NumberBounds.{of-unassigned, of-without, of-numbers, Pairwise, Singly, of-choices}
+use Rattle.choice.proofs.ChosenRight.{of-candidates}
 use Rattle.topphatt.specs.Rounds.{fixed, fixed-by}
 use Rattle.topphatt.specs.Assignment.{Fair}
-use Rattle.topphatt.proofs.NumberBounds.{of-unassigned, of-without, of-numbers, Pairwise, Singly, of-choices}
-use Rattle.topphatt.proofs.ChosenRight.{of-candidates}
 use Rattle.topphatt.proofs.RoundGives.{slots-together}
 
 module _ (modes : ℕ) (assigned : List ℕ) (whole : length assigned ≡ modes) (k mode : ℕ) (low : mode < modes) (code : ℕ) where

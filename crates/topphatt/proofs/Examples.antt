@@ -20,8 +20,8 @@ use Rattle.tree.specs.Pairs.{chain-end, pair-under, pair-right, pairs-right}
 use Rattle.tree.specs.Check.{codes-good, tree-checked}
 use Rattle.slots.specs.Slots.{pair-of, parity-of, leaf-slot, slot-of, slot, slots, unfixed, leaf-of}
 use Rattle.slots.specs.Nodes.{distance, is-fixed, complete, remaining, largest, farthest, narrowed, active}
-use Rattle.topphatt.specs.Choices.{unassigned, without, numbers, with-z, choices, choices-at}
-use Rattle.topphatt.specs.Choice.{candidates, packed, rank, chosen}
+use Rattle.choice.specs.Choices.{unassigned, without, numbers, with-z, choices, choices-at}
+use Rattle.choice.specs.Choice.{candidates, packed, rank, chosen}
 use Rattle.topphatt.specs.Rounds.{before, fixed, fixed-by, after, next, rounds, ended}
 use Rattle.topphatt.specs.Answer.{answer-table, with-room, with-terms, with-tree, outcome}
 use Rattle.topphatt.specs.Promises.{numbers-of, returned, table-after}

@@ -22,7 +22,7 @@ use Rattle.lists.proofs.Totals.{total, total-add, total-same, total-ones}
 use Rattle.lists.proofs.Sums.{one-if, same-one, same-none, length-keep, sum-listed}
 use Rattle.tree.specs.Table.{place-of}
 use Rattle.tree.proofs.Standing.{place-within, stands-there}
-use Rattle.topphatt.specs.Choices.{unassigned}
+use Rattle.choice.specs.Choices.{unassigned}
 use Rattle.topphatt.specs.Assignment.{Fair, Given}
 
 -- Before the first round no pair has a mode.

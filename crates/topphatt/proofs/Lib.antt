@@ -1,8 +1,5 @@
 -- The laws of assignment.
 pub mod Examples
-pub mod NumberBounds
-pub mod ChosenRight
-pub mod ChosenOne
 pub mod FairCounts
 pub mod SomeChoice
 pub mod RoundGives
@@ -16,9 +13,6 @@ pub mod OneAnswer
 pub mod RoundList
 pub mod ChosenLeaves
 pub mod WeightAtMost
-pub mod SoughtSteps
 pub mod FixedSteps
-pub mod Bounds
-pub mod ChosenSought
 pub mod RoundSteps
 pub mod Answers

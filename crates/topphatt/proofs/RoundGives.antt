@@ -20,12 +20,12 @@ use Rattle.slots.specs.Nodes.{active}
 use Rattle.slots.proofs.ActiveNodes.{of-active}
 use Rattle.slots.proofs.SlotCases.{Without, slot-without, without-unfixed, unfixed-without, fixed-not-unfixed, pair-below, even-pair, odd-pair, even-without, edge-unfixed}
 use Rattle.slots.proofs.ActiveSlots.{PairHere, OnlyZ, active-slots, here-unfixed}
-use Rattle.topphatt.specs.Choices.{unassigned, without, numbers, choices-at}
-use Rattle.topphatt.specs.Choice.{Choice, candidates}
+use Rattle.choice.specs.Choices.{unassigned, without, numbers, choices-at}
+use Rattle.choice.specs.Choice.{Choice, candidates}
+use Rattle.choice.proofs.NumberBounds.{of-unassigned, of-without, of-numbers, Pairwise, Singly, of-choices}
+use Rattle.choice.proofs.ChosenRight.{of-candidates}
 use Rattle.topphatt.specs.Rounds.{fixed, fixed-by}
 use Rattle.topphatt.specs.Assignment.{Fair, Given}
-use Rattle.topphatt.proofs.NumberBounds.{of-unassigned, of-without, of-numbers, Pairwise, Singly, of-choices}
-use Rattle.topphatt.proofs.ChosenRight.{of-candidates}
 use Rattle.topphatt.proofs.FairCounts.{given, given-twice, others-stay}
 
 module _ (modes : ℕ) (table : List ℕ) (node edge number : ℕ) (assigned : List ℕ) where

@@ -15,11 +15,11 @@ use Rattle.tree.specs.Table.{child}
 use Rattle.tree.specs.Check.{tree-checked}
 use Rattle.slots.specs.Slots.{pair-of, slot, unfixed}
 use Rattle.slots.proofs.SlotCases.{Without, unfixed-without, pair-below}
-use Rattle.topphatt.specs.Choices.{unassigned}
-use Rattle.topphatt.specs.Choice.{chosen}
+use Rattle.choice.specs.Choices.{unassigned}
+use Rattle.choice.specs.Choice.{chosen}
+use Rattle.choice.proofs.ChosenRight.{of-candidates, chosen-first, chosen-right}
 use Rattle.topphatt.specs.Rounds.{Rounds, before, after, next, rounds, ended}
 use Rattle.topphatt.specs.Assignment.{Fair, RoundGoes, UnderWay, AllAssigned}
-use Rattle.topphatt.proofs.ChosenRight.{of-candidates, chosen-first, chosen-right}
 use Rattle.topphatt.proofs.FairCounts.{fair-before, as-many, each-assigned}
 use Rattle.topphatt.proofs.SomeChoice.{some-choice}
 use Rattle.topphatt.proofs.RoundGives.{slots-together, choice-gives}

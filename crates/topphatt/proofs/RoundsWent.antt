@@ -10,11 +10,11 @@ use lib.ListN.{length}
 use Rattle.lists.specs.Counting.{occurrences}
 use Rattle.tree.specs.declared.TreeChecked.the-variants.{Accepted}
 use Rattle.tree.specs.Check.{tree-checked}
-use Rattle.topphatt.specs.Choices.{unassigned}
-use Rattle.topphatt.specs.Choice.{chosen}
+use Rattle.choice.specs.Choices.{unassigned}
+use Rattle.choice.specs.Choice.{chosen}
+use Rattle.choice.proofs.ChosenOne.{chosen-one}
 use Rattle.topphatt.specs.Rounds.{Rounds, before, after, next, rounds, ended}
 use Rattle.topphatt.specs.Assignment.{UnderWay, Went, no-more, one-more}
-use Rattle.topphatt.proofs.ChosenOne.{chosen-one}
 use Rattle.topphatt.proofs.FairCounts.{as-many}
 use Rattle.topphatt.proofs.RoundsGo.{pairs-at-most, under-way-before, under-way-next, round-goes}
 

@@ -26,8 +26,8 @@ use Rattle.slots.proofs.ActiveNodes.{Active, of-active, some-active}
 use Rattle.slots.proofs.SlotCases.{Without, unfixed-without, pair-below, even-without, edge-unfixed}
 use Rattle.slots.proofs.Distances.{chain-holder}
 use Rattle.slots.proofs.ActiveSlots.{PairHere, OnlyZ, active-slots, here-unfixed, left-incomplete, z-incomplete, x-incomplete}
-use Rattle.topphatt.specs.Choices.{unassigned, without, numbers, with-z, choices, choices-at}
-use Rattle.topphatt.specs.Choice.{candidates}
+use Rattle.choice.specs.Choices.{unassigned, without, numbers, with-z, choices, choices-at}
+use Rattle.choice.specs.Choice.{candidates}
 use Rattle.topphatt.specs.Assignment.{Fair}
 use Rattle.topphatt.proofs.FairCounts.{pair-without, two-left}
 

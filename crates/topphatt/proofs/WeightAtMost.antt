@@ -9,8 +9,8 @@ use lib.Dec.{eqb}
 use lib.ListN.{length}
 use Rattle.terms.proofs.WeightBound.{weight-at-most}
 use Rattle.terms.proofs.NoTwoEqual.{fewer-terms}
-use Rattle.topphatt.specs.Choices.{unassigned}
-use Rattle.topphatt.specs.Choice.{Choice, chosen}
+use Rattle.choice.specs.Choices.{unassigned}
+use Rattle.choice.specs.Choice.{Choice, chosen}
 use Rattle.topphatt.specs.Rounds.{Rounds, before, after, next, rounds, ended}
 
 module _ (modes : ℕ) (table : List ℕ) where

@@ -11,8 +11,8 @@ use Rattle.tree.specs.Check.{tree-checked}
 use Rattle.tree.specs.declared.TreeChecked.the-variants.{Accepted}
 use Rattle.slots.specs.Slots.{slot, unfixed}
 use Rattle.slots.specs.Nodes.{complete, remaining}
-use Rattle.topphatt.specs.Choices.{unassigned}
-use Rattle.topphatt.specs.Choice.{Choice, candidates, Chosen}
+use Rattle.choice.specs.Choices.{unassigned}
+use Rattle.choice.specs.Choice.{Choice, candidates, Chosen}
 use Rattle.topphatt.specs.Rounds.{Rounds, before, after}
 use Rattle.topphatt.specs.Answer.{answer-table}
 

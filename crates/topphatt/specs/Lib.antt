@@ -1,6 +1,4 @@
--- What document 01 says of one assignment: the choices of a round's nodes, the rounds and the answer.
-pub mod Choices
-pub mod Choice
+-- What document 01 says of one assignment: the rounds and the answer.
 pub mod Rounds
 pub mod Answer
 pub mod Promises

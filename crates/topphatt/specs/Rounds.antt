@@ -9,8 +9,8 @@ use Rattle.terms.specs.Weight.{weight-of}
 use Rattle.terms.specs.Reduction.{reduction}
 use Rattle.tree.specs.Table.{child}
 use Rattle.slots.specs.Slots.{pair-of, slot, unfixed}
-use Rattle.topphatt.specs.Choices.{unassigned}
-use Rattle.topphatt.specs.Choice.{Choice, chosen}
+use Rattle.choice.specs.Choices.{unassigned}
+use Rattle.choice.specs.Choice.{Choice, chosen}
 
 -- What the rounds have come to: how many there were, the mode of each pair, the rows, and the sum of chosen weights.
 pub record Rounds : Type 0 where

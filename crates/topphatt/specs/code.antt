@@ -1,2 +1,2 @@
--- How the code goes through a round's choices: no promise needs it.
-pub mod Seeking
+-- What holds from round to round in the code: no promise needs it.
+pub mod Going

@@ -11,7 +11,7 @@ ghost use Rattle.slots.specs.code.Promises.{Distances};
 ghost use Rattle.topphatt.specs.Rounds.{ended};
 ghost use Rattle.topphatt.specs.Answer.{«answer-table», outcome, «with-terms», «with-room»};
 ghost use Rattle.topphatt.specs.Promises.{Assigns};
-ghost use Rattle.topphatt.specs.code.Seeking.{Tabled};
+ghost use Rattle.topphatt.specs.code.Going.{Tabled};
 use entities::codes;
 use refusal::Refusal;
 use slots::nodes;
@@ -20,7 +20,6 @@ use terms::checking::Checked;
 use terms::slices;
 use tree::TreeChecked;
 
-mod choice;
 mod rounds;
 
 // What an assignment says: the sum of chosen weights, or why it is refused.

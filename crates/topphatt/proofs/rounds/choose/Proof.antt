@@ -7,10 +7,10 @@ use lib.ListN.{length, take}
 use Rattle.terms.specs.Rows.{terms-of}
 use Rattle.terms.proofs.RowSteps.{length-terms}
 use Rattle.slots.proofs.NodeBounds.{active-below}
-use Rattle.topphatt.specs.Choice.{chosen}
-use Rattle.topphatt.specs.code.Seeking.{choice-of}
-use Rattle.topphatt.proofs.ChosenSought.{over-chosen, over-weighs}
-use Rattle.topphatt.proofs.Bounds.{chosen-below}
+use Rattle.choice.specs.Choice.{chosen}
+use Rattle.choice.specs.code.Seeking.{choice-of}
+use Rattle.choice.proofs.ChosenSought.{over-chosen, over-weighs}
+use Rattle.choice.proofs.ChosenBelow.{chosen-below}
 use Rattle.topphatt.proofs.rounds.choose.Statement.{statement}
 use Rattle.topphatt.proofs.rounds.choose.Tie as tie
 

@@ -1,6 +1,6 @@
 -- X, Y and Z, each on what the one before left.
 use borrow.Author.Needs.{needs}
-use Rattle.topphatt.specs.code.Seeking.{choice-of}
+use Rattle.choice.specs.code.Seeking.{choice-of}
 use Rattle.topphatt.specs.Rounds.{fixed-by}
 use Rattle.topphatt.proofs.rounds.fix_all.Statement.{statement}
 use Rattle.topphatt.proofs.rounds.fix_all.Tie as tie

@@ -5,7 +5,7 @@ use native.Mathlib.Omega.{arith}
 use borrow.Author.Needs.{needs}
 use Rattle.terms.specs.Reduction.{reduction}
 use Rattle.terms.specs.Rows.{terms-of}
-use Rattle.topphatt.specs.code.Seeking.{choice-of}
+use Rattle.choice.specs.code.Seeking.{choice-of}
 use Rattle.topphatt.proofs.RoundSteps.{stepped}
 use Rattle.topphatt.proofs.rounds.round.Statement.{statement}
 use Rattle.topphatt.proofs.rounds.round.Tie as tie

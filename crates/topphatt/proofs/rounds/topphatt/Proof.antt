@@ -5,7 +5,7 @@ use native.Mathlib.Omega.{arith}
 use borrow.Author.Needs.{needs}
 use lib.ListN.{length, length-replicate}
 use Rattle.terms.specs.Rows.{terms-of}
-use Rattle.topphatt.specs.code.Seeking.{Going, state-of}
+use Rattle.topphatt.specs.code.Going.{Going, state-of}
 use Rattle.topphatt.specs.Rounds.{rounds, ended}
 use Rattle.topphatt.proofs.RoundSteps.{state-assigned, rounds-start, rounds-on, rounds-stop, rounds-end}
 use Rattle.topphatt.proofs.rounds.topphatt.Statement.{statement}

@@ -1,0 +1,4 @@
+-- What document 01 says of the choices of a round's nodes, and of the one that is taken.
+pub mod Choices
+pub mod Choice
+pub mod code

@@ -1,0 +1,2 @@
+-- How the code goes through a round's choices: no promise needs it.
+pub mod Seeking

@@ -1,0 +1,322 @@
+// The choice of a round: the least weight over the choices of its nodes, on a tie the largest z, y, x.
+ghost use mathlib.Core.Path.{_≡_};
+ghost use mathlib.Core.Bool.{true};
+ghost use mathlib.Core.List.{List, [], _∷_, map, flatMap};
+ghost use Prim.Native.Nat.{ℕ, _+_, _*_, _≤_, _<_};
+ghost use lib.Dec.{eqb, ltb};
+ghost use lib.ListN.{length, take};
+ghost use Rattle.lists.specs.Members.{every, «some-of»};
+ghost use Rattle.lists.specs.Least.{lighter};
+ghost use Rattle.terms.specs.Rows.{Held, «terms-of»};
+ghost use Rattle.terms.specs.Weight.{OddOf, «weight-of»};
+ghost use Rattle.slots.specs.Slots.{«leaf-of»};
+ghost use Rattle.choice.specs.Choices.{unassigned, without, numbers, «with-z», choices};
+ghost use Rattle.choice.specs.Choice.{packed as «packed-number»};
+ghost use Rattle.choice.specs.code.Seeking.{standing, worst, sought, «sought-over»};
+use entities::Triple;
+use slots::nodes;
+use terms::weight;
+
+// The best choice so far: its weight, its node, and the numbers that the node's three slots are to stand as.
+pub struct Selection {
+    pub min_weight: usize,
+    pub min_parent: u16,
+    pub leaf_indices: Triple,
+}
+
+// The mode is one of the pairs'.
+fn is_assigned(assigned: &[u16], mode: u16) -> bool
+    ensures { λ r. ⌜ r ≡ some-of (eqb mode) (now (assigned .entry)) ⌝ }
+{
+    let mut at = 0;
+    while at < assigned.len() {
+        if mode == assigned[at] {
+            return true;
+        }
+        at += 1;
+    }
+    false
+}
+
+// The modes that no pair has yet, ascending; how many there are.
+pub fn fill_unassigned(modes: usize, assigned: &[u16], free: &mut [u16]) -> usize
+    requires { ⌜ (modes ≤ 256) × (modes ≤ length (now free)) ⌝ }
+    ensures { λ r. ⌜ (r ≤ modes) × (take r (now (free .exit)) ≡ unassigned modes (now (assigned .entry))) ⌝ }
+{
+    let mut count = 0;
+    let mut mode = 0;
+    while mode < modes {
+        let taken = is_assigned(assigned, mode as u16);
+        count = nodes::put_if(free, count, mode as u16, !taken);
+        mode += 1;
+    }
+    count
+}
+
+// A number as one of 64 bits.
+fn long(number: u16) -> u64
+    ensures { λ r. ⌜ (r ≡ number) × (r < 65536) ⌝ }
+{
+    number as u64
+}
+
+// z, y and x as one number.
+fn packed(triple: Triple) -> u64
+    ensures { λ r. ⌜ (r ≡ packed-number triple) × (r < 281474976710656) ⌝ }
+{
+    (long(triple.z) * 65536 + long(triple.y)) * 65536 + long(triple.x)
+}
+
+// The better of two: the lighter, on equal weight the one with the larger z, y, x, and of equals the first.
+fn combine(best: Selection, candidate: Selection) -> Selection
+    ensures { λ r. ⌜ r ≡ lighter standing best candidate ⌝ }
+{
+    if candidate.min_weight < best.min_weight {
+        return candidate;
+    }
+    if best.min_weight < candidate.min_weight {
+        return best;
+    }
+    if packed(best.leaf_indices) < packed(candidate.leaf_indices) {
+        return candidate;
+    }
+    best
+}
+
+// The best so far against one choice of this weight.
+fn better_of(node: u16, triple: Triple, weight: usize, best: Selection) -> Selection
+    ensures { λ r. ⌜ ((rows : List (List ℕ)) → weight ≡ weight-of triple rows → r ≡ sought rows node best (triple ∷ [])) ⌝ }
+{
+    combine(
+        best,
+        Selection {
+            min_weight: weight,
+            min_parent: node,
+            leaf_indices: triple,
+        },
+    )
+}
+
+// The best so far against one choice, given how many of its x and y are odd in each row.
+fn best_beside<'a>(
+    rows: &'a [u16],
+    live: usize,
+    odd: &'a [u8],
+    node: u16,
+    triple: Triple,
+    best: Selection,
+) -> Selection
+    requires { ⌜ Held 8 live (now rows) ⌝ }
+    requires { ⌜ live ≤ length (now odd) ⌝ }
+    requires { ⌜ OddOf (now rows) live (triple .x) (triple .y) (now odd) ⌝ }
+    ensures { λ r. ⌜ r ≡ sought (terms-of 8 live (now (rows .entry))) node best (triple ∷ []) ⌝ }
+{
+    let weight = weight::weight_beside(rows, live, odd, triple);
+    better_of(node, triple, weight, best)
+}
+
+// The best so far against the choice whose Z leaf takes this mode, unless it is the pair's.
+fn best_of_mode<'a>(
+    rows: &'a [u16],
+    live: usize,
+    odd: &'a [u8],
+    modes: usize,
+    node: u16,
+    slots: Triple,
+    pair: u16,
+    mode: u16,
+    best: Selection,
+) -> Selection
+    requires { ⌜ Held 8 live (now rows) ⌝ }
+    requires { ⌜ live ≤ length (now odd) ⌝ }
+    requires { ⌜ OddOf (now rows) live (slots .x) (slots .y) (now odd) ⌝ }
+    requires { ⌜ (modes ≤ 256) × (mode < modes) × (3 * modes < slots .z) × (slots .z ≤ 3 * modes + 2) ⌝ }
+    ensures { λ r. ⌜ r ≡ sought (terms-of 8 live (now (rows .entry))) node best (with-z (slots .x) (slots .y) (map (leaf-of modes (slots .z)) (without pair (mode ∷ [])))) ⌝ }
+{
+    if mode == pair {
+        return best;
+    }
+    let triple = Triple {
+        x: slots.x,
+        y: slots.y,
+        z: slots::leaf_of(modes, slots.z, mode),
+    };
+    best_beside(rows, live, odd, node, triple, best)
+}
+
+// The best so far against the choices whose Z leaf takes each of these modes but the pair's.
+fn best_of_modes<'a>(
+    rows: &'a [u16],
+    live: usize,
+    odd: &'a [u8],
+    free: &'a [u16],
+    modes: usize,
+    node: u16,
+    slots: Triple,
+    pair: u16,
+    start: Selection,
+) -> Selection
+    requires { ⌜ Held 8 live (now rows) ⌝ }
+    requires { ⌜ live ≤ length (now odd) ⌝ }
+    requires { ⌜ OddOf (now rows) live (slots .x) (slots .y) (now odd) ⌝ }
+    requires { ⌜ (modes ≤ 256) × (3 * modes < slots .z) × (slots .z ≤ 3 * modes + 2) ⌝ }
+    requires { ⌜ every (λ mode. ltb mode modes) (now free) ≡ true ⌝ }
+    ensures { λ r. ⌜ r ≡ sought (terms-of 8 live (now (rows .entry))) node start (with-z (slots .x) (slots .y) (map (leaf-of modes (slots .z)) (without pair (now (free .entry))))) ⌝ }
+{
+    let mut best = start;
+    let mut at = 0;
+    while at < free.len() {
+        best = best_of_mode(rows, live, odd, modes, node, slots, pair, free[at], best);
+        at += 1;
+    }
+    best
+}
+
+// The best so far against x and y with each number that the Z slot may stand as; where these are many, x and y are counted in the rows once.
+fn best_of_pair<'a>(
+    rows: &'a [u16],
+    live: usize,
+    free: &'a [u16],
+    modes: usize,
+    node: u16,
+    slots: Triple,
+    pair: u16,
+    start: Selection,
+) -> Selection
+    requires { ⌜ Held 8 live (now rows) ⌝ }
+    requires { ⌜ (live ≤ 2048) × (modes ≤ 256) × (slots .z ≤ 3 * modes + 2) ⌝ }
+    requires { ⌜ every (λ mode. ltb mode modes) (now free) ≡ true ⌝ }
+    ensures { λ r. ⌜ r ≡ sought (terms-of 8 live (now (rows .entry))) node start (with-z (slots .x) (slots .y) (numbers modes (slots .z) (without pair (now (free .entry))))) ⌝ }
+{
+    if !slots::unfixed(modes, slots.z) {
+        return better_of(node, slots, weight::weight(rows, live, slots), start);
+    }
+    let mut odd = [0u8; 2048];
+    weight::count_odd(rows, live, slots.x, slots.y, &mut odd);
+    best_of_modes(rows, live, &odd, free, modes, node, slots, pair, start)
+}
+
+// The best so far against the choices in which the X and Y leaves take this mode.
+fn best_of_leaves<'a>(
+    rows: &'a [u16],
+    live: usize,
+    free: &'a [u16],
+    modes: usize,
+    node: u16,
+    slots: Triple,
+    mode: u16,
+    best: Selection,
+) -> Selection
+    requires { ⌜ Held 8 live (now rows) ⌝ }
+    requires { ⌜ (live ≤ 2048) × (modes ≤ 256) × (mode < modes) ⌝ }
+    requires { ⌜ (3 * modes < slots .x) × (slots .x ≤ 3 * modes + 2) × (3 * modes < slots .y) × (slots .y ≤ 3 * modes + 2) × (slots .z ≤ 3 * modes + 2) ⌝ }
+    requires { ⌜ every (λ mode. ltb mode modes) (now free) ≡ true ⌝ }
+    ensures { λ r. ⌜ r ≡ sought (terms-of 8 live (now (rows .entry))) node best (with-z (leaf-of modes (slots .x) mode) (leaf-of modes (slots .y) mode) (numbers modes (slots .z) (without mode (now (free .entry))))) ⌝ }
+{
+    let leaves = Triple {
+        x: slots::leaf_of(modes, slots.x, mode),
+        y: slots::leaf_of(modes, slots.y, mode),
+        z: slots.z,
+    };
+    best_of_pair(rows, live, free, modes, node, leaves, mode, best)
+}
+
+// The best so far against the choices in which the X and Y leaves take each free mode in turn.
+fn best_of_pairs<'a>(
+    rows: &'a [u16],
+    live: usize,
+    free: &'a [u16],
+    modes: usize,
+    node: u16,
+    slots: Triple,
+    start: Selection,
+) -> Selection
+    requires { ⌜ Held 8 live (now rows) ⌝ }
+    requires { ⌜ (live ≤ 2048) × (modes ≤ 256) ⌝ }
+    requires { ⌜ (3 * modes < slots .x) × (slots .x ≤ 3 * modes + 2) × (3 * modes < slots .y) × (slots .y ≤ 3 * modes + 2) × (slots .z ≤ 3 * modes + 2) ⌝ }
+    requires { ⌜ every (λ mode. ltb mode modes) (now free) ≡ true ⌝ }
+    ensures { λ r. ⌜ r ≡ sought (terms-of 8 live (now (rows .entry))) node start (flatMap (λ mode. with-z (leaf-of modes (slots .x) mode) (leaf-of modes (slots .y) mode) (numbers modes (slots .z) (without mode (now (free .entry))))) (now (free .entry))) ⌝ }
+{
+    let mut best = start;
+    let mut at = 0;
+    while at < free.len() {
+        best = best_of_leaves(rows, live, free, modes, node, slots, free[at], best);
+        at += 1;
+    }
+    best
+}
+
+// The best so far against the choices of three slots.
+fn best_of_slots<'a>(
+    rows: &'a [u16],
+    live: usize,
+    free: &'a [u16],
+    modes: usize,
+    node: u16,
+    slots: Triple,
+    best: Selection,
+) -> Selection
+    requires { ⌜ Held 8 live (now rows) ⌝ }
+    requires { ⌜ (live ≤ 2048) × (modes ≤ 256) × (slots .x ≤ 3 * modes + 2) × (slots .y ≤ 3 * modes + 2) × (slots .z ≤ 3 * modes + 2) ⌝ }
+    requires { ⌜ every (λ mode. ltb mode modes) (now free) ≡ true ⌝ }
+    ensures { λ r. ⌜ r ≡ sought (terms-of 8 live (now (rows .entry))) node best (choices modes (now (free .entry)) (slots .x) (slots .y) (slots .z)) ⌝ }
+{
+    // a mode that no leaf takes, so that Z may take any
+    let none = modes as u16;
+    if !slots::unfixed(modes, slots.x) {
+        return best_of_pair(rows, live, free, modes, node, slots, none, best);
+    }
+    if !slots::unfixed(modes, slots.y) {
+        return best_of_pair(rows, live, free, modes, node, slots, none, best);
+    }
+    best_of_pairs(rows, live, free, modes, node, slots, best)
+}
+
+// The best so far against the choices of a node.
+fn best_at<'a>(
+    rows: &'a [u16],
+    live: usize,
+    tree: &'a [u16],
+    assigned: &'a [u16],
+    free: &'a [u16],
+    modes: usize,
+    node: u16,
+    best: Selection,
+) -> Selection
+    requires { ⌜ Held 8 live (now rows) ⌝ }
+    requires { ⌜ (live ≤ 2048) × (modes ≤ 256) × (length (now assigned) ≡ modes) × (length (now tree) ≡ 3 * modes) × (node < modes) ⌝ }
+    requires { ⌜ now free ≡ unassigned modes (now assigned) ⌝ }
+    ensures { λ r. ⌜ r ≡ sought-over modes (now (tree .entry)) (now (assigned .entry)) (terms-of 8 live (now (rows .entry))) best (node ∷ []) ⌝ }
+{
+    let at = slots::slots(modes, tree, assigned, entities::wide(node));
+    best_of_slots(rows, live, free, modes, node, at, best)
+}
+
+// The best of all choices of these nodes; no weight is above the live rows.
+pub fn select<'a>(
+    rows: &'a [u16],
+    live: usize,
+    tree: &'a [u16],
+    assigned: &'a [u16],
+    free: &'a [u16],
+    active: &'a [u16],
+    modes: usize,
+) -> Selection
+    requires { ⌜ Held 8 live (now rows) ⌝ }
+    requires { ⌜ (live ≤ 2048) × (modes ≤ 256) × (length (now assigned) ≡ modes) × (length (now tree) ≡ 3 * modes) ⌝ }
+    requires { ⌜ now free ≡ unassigned modes (now assigned) ⌝ }
+    requires { ⌜ every (λ node. ltb node modes) (now active) ≡ true ⌝ }
+    ensures { λ r. ⌜ r ≡ sought-over modes (now (tree .entry)) (now (assigned .entry)) (terms-of 8 live (now (rows .entry))) (worst live) (now (active .entry)) ⌝ }
+{
+    let mut best = Selection {
+        min_weight: live + 1,
+        min_parent: 0,
+        leaf_indices: Triple { x: 0, y: 0, z: 0 },
+    };
+    let mut at = 0;
+    while at < active.len() {
+        best = best_at(rows, live, tree, assigned, free, modes, active[at], best);
+        at += 1;
+    }
+    best
+}
