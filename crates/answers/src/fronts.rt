@@ -13,7 +13,7 @@ pub fn holds(numbers: &[u16], wanted: &[u16]) -> bool {
     if numbers.len() < end {
         return false;
     }
-    if !slices::same(&numbers[..end], wanted) {
+    if !slices::same(&numbers[0..end], wanted) {
         return false;
     }
     slices::all_are(&numbers[end..], UNTOUCHED)
