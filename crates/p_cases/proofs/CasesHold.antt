@@ -24,13 +24,14 @@ use Rattle.merging.specs.Trials.{trial-total}
 use Rattle.journal.specs.LineForms.{word, version, header-good, header-of, merge-good, merge-of-line, header-text, merge-text}
 use Rattle.journal.specs.Obeying.{obeyed-merge, obeyed-form, obeyed-line, obeyed-next, obeyed-lines, obeyed-header, obeyed-texts, obeyed}
 use Rattle.journal.specs.Writing.{line-of, greedy-lines, new-text}
-use Rattle.journal.specs.Resuming.{ending, with-journal, roomy, with-terms, resumed}
+use Rattle.journal.specs.Resuming.{ending, with-journal, roomy, with-terms, resumed, hatt-run}
 use Rattle.journal.specs.Promises.{returned, rows-then, journal-then}
 use Rattle.tree.specs.Table.{nodes, child, place-of, parent-of, climb}
 use Rattle.tree.specs.OneTree.{root-of, leaves-once, absent-once, nodes-once, all-reached, one-tree}
 use Rattle.tree.specs.Pairs.{chain-end, pair-under, pair-right, pairs-right}
 use Rattle.tree.specs.Check.{codes-good, tree-checked}
 use Rattle.tree.specs.Weight.{edge-under, edges, node-weight, row-weight, tree-weight, weighed-terms, tree-weighed}
+use Rattle.tree.specs.Laying.{row-over, laid-over, laid, modes-in}
 use Rattle.slots.specs.Slots.{pair-of, parity-of, leaf-slot, slot-of, slot, slots, unfixed, leaf-of}
 use Rattle.slots.specs.Nodes.{distance, is-fixed, complete, remaining, largest, farthest, narrowed, active}
 use Rattle.choice.specs.Choices.{unassigned, without, numbers, with-z, choices, choices-at}
@@ -38,8 +39,42 @@ use Rattle.choice.specs.Choice.{candidates as topphatt-candidates, packed, rank
 use Rattle.topphatt.specs.Rounds.{before, fixed, fixed-by, after, next, rounds, ended}
 use Rattle.topphatt.specs.Answer.{answer-table, with-room, with-terms as topphatt-with-terms, with-tree, outcome}
 use Rattle.topphatt.specs.Promises.{returned as topphatt-returned, table-after}
-use Rattle.p_cases.specs.Cases.{holds, header, line, meant, resuming, weighed, told, weighing, assigning, cases}
+use Rattle.newick.specs.Grammar.{spelled}
+use Rattle.newick.specs.Writing.{end-shape, shape-under, newick-text}
+use Rattle.newick.specs.Calls.{written-as, newick-written}
+use Rattle.text.specs.Input.{modes-word, term-word, modes-line, term-line, well-formed, formed-from, formed, term-row, whole, said}
+use Rattle.text.specs.Running.{program-rooms, ended as run-ended, ran-by, ran}
+use Rattle.text.specs.Output.{
+  line-of as text-line,
+  weight-word,
+  trials-word,
+  node-word,
+  code-text,
+  node-line,
+  node-lines,
+  done-text,
+  printed as run-printed,
+  answer-text,
+}
+use Rattle.text.specs.NewickLine.{line-as, table-line, newick-printed, newick-answer-text}
+use Rattle.daemon.specs.Bytes.{word-at, words, two-bytes, eight-bytes}
+use Rattle.daemon.specs.Calls.{term-numbers, room-of, resume-called, hatt-called}
+use Rattle.daemon.specs.Promises.{result-of, answer-bytes, rows-bytes-then, answer-then}
+use Rattle.p_cases.specs.Cases.{
+  holds,
+  header,
+  line,
+  meant,
+  resuming,
+  weighed,
+  told,
+  weighing,
+  assigning,
+  printed,
+  calling,
+  cases,
+}
 
 pub cases-hold : every holds cases ≡ true
-unfolding cases holds header line meant resuming weighed told weighing assigning flatMap every keep leading some-of alike firsts firsts-after sum same occurrences listed ascends ascends-from least lighter written-at rows-of term terms-of modes-good good-indices good-row good-rows checked weight-of term-weight odd-ones reduction rewriting sorted put-in replacement dropped next-parent among is-open z-end holder rows-after is-lawful three-open paired named entities pairs-with lawful-pairs weight-in candidates least-of chosen greedy finished run-weight trials merge-of code absent-leaf children walk rows-for flatpack is-digit value-after value leads-well is-number digits decimal fields-after fields word version header-good header-of merge-good merge-of-line tabbed header-text merge-text lines-after lines kept-of obeyed-merge obeyed-form obeyed-line obeyed-next obeyed-lines obeyed-header obeyed-texts obeyed line-of greedy-lines new-text ending with-journal roomy with-terms resumed returned rows-then journal-then nodes child place-of parent-of climb root-of leaves-once absent-once nodes-once all-reached one-tree chain-end pair-under pair-right pairs-right codes-good tree-checked edge-under edges node-weight row-weight tree-weight weighed-terms tree-weighed pair-of parity-of leaf-slot slot-of slot slots unfixed leaf-of distance is-fixed complete remaining largest farthest narrowed active unassigned without numbers with-z choices choices-at topphatt-candidates packed rank topphatt-chosen before fixed fixed-by after next rounds ended answer-table with-room topphatt-with-terms with-tree outcome topphatt-returned table-after trial-total
+unfolding cases holds header line meant resuming weighed told weighing assigning flatMap every keep leading some-of alike firsts firsts-after sum same occurrences listed ascends ascends-from least lighter written-at rows-of term terms-of modes-good good-indices good-row good-rows checked weight-of term-weight odd-ones reduction rewriting sorted put-in replacement dropped next-parent among is-open z-end holder rows-after is-lawful three-open paired named entities pairs-with lawful-pairs weight-in candidates least-of chosen greedy finished run-weight trials merge-of code absent-leaf children walk rows-for flatpack is-digit value-after value leads-well is-number digits decimal fields-after fields word version header-good header-of merge-good merge-of-line tabbed header-text merge-text lines-after lines kept-of obeyed-merge obeyed-form obeyed-line obeyed-next obeyed-lines obeyed-header obeyed-texts obeyed line-of greedy-lines new-text ending with-journal roomy with-terms resumed returned rows-then journal-then nodes child place-of parent-of climb root-of leaves-once absent-once nodes-once all-reached one-tree chain-end pair-under pair-right pairs-right codes-good tree-checked edge-under edges node-weight row-weight tree-weight weighed-terms tree-weighed pair-of parity-of leaf-slot slot-of slot slots unfixed leaf-of distance is-fixed complete remaining largest farthest narrowed active unassigned without numbers with-z choices choices-at topphatt-candidates packed rank topphatt-chosen before fixed fixed-by after next rounds ended answer-table with-room topphatt-with-terms with-tree outcome topphatt-returned table-after trial-total hatt-run row-over laid-over laid modes-in spelled end-shape shape-under newick-text written-as newick-written modes-word term-word modes-line term-line well-formed formed-from formed term-row whole said run-ended ran-by ran text-line weight-word trials-word node-word code-text node-line node-lines done-text run-printed answer-text line-as table-line newick-printed newick-answer-text word-at words two-bytes eight-bytes term-numbers room-of resume-called hatt-called result-of answer-bytes rows-bytes-then answer-then printed calling
 cases-hold = refl

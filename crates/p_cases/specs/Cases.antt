@@ -15,6 +15,13 @@ use Rattle.tree.specs.declared.TreeWeighed.{TreeWeighed}
 use Rattle.tree.specs.declared.TreeWeighed.the-variants.{Weight, Unweighed}
 use Rattle.topphatt.specs.Answer.{outcome}
 use Rattle.topphatt.specs.Promises.{numbers-of as assign-numbers, returned as assigned, table-after}
+use Rattle.newick.specs.Writing.{newick-text}
+use Rattle.text.specs.Running.{program-rooms}
+use Rattle.text.specs.Output.{answer-text}
+use Rattle.text.specs.NewickLine.{newick-answer-text}
+use Rattle.daemon.specs.Calls.{hatt-called}
+use Rattle.daemon.specs.Promises.{result-of, rows-bytes-then, answer-then}
+use Rattle.p_cases.specs.Texts.{input3, output3, newick3}
 
 -- What a caller sees of a call: the numbers that it returns, refusal and place before the others; the rows or the table that it
 -- wrote; the lines that it wrote.
@@ -85,6 +92,19 @@ assigning modes tree terms =
     let came = outcome 256 modes tree 0 terms (length terms) (length tree) in
     record { numbers = assign-numbers (assigned came); rows = table-after came []; lines = [] }
 
+-- Nothing but lines.
+unfoldable pub printed : List ℕ → Seen
+printed lines = record { numbers = []; rows = []; lines = lines }
+
+-- What a call from C shows: its result and the bytes of its answer, the bytes of its rows, the lines.
+unfoldable pub calling : Outcome → Seen
+calling outcome =
+    record { numbers = result-of outcome ∷ answer-then outcome []; rows = rows-bytes-then outcome []; lines = journal-then outcome [] }
+
+-- A number below 256 in eight bytes.
+abbrev pub eight : ℕ → List ℕ
+eight v = v ∷ 0 ∷ 0 ∷ 0 ∷ 0 ∷ 0 ∷ 0 ∷ 0 ∷ []
+
 -- P1: n=1, row 0 1
 abbrev pub p1 : Outcome
 p1 = meant 1 (two 0 1) [] 37
@@ -149,4 +169,18 @@ cases =
     ∷ record { says = assigning 2 tree3 terms3; shown = record { numbers = 0 ∷ 0 ∷ 2 ∷ []; rows = tree3; lines = [] } }
     -- P10: trials for n=256
     ∷ record { says = told (trial-total 256 ∷ []); shown = told (22435072 ∷ []) }
+    -- P3 as the program `hatt` prints it, as the program `newick` does, and as the Newick text of its tree
+    ∷ record { says = printed (answer-text program-rooms input3); shown = printed output3 }
+    ∷ record { says = printed (newick-answer-text program-rooms 8191 input3); shown = printed (newick3 ++ (10 ∷ [])) }
+    ∷ record { says = printed (newick-text 2 tree3); shown = printed newick3 }
+    -- P1 called from C, in the bytes of its rooms: 0, then weight 1, trials 2, nothing kept and 21 bytes new
+    ∷ record {
+      says = calling (hatt-called 256 16384 1024 1 (2 ∷ 0 ∷ 0 ∷ 0 ∷ 1 ∷ 0 ∷ 0 ∷ 0 ∷ 0 ∷ 0 ∷ 0 ∷ 0 ∷ 0 ∷ 0 ∷ 0 ∷ 0 ∷ []) 8 37 32);
+      shown =
+          record {
+            numbers = 0 ∷ (eight 1 ++ (eight 2 ++ (eight 0 ++ eight 21)));
+            rows = 0 ∷ 0 ∷ 1 ∷ 0 ∷ 2 ∷ 0 ∷ 255 ∷ 255 ∷ [];
+            lines = header 1 1 ++ line 0 0 1 2 1;
+          };
+    }
     ∷ []
