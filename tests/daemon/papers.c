@@ -86,6 +86,18 @@ void check_papers(void)
     refused("one line more", &one, "hatt\t1\t1\t1\n0\t0\t1\t2\t1\n\n", DEWGOBLIN_LINE_AFTER_LAST, 2);
 }
 
+/* P1's HATT call with these counts of bytes: refused, and every byte left. */
+static void miscounted(const char *what, size_t terms, size_t answer, uint64_t result)
+{
+    struct job job = {.modes = 1};
+    struct left left, untouched;
+    put_row(&job, (const uint8_t[]){0, 1}, 2);
+    memset(&left, 0xA5, sizeof left);
+    memset(&untouched, 0xA5, sizeof untouched);
+    uint64_t said = dewgoblin_hatt(1, job.bytes, terms, left.rows, 8, left.journal, 37, left.answer, answer);
+    if (said != result || memcmp(&left, &untouched, sizeof left) != 0) wrong(what);
+}
+
 /* A HATT call of two modes with these counts of bytes; the slices hold more. */
 static void counts(const char *what, uint64_t modes, size_t terms, size_t rows, size_t journal, size_t answer, uint64_t result)
 {
@@ -100,6 +112,8 @@ static void counts(const char *what, uint64_t modes, size_t terms, size_t rows, 
 
 void check_refusals(void)
 {
+    miscounted("P1's terms and a byte", 17, 32, 131072);
+    miscounted("an answer of 31 bytes", 16, 31, 327680);
     counts("two modes", 2, 48, 16, 58, 32, 0);
     counts("no modes", 0, 48, 16, 58, 32, DEWGOBLIN_MODES << 16);
     counts("257 modes", 257, 48, 16, 58, 32, DEWGOBLIN_MODES << 16);

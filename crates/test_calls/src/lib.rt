@@ -1,4 +1,6 @@
-// What the tests call from Rust: the calls `resume`, `assign` and the Newick calls, and what the tree calls answer.
+// What the tests call from Rust: the calls `resume`, `assign` and the Newick calls, one merge of rows, and what the tree calls answer.
+ghost use Rattle.terms.specs.Rows.{Held};
+use entities::Triple;
 use journal::resuming;
 use journal::resuming::Answer;
 use journal::resuming::Numbers;
@@ -6,9 +8,39 @@ use newick::reading;
 use newick::reading::NewickRead;
 use newick::writing;
 use newick::writing::NewickWritten;
+use terms::checking;
+use terms::checking::Checked;
+use terms::reduction;
+use terms::weight;
 use topphatt::Assigned;
 use tree::TreeChecked;
 use tree::TreeWeighed;
+
+// The triple weighed in the rows, and the rows reduced to its parent where they stand; the refusal of the rows as terms follows, the weight, and how many rows are kept.
+#[no_mangle]
+pub extern "C" fn test_merge(
+    modes: usize,
+    rows: &mut [u16],
+    x: u16,
+    y: u16,
+    z: u16,
+    parent: u16,
+    answer: &mut [u64],
+) {
+    match checking::check_terms(modes, rows) {
+        Checked::Good(count) => put_merge(rows, count, Triple { x: x, y: y, z: z }, parent, answer),
+        Checked::Refused(refusal) => put(answer, refusal::number(refusal) as u64, 0, 0),
+    }
+}
+
+// The same, of so many rows.
+fn put_merge(rows: &mut [u16], count: usize, triple: Triple, parent: u16, answer: &mut [u64])
+    requires { ⌜ Held 8 count (now rows) ⌝ }
+{
+    let weighed = weight::weight(rows, count, triple);
+    let kept = reduction::reduce_hamiltonian(rows, count, parent, triple);
+    put(answer, 0, weighed as u64, kept as u64);
+}
 
 // The call `resume` as it is; its six numbers follow: refusal, place, weight, trials, kept and new bytes.
 #[no_mangle]

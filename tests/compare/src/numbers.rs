@@ -1,6 +1,6 @@
 //! The plain program's answers in the form of the proved calls'.
 
-use plain::Refusal;
+use plain::{Done, Refusal};
 
 /// Refusal, place and what was answered, zeros where there is none.
 pub fn numbers(answer: Result<u64, Refusal>) -> [u64; 3] {
@@ -8,4 +8,12 @@ pub fn numbers(answer: Result<u64, Refusal>) -> [u64; 3] {
         Ok(number) => [0, 0, number],
         Err(Refusal { number, place }) => [u64::from(number), place as u64, 0],
     }
+}
+
+/// Refusal, place, weight, trials, kept and new bytes.
+pub fn six_numbers(answer: Result<Done, Refusal>) -> [u64; 6] {
+    let [number, place, weight] = numbers(answer.map(|done| done.weight));
+    let others = answer.map(|done| [done.trials, done.kept as u64, done.new as u64]);
+    let [trials, kept, new] = others.unwrap_or_default();
+    [number, place, weight, trials, kept, new]
 }

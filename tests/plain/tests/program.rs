@@ -83,6 +83,23 @@ fn term_lines() {
     assert!(printed(seven).starts_with("weight\t1\n"));
 }
 
+/// Texts that `tests/using/programs` gives the programs themselves.
+#[test]
+fn refused_alike_by_the_programs() {
+    let texts = [
+        ("", "18 at 0"),
+        ("modes\t2\nt", "18 at 1"),
+        ("modes\t2\nterm\n", "18 at 1"),
+        ("modes\t02\n", "18 at 0"),
+        ("modes\t2\nterm\t0\t0\t0\t0\t0\t0\t0\t0\n", "18 at 1"),
+        ("modes\t0\n", "1 at 0"),
+        ("modes\t1\nterm\t2\n", "4 at 0"),
+    ];
+    for (text, refusal) in texts {
+        assert_eq!(refused(text), refusal, "{text:?}");
+    }
+}
+
 #[test]
 fn number_of_terms() {
     let most = "modes\t1\n".to_string() + &"term\t0\n".repeat(2048);

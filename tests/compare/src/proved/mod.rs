@@ -3,6 +3,17 @@
 pub mod c;
 
 extern "C" {
+    fn test_merge(
+        modes: usize,
+        rows: *mut u16,
+        numbers: usize,
+        x: u16,
+        y: u16,
+        z: u16,
+        parent: u16,
+        answer: *mut u64,
+        answer_room: usize,
+    );
     fn test_resume(
         modes: usize,
         terms: *const u16,
@@ -65,6 +76,27 @@ extern "C" {
         answer: *mut u64,
         answer_room: usize,
     );
+}
+
+/// Weighs the triple in the rows, reduces them to its parent where they stand, and returns three numbers: the refusal of the rows as terms of so many modes, the weight, and how many rows are kept.
+pub fn merge(modes: usize, rows: &mut [u16], triple: [u16; 3], parent: u16) -> [u64; 3] {
+    let mut answer = [u64::MAX; 3];
+    let [x, y, z] = triple;
+    // The library writes the rows and the three numbers within their lengths.
+    unsafe {
+        test_merge(
+            modes,
+            rows.as_mut_ptr(),
+            rows.len(),
+            x,
+            y,
+            z,
+            parent,
+            answer.as_mut_ptr(),
+            answer.len(),
+        );
+    }
+    answer
 }
 
 /// Resumes in the lent slices and returns six numbers: refusal, place, weight, trials, kept and new bytes.

@@ -3,7 +3,7 @@
 use super::{from_c, BEYOND};
 use crate::tally::equal;
 use compare::proved::{self, c};
-use compare::{numbers, BYTE_MARK, MARK};
+use compare::{six_numbers, BYTE_MARK, MARK};
 use plain::{Done, Refusal};
 
 /// What an accepted resume left behind.
@@ -77,7 +77,7 @@ pub fn resume_in(
         terms,
         read,
         rooms,
-        numbers: six(answer),
+        numbers: six_numbers(answer),
         left: &left,
     };
     call.proved_alike()?;
@@ -111,14 +111,6 @@ fn looked_over(
         rows: rows.chunks(4).map(by_four).collect(),
         new: new.to_vec(),
     }))
-}
-
-/// Refusal, place, weight, trials, kept and new bytes.
-fn six(answer: Result<Done, Refusal>) -> [u64; 6] {
-    let [number, place, weight] = numbers(answer.map(|done| done.weight));
-    let others = answer.map(|done| [done.trials, done.kept as u64, done.new as u64]);
-    let [trials, kept, new] = others.unwrap_or_default();
-    [number, place, weight, trials, kept, new]
 }
 
 /// A call that was made of the plain program: what it was given, what it answered, and what it left of the slices.

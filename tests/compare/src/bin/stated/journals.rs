@@ -1,0 +1,110 @@
+//! P3's call resumed from journals: cut, whole, and refused by 5, 6, 7, 9, 10 and 12.
+
+use crate::seen::{bytes_fronted, bytes_lent, fronted, numbers_lent, widened, Cases, Seen};
+use compare::cases::{flat, ABSENT};
+use compare::{proved, six_numbers};
+
+const MODES: usize = 2;
+const HEADER: &str = "hatt\t1\t2\t3\n";
+const FIRST: &str = "0\t0\t1\t2\t2\n";
+const SECOND: &str = "1\t5\t3\t4\t2\n";
+const ROWS: [u16; 8] = [1, 0, 5, ABSENT, 0, 2, 3, 4];
+
+/// "journal room 58 passes for n=2, 57 is 5".
+const ROOM: usize = 58;
+
+pub fn hold(cases: &mut Cases) {
+    let whole = [HEADER, FIRST, SECOND].concat();
+    let lines = [FIRST, SECOND].concat();
+    let cut = format!("{HEADER}0\t0");
+    let done = [0, 0, 4, 14, 11, 20];
+    goes_on(
+        cases,
+        "cut before its LF: the header is kept",
+        &cut,
+        done,
+        &lines,
+    );
+    let nothing_left = [0, 0, 4, 0, 31, 0];
+    goes_on(
+        cases,
+        "whole: nothing is left to do",
+        &whole,
+        nothing_left,
+        "",
+    );
+    refused(
+        cases,
+        "a line of one number",
+        &format!("{HEADER}0\n"),
+        ROOM,
+        (6, 1),
+    );
+    refused(
+        cases,
+        "another number of terms",
+        "hatt\t1\t2\t4\n",
+        ROOM,
+        (7, 0),
+    );
+    let not_open = format!("{HEADER}0\t0\t1\t5\t2\n");
+    refused(cases, "a child that isn't open", &not_open, ROOM, (9, 1));
+    let exchanged = format!("{HEADER}0\t1\t0\t2\t2\n");
+    refused(cases, "x and y exchanged", &exchanged, ROOM, (10, 1));
+    refused(
+        cases,
+        "a line too many",
+        &format!("{whole}\n"),
+        ROOM,
+        (12, 3),
+    );
+    let short = "a byte too little room, before another header";
+    refused(cases, short, "hatt\t1\t2\t4\n", ROOM - 1, (5, 0));
+}
+
+/// A journal that is accepted: the six numbers, P3's rows and these new lines; work is zero.
+fn goes_on(cases: &mut Cases, what: &str, read: &str, answer: [u64; 6], new: &str) {
+    let lent = vec![
+        vec![0; terms().len()],
+        ROWS.to_vec(),
+        bytes_fronted(new.as_bytes(), ROOM),
+    ];
+    let numbers = answer.to_vec();
+    hold_one(cases, what, read, ROOM, Seen { numbers, lent });
+}
+
+/// A journal that is refused: nothing is altered.
+fn refused(cases: &mut Cases, what: &str, read: &str, room: usize, (number, place): (u64, u64)) {
+    let lent = vec![
+        fronted(&[], terms().len()),
+        fronted(&[], ROWS.len()),
+        bytes_fronted(&[], room),
+    ];
+    let numbers = vec![number, place, 0, 0, 0, 0];
+    hold_one(cases, what, read, room, Seen { numbers, lent });
+}
+
+fn hold_one(cases: &mut Cases, what: &str, read: &str, room: usize, stated: Seen) {
+    let ours = resumed(room, |work, rows, journal| {
+        proved::resume(MODES, &terms(), read.as_bytes(), work, rows, journal)
+    });
+    let plainly = resumed(room, |work, rows, journal| {
+        let read = read.as_bytes();
+        six_numbers(plain::resume(MODES, &terms(), read, work, rows, journal))
+    });
+    cases.hold("journals", what, [ours, plainly], stated);
+}
+
+/// P3's rows 01, 23, 0123.
+fn terms() -> Vec<u16> {
+    flat(&[vec![0, 1], vec![2, 3], vec![0, 1, 2, 3]])
+}
+
+/// A side's call in rooms as 01 asks for them, but for the journal's.
+fn resumed(room: usize, call: impl Fn(&mut [u16], &mut [u16], &mut [u8]) -> [u64; 6]) -> Seen {
+    let (mut work, mut rows) = (numbers_lent(terms().len()), numbers_lent(ROWS.len()));
+    let mut journal = bytes_lent(room);
+    let numbers = call(&mut work, &mut rows, &mut journal).to_vec();
+    let lent = vec![work, rows, widened(&journal)];
+    Seen { numbers, lent }
+}
