@@ -1,6 +1,5 @@
 -- The laws of the calls from C.
 pub mod CallAnswered
-pub mod Examples
 pub mod OneResult
 pub mod RefusalPlaces
 pub mod ResultSays

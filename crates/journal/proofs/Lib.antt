@@ -23,4 +23,3 @@ pub mod OneAnswer
 pub mod Obedience
 pub mod ObeyedText
 pub mod JournalRoom
-pub mod Examples

@@ -35,4 +35,3 @@ pub mod UnderShape
 pub mod ReadWritten
 pub mod WrittenRead
 pub mod AcceptedTexts
-pub mod Examples

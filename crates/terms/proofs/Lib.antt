@@ -14,4 +14,3 @@ pub mod ReducedRows
 pub mod Unchanged
 pub mod NoTwoEqual
 pub mod StaysGood
-pub mod Examples

@@ -1,5 +1,4 @@
 -- The laws of the program's text.
-pub mod Examples
 pub mod PrintedLines
 pub mod LineWords
 pub mod TermsAhead

@@ -1,5 +1,4 @@
 -- The laws of assignment.
-pub mod Examples
 pub mod FairCounts
 pub mod SomeChoice
 pub mod RoundGives

@@ -5,7 +5,6 @@ pub mod LaidTable
 pub mod OneTreeParts
 pub mod AcceptedParts
 pub mod TreeWeighing
-pub mod Examples
 pub mod Standing
 pub mod Under
 pub mod OneTreeSays
