@@ -8,7 +8,6 @@ use lib.Dec.{eqb}
 use lib.ListN.{length, getD, drop, drop-of-length-le}
 use Rattle.lists.proofs.Steps.{drop-step}
 use Rattle.fields.specs.Fields.{fields-after}
-use Rattle.fields.proofs.FieldsAhead.{fields-head}
 use Rattle.fields.specs.code.Reading.{tab-in}
 
 -- What a field began with is no matter.
@@ -38,7 +37,3 @@ tab-passed text i h = rw (drop-step text i 0 h) (tab-first (getD text i 0) (drop
 pub tabs-end : (text : List ℕ) (i : ℕ) → length text ≤ i → length (fields-after [] (drop i text)) ≡ 1
 unfolding fields-after
 tabs-end text i h = rw (drop-of-length-le text h)
-
--- There is always a field.
-pub some-field : (text : List ℕ) → 1 ≤ length (fields-after [] text)
-some-field text = rw (fields-head [] text) (omega arith)

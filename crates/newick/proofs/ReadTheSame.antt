@@ -10,7 +10,7 @@ use lib.Dec.{eqb, ltb}
 use lib.ListN.{length}
 use Rattle.lists.proofs.Tests.{same-or-not}
 use Rattle.fields.specs.Decimal.{value}
-use Rattle.newick.specs.Reading.{Reading, got, stuck, crowded, leaf-name, follows, byte-at, expected, marked, number-digits, numbered, child-by, named, inside, node-read, child-read}
+use Rattle.newick.specs.Reading.{Reading, got, stuck, crowded, leaf-name, follows, byte-at, expected, marked, number-digits, numbered, child-by, named, inside, node-read}
 use Rattle.newick.proofs.DigitsStand.{byte-stands, number-stands}
 use Rattle.newick.proofs.ReadingParts.{expected-stands, expected-lacks, child-absent, child-leaf, child-node}
 use Rattle.newick.proofs.DigitsTheSame.{Alike, alike-not, number-same}
@@ -175,7 +175,3 @@ module _ (text other : List ℕ) (place : ℕ) (alike : Alike text other place) 
           (cond b (inside (child-by (node-read height other) other) other rows (suc at)) (crowded at))
       go true s = s
       go false s = same-crowded text place at
-
-  pub same-read-child : (height : ℕ) (rows : List ℕ) (at : ℕ) → Same text place at (child-read height text rows at) (child-read height other rows at)
-  unfolding child-read
-  same-read-child height rows at = same-child (node-read height text) (node-read height other) (same-node height) rows at
