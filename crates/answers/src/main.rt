@@ -3,13 +3,7 @@ use libc::STDOUT_FILENO;
 use replay::Kind;
 use replay::Tally;
 
-mod assign_cases;
-mod fronts;
-mod hatt_cases;
-mod lines;
-mod recorded;
 mod replay;
-mod tree_cases;
 
 // A tab and a number.
 fn print_count(count: usize) {

@@ -1,9 +1,6 @@
 // The recorded cases of a file, one after the other, each asked anew and counted.
 ghost use Prim.Native.Nat.{_+_, _≤_, _<_};
 ghost use lib.ListN.{length};
-use crate::assign_cases;
-use crate::hatt_cases;
-use crate::tree_cases;
 use fields::lines;
 use fields::parts;
 
@@ -63,9 +60,9 @@ fn case_end(text: &[u8], from: usize) -> usize
 // The library answers as the case records.
 fn agrees(kind: Kind, case: &[u8]) -> bool {
     match kind {
-        Kind::Hatt => hatt_cases::agrees(case),
-        Kind::Assign => assign_cases::agrees(case),
-        Kind::Tree => tree_cases::agrees(case),
+        Kind::Hatt => recorded_hatt::agrees(case),
+        Kind::Assign => recorded_assign::agrees(case),
+        Kind::Tree => recorded_tree::agrees(case),
     }
 }
 

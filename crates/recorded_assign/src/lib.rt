@@ -1,9 +1,9 @@
 // A recorded assign case asked anew: the weight and the table must be those that ferrmion's Rust gave.
-use crate::fronts;
-use crate::lines;
-use crate::recorded;
-use crate::recorded::Recorded;
 use fields::numbers::Field;
+use recorded::answer;
+use recorded::answer::Recorded;
+use recorded::fronts;
+use recorded::lines;
 use terms::slices;
 use topphatt::Assigned;
 
@@ -48,7 +48,7 @@ fn agrees_on(
         return false;
     };
     let read = lines::read_terms(case, at, terms);
-    let Recorded::Answer(weight, count) = recorded::read_answer(case, read.end, rows) else {
+    let Recorded::Answer(weight, count) = answer::read_answer(case, read.end, rows) else {
         return false;
     };
     let numbers = read.count;

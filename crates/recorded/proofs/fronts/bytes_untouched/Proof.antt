@@ -1,15 +1,15 @@
--- The place never falls and stays within the text.
-use Prim.Native.Nat.{_≤_, _-_}
+-- Each turn looks at one byte more.
+use Prim.Native.Nat.{_-_}
 use borrow.Author.Needs.{needs}
 use lib.ListN.{length}
-use Rattle.answers.proofs.lines.field_end.Statement.{statement}
-use Rattle.answers.proofs.lines.field_end.Tie as tie
+use Rattle.recorded.proofs.fronts.bytes_untouched.Statement.{statement}
+use Rattle.recorded.proofs.fronts.bytes_untouched.Tie as tie
 
 abbrev Inv-loop : tie.InvT-loop
-Inv-loop text from at₀ at = (from ≤ at) × (at ≤ length text)
+Inv-loop bytes from at₀ at = Unit {0}
 
 abbrev μ-loop : tie.MeasureT-loop
-μ-loop text from at₀ at = length text - at
+μ-loop bytes from at₀ at = length bytes - at
 
 loop-holds : tie.Need-loop-holds Inv-loop μ-loop
 loop-holds c = search needs
@@ -18,7 +18,7 @@ shared-slice-read-if1 : tie.Need-shared-slice-read-if1 Inv-loop μ-loop
 shared-slice-read-if1 c = search needs
 
 returns : tie.Need-returns Inv-loop μ-loop
-returns c = search needs
+returns c = tt
 
 add-at : tie.Need-add-at Inv-loop μ-loop
 add-at c = search needs
@@ -30,10 +30,10 @@ loop-again : tie.Need-loop-again Inv-loop μ-loop
 loop-again c = search needs
 
 returns-2 : tie.Need-returns-2 Inv-loop μ-loop
-returns-2 c = search needs
+returns-2 c = tt
 
-pub field-end-spec : {M : Type 1} → statement M
-field-end-spec =
+pub bytes-untouched-spec : {M : Type 1} → statement M
+bytes-untouched-spec =
     tie.close
     (tie.spec
     Inv-loop

@@ -3,8 +3,8 @@ use mathlib.Core.Path.{_≡_}
 use Prim.Native.Nat.{_≤_, _-_}
 use borrow.Author.Needs.{needs}
 use lib.ListN.{length}
-use Rattle.answers.proofs.lines.read_terms.Statement.{statement}
-use Rattle.answers.proofs.lines.read_terms.Tie as tie
+use Rattle.recorded.proofs.lines.read_terms.Statement.{statement}
+use Rattle.recorded.proofs.lines.read_terms.Tie as tie
 
 abbrev Inv-loop : tie.InvT-loop
 Inv-loop text from rows₀ at₀ count₀ rows at count = (count ≤ length rows₀) × (length rows ≡ length rows₀)

@@ -1,6 +1,6 @@
 // A recorded tree case asked anew: the tree weight, or the refusal of check and weight, must be the one that the plain program gave.
-use crate::lines;
 use fields::numbers::Field;
+use recorded::lines;
 use refusal::Refusal;
 use tree::TreeChecked;
 use tree::TreeWeighed;

@@ -1,8 +1,8 @@
 -- Each turn looks at one row more; the count of rows is a quarter of their numbers.
 use Prim.Native.Nat.{_≤_, _-_}
 use borrow.Author.Needs.{needs}
-use Rattle.answers.proofs.assign_cases.same_table.Statement.{statement}
-use Rattle.answers.proofs.assign_cases.same_table.Tie as tie
+use Rattle.recorded_assign.proofs.same_table.Statement.{statement}
+use Rattle.recorded_assign.proofs.same_table.Tie as tie
 
 abbrev Inv-loop : tie.InvT-loop
 Inv-loop rows table count label₀ label = label ≤ count

@@ -1,11 +1,11 @@
 // A recorded HATT case asked anew: the weight and the rows must be those that ferrmion's Rust gave.
-use crate::fronts;
-use crate::lines;
-use crate::recorded;
-use crate::recorded::Recorded;
 use fields::numbers::Field;
 use journal::resuming;
 use journal::resuming::Answer;
+use recorded::answer;
+use recorded::answer::Recorded;
+use recorded::fronts;
+use recorded::lines;
 
 // The case is read whole and the library answers the same.
 pub fn agrees(case: &[u8]) -> bool {
@@ -20,7 +20,7 @@ fn agrees_in(case: &[u8], terms: &mut [u16], rows: &mut [u16]) -> bool {
         return false;
     };
     let read = lines::read_terms(case, at, terms);
-    let Recorded::Answer(weight, count) = recorded::read_answer(case, read.end, rows) else {
+    let Recorded::Answer(weight, count) = answer::read_answer(case, read.end, rows) else {
         return false;
     };
     let numbers = read.count;

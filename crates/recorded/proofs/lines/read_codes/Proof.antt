@@ -3,8 +3,8 @@ use mathlib.Core.Path.{_≡_}
 use Prim.Native.Nat.{_≤_, _-_}
 use borrow.Author.Needs.{needs}
 use lib.ListN.{length}
-use Rattle.answers.proofs.lines.read_codes.Statement.{statement}
-use Rattle.answers.proofs.lines.read_codes.Tie as tie
+use Rattle.recorded.proofs.lines.read_codes.Statement.{statement}
+use Rattle.recorded.proofs.lines.read_codes.Tie as tie
 
 abbrev Inv-loop : tie.InvT-loop
 Inv-loop text codes₀ at₀ count₀ codes at count =
