@@ -169,11 +169,11 @@ cases =
     ∷ record { says = assigning 2 tree3 terms3; shown = record { numbers = 0 ∷ 0 ∷ 2 ∷ []; rows = tree3; lines = [] } }
     -- P10: trials for n=256
     ∷ record { says = told (trial-total 256 ∷ []); shown = told (22435072 ∷ []) }
-    -- P3 as the program `hatt` prints it, as the program `newick` does, and as the Newick text of its tree
+    -- P3 as the program `hatt` prints it, as the program `newick` does, whose line has room for 8191 bytes, and as the Newick text of its tree
     ∷ record { says = printed (answer-text program-rooms input3); shown = printed output3 }
     ∷ record { says = printed (newick-answer-text program-rooms 8191 input3); shown = printed (newick3 ++ (10 ∷ [])) }
     ∷ record { says = printed (newick-text 2 tree3); shown = printed newick3 }
-    -- P1 called from C, in the bytes of its rooms: 0, then weight 1, trials 2, nothing kept and 21 bytes new
+    -- P1 called from C, with the call's own work and rows for 2048 terms and 256 modes: 0, then weight 1, trials 2, nothing kept, 21 bytes new
     ∷ record {
       says = calling (hatt-called 256 16384 1024 1 (2 ∷ 0 ∷ 0 ∷ 0 ∷ 1 ∷ 0 ∷ 0 ∷ 0 ∷ 0 ∷ 0 ∷ 0 ∷ 0 ∷ 0 ∷ 0 ∷ 0 ∷ 0 ∷ []) 8 37 32);
       shown =
