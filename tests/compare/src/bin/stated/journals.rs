@@ -15,51 +15,40 @@ const ROOM: usize = 58;
 
 pub fn hold(cases: &mut Cases) {
     let whole = [HEADER, FIRST, SECOND].concat();
-    let lines = [FIRST, SECOND].concat();
     let cut = format!("{HEADER}0\t0");
-    let done = [0, 0, 4, 14, 11, 20];
-    goes_on(
-        cases,
-        "cut before its LF: the header is kept",
-        &cut,
-        done,
-        &lines,
-    );
-    let nothing_left = [0, 0, 4, 0, 31, 0];
-    goes_on(
-        cases,
-        "whole: nothing is left to do",
-        &whole,
-        nothing_left,
-        "",
-    );
-    refused(
-        cases,
-        "a line of one number",
-        &format!("{HEADER}0\n"),
-        ROOM,
-        (6, 1),
-    );
-    refused(
-        cases,
-        "another number of terms",
-        "hatt\t1\t2\t4\n",
-        ROOM,
-        (7, 0),
-    );
-    let not_open = format!("{HEADER}0\t0\t1\t5\t2\n");
-    refused(cases, "a child that isn't open", &not_open, ROOM, (9, 1));
-    let exchanged = format!("{HEADER}0\t1\t0\t2\t2\n");
-    refused(cases, "x and y exchanged", &exchanged, ROOM, (10, 1));
-    refused(
-        cases,
-        "a line too many",
-        &format!("{whole}\n"),
-        ROOM,
-        (12, 3),
-    );
-    let short = "a byte too little room, before another header";
-    refused(cases, short, "hatt\t1\t2\t4\n", ROOM - 1, (5, 0));
+    let lines = [FIRST, SECOND].concat();
+    let header_kept = "cut before its LF: the header is kept";
+    goes_on(cases, header_kept, &cut, [0, 0, 4, 14, 11, 20], &lines);
+    let nothing_left = "whole: nothing is left to do";
+    goes_on(cases, nothing_left, &whole, [0, 0, 4, 0, 31, 0], "");
+    let after_header = |line| format!("{HEADER}{line}");
+    let another_header = || "hatt\t1\t2\t4\n".to_string();
+    let refusals = [
+        ("one number", after_header("0\n"), ROOM, [6, 1]),
+        ("another header", another_header(), ROOM, [7, 0]),
+        (
+            "a child that isn't open",
+            after_header("0\t0\t1\t5\t2\n"),
+            ROOM,
+            [9, 1],
+        ),
+        (
+            "x and y exchanged",
+            after_header("0\t1\t0\t2\t2\n"),
+            ROOM,
+            [10, 1],
+        ),
+        ("a line too many", whole + "\n", ROOM, [12, 3]),
+        (
+            "a byte too little room comes first",
+            another_header(),
+            ROOM - 1,
+            [5, 0],
+        ),
+    ];
+    for (what, read, room, refusal) in refusals {
+        refused(cases, what, &read, room, refusal);
+    }
 }
 
 /// A journal that is accepted: the six numbers, P3's rows and these new lines; work is zero.
@@ -74,7 +63,7 @@ fn goes_on(cases: &mut Cases, what: &str, read: &str, answer: [u64; 6], new: &st
 }
 
 /// A journal that is refused: nothing is altered.
-fn refused(cases: &mut Cases, what: &str, read: &str, room: usize, (number, place): (u64, u64)) {
+fn refused(cases: &mut Cases, what: &str, read: &str, room: usize, [number, place]: [u64; 2]) {
     let lent = vec![
         fronted(&[], terms().len()),
         fronted(&[], ROWS.len()),
