@@ -117,6 +117,35 @@ pub lines-are-lines : (bytes : List ℕ) → every is-line (lines bytes) ≡ tru
 unfolding lines no-feed every
 lines-are-lines bytes = line-found [] bytes refl
 
+-- Lines one behind the other are read back, so what is kept of a text is kept again.
+pub lines-read-back : (texts : List (List ℕ)) → every is-line texts ≡ true → lines (flatMap (λ line. line) texts) ≡ texts
+unfolding flatMap lines lines-after
+lines-read-back [] good = refl
+lines-read-back (text ∷ rest) good =
+    let parts = every-uncons is-line text rest good in
+    lines-joined text (flatMap (λ line. line) rest) (kept-line text (parts .0))
+    ∙ rw (lines-one text (parts .0)) (ap (λ l. text ∷ l) (lines-read-back rest (parts .1)))
+
+pub lines-kept : (bytes : List ℕ) → lines (kept-of bytes) ≡ lines bytes
+unfolding kept-of
+lines-kept bytes = lines-read-back (lines bytes) (lines-are-lines bytes)
+
+pub kept-again : (bytes : List ℕ) → kept-of (kept-of bytes) ≡ kept-of bytes
+unfolding kept-of
+kept-again bytes = ap (flatMap (λ line. line)) (lines-kept bytes)
+
+-- A text with a line keeps something.
+some-kept : (texts : List (List ℕ)) → every is-line texts ≡ true → 0 < length texts → 0 < length (flatMap (λ line. line) texts)
+unfolding flatMap is-line
+some-kept [] good some = absurd (omega arith)
+some-kept ([] ∷ rest) good some =
+    let z : _≡_ {A = ℕ} 0 1 = cc (every-uncons is-line [] rest good .0) in absurd (omega arith)
+some-kept ((byte ∷ line) ∷ rest) good some = omega (arith, length-append (byte ∷ line) (flatMap (λ line. line) rest))
+
+pub kept-some : (bytes : List ℕ) → 0 < length (lines bytes) → 0 < length (kept-of bytes)
+unfolding kept-of
+kept-some bytes some = some-kept (lines bytes) (lines-are-lines bytes) some
+
 -- A line's last byte is its LF.
 pub line-ends : (line : List ℕ) → is-line line ≡ true → getD line (length line - 1) 0 ≡ 10
 unfolding is-line

@@ -11,7 +11,7 @@ use Rattle.lists.proofs.Tests.{neither, whichever}
 use Rattle.lists.proofs.Steps.{drop-step}
 
 module _ {A : Type 0} where
-  none-at : (test : A → Bool) (l : List A) (i : ℕ) (d : A) → i < length l → some-of test l ≡ false → test (getD l i d) ≡ false
+  pub none-at : (test : A → Bool) (l : List A) (i : ℕ) (d : A) → i < length l → some-of test l ≡ false → test (getD l i d) ≡ false
   unfolding some-of
   none-at test [] i d h e = absurd (omega arith)
   none-at test (a ∷ l) zero d h e = neither (test a) (some-of test l) e .0

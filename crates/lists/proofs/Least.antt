@@ -11,7 +11,7 @@ use lib.ListN.{length}
 use Rattle.lists.specs.Least.{least, lighter, least-of}
 use Rattle.lists.specs.Members.{every}
 use Rattle.lists.proofs.Every.{every-uncons}
-use Rattle.lists.proofs.Ordered.{Ascending}
+use Rattle.lists.specs.Ordered.{Ascending}
 
 pub record FirstLeast {A : Type 0} (measure : A → ℕ) (before : A → A → Type 0) (l : List A) (result : A) : Type 0 where
   pub member : List·Memᴰ result l

@@ -5,6 +5,7 @@ pub mod Steps
 pub mod Alike
 pub mod Every
 pub mod Firsts
+pub mod Renewed
 pub mod Ascending
 pub mod Counting
 pub mod Writes

@@ -7,7 +7,7 @@ use Prim.Native.Nat.{ℕ, zero, suc, _<_}
 use native.Mathlib.Omega.{arith}
 use lib.ListN.{length, take, drop}
 use Rattle.lists.specs.Members.{some-of, firsts-after, firsts}
-use Rattle.lists.proofs.Ordered.{Ascending}
+use Rattle.lists.specs.Ordered.{Ascending}
 
 module _ {A : Type 0} where
   -- A list with an element isn't empty, and a list that isn't empty has one.

@@ -6,12 +6,9 @@ use mathlib.Core.Logic.{⊎-elim}
 use Prim.Native.Nat.{ℕ, zero, suc, _<_}
 use native.Mathlib.Omega.{arith}
 use Rattle.lists.specs.Members.{keep}
+use Rattle.lists.specs.Ordered.{Ascending}
 use Rattle.lists.specs.Ranges.{listed}
 use Rattle.lists.proofs.Membership.{of-kept, of-joined, of-counted}
-
-abbrev pub Ascending : {A : Type 0} → (A → A → Type 0) → List A → Type 0
-Ascending before [] = Unit
-Ascending {A} before (a ∷ l) = ((b : A) → List·Memᴰ b l → before a b) × Ascending before l
 
 pub counted-ascends : (from count : ℕ) → Ascending _<_ (listed (λ number. number) from count)
 unfolding listed

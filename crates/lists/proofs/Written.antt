@@ -2,6 +2,7 @@
 use mathlib.Core.Path.{_≡_, refl, ap, _∙_, sym}
 use mathlib.Core.List.{List, _++_, append-assoc}
 use Prim.Native.Nat.{ℕ, _+_, _-_, _<_, _≤_}
+use native.Mathlib.Nat.{zero-add}
 use native.Mathlib.Omega.{arith}
 use borrow.Rule.Slice.PartMut.{putMid}
 use lib.ListN.{length, getD, take, drop, length-append, length-take, length-drop, List·getD-append}
@@ -66,3 +67,8 @@ module _ {A : Type 0} (place : ℕ) (part s : List A) where
         ap (λ n. getD (take place s ++ (part ++ drop (place + length part) s)) (n + i) d) (sym front-length)
         ∙ getD-append-add (take place s) (part ++ drop (place + length part) s) i d
         ∙ List·getD-append part _ d i h
+
+-- What is written over the front hides what stood there.
+pub written-front : {A : Type 0} (part s t : List A) → drop (length part) s ≡ drop (length part) t → written-at 0 part s ≡ written-at 0 part t
+unfolding written-at
+written-front part s t e = rw (zero-add (length part), e)

@@ -1,5 +1,7 @@
 -- "Each returns its number and a place": the table of document 01, "Refusal numbers", a line for each refusal, and document 02's 19.
+use mathlib.Core.List.{List, _∷_}
 use Prim.Native.Nat.{ℕ}
+use lib.ListN.{replicate}
 use Rattle.refusal.specs.declared.Refusal.{Refusal}
 use Rattle.refusal.specs.declared.Refusal.the-variants.{
   Modes,
@@ -69,3 +71,11 @@ placeOf Heuristic = 0
 placeOf (Malformed line) = line
 placeOf (NewickForm byte) = byte
 placeOf (TooManyNodes byte) = byte
+
+-- "Each returns its number and a place, zeros elsewhere": the numbers of a refused answer, with so many others.
+unfoldable pub refused-numbers : ℕ → Refusal → List ℕ
+refused-numbers others refusal = numberOf refusal ∷ (placeOf refusal ∷ replicate others 0)
+
+-- The numbers of an answer that isn't refused: no refusal, no place, and the others.
+unfoldable pub done-numbers : List ℕ → List ℕ
+done-numbers others = 0 ∷ (0 ∷ others)

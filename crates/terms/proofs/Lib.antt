@@ -12,5 +12,7 @@ pub mod RowReduced
 pub mod MarkedRows
 pub mod ReducedRows
 pub mod Unchanged
-pub mod NoTwoEqual
+pub mod ByPlace
+pub mod AsTold
+pub mod LiveRows
 pub mod StaysGood

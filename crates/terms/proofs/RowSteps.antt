@@ -7,7 +7,7 @@ use native.Mathlib.Nat.{mul-zero, sub-zero, add-zero}
 use lib.ListN.{length, getD, take, drop, length-take, length-drop, length-map}
 use lib.Seq.{drop-drop, take-take, getD-take, getD-drop}
 use Rattle.lists.proofs.Parts.{drop-take}
-use Rattle.terms.specs.Rows.{rows-of, term, terms-of}
+use Rattle.terms.specs.Rows.{Held, rows-of, term, terms-of}
 
 pub terms-start : (w count : ℕ) (s : List ℕ) → terms-of w count s ≡ terms-of w (count - 0) (drop (w * 0) s)
 terms-start w count s = rw (sub-zero, mul-zero)
@@ -70,6 +70,12 @@ rows-front w count s t e =
     let same : take (w * count + 0) s ≡ take (w * count + 0) t = rw (add-zero (w * count)) e in
     sym (rows-take w count 0 s) ∙ ap (rows-of w count) same ∙ rows-take w count 0 t
 
+-- A row among the first is read from the first numbers alone.
+pub row-front : (w count : ℕ) (s t : List ℕ) → take (w * count) s ≡ take (w * count) t → (place : ℕ) → place < count
+    → take w (drop (w * place) s) ≡ take w (drop (w * place) t)
+row-front w count s t e place h =
+    sym (rows-at w count place s h) ∙ ap (λ rows. getD rows place []) (rows-front w count s t e) ∙ rows-at w count place t h
+
 -- One row more is the row that follows.
 pub rows-more : (w count : ℕ) (s : List ℕ) → rows-of w (count + 1) s ≡ rows-of w count s ++ (take w (drop (w * count) s) ∷ [])
 unfolding rows-of
@@ -78,3 +84,12 @@ rows-more w (suc count) s =
     let e : suc count + 1 ≡ suc (count + 1) = omega arith in
     let d : w + w * count ≡ w * suc count = omega arith in
     rw (e, rows-more w count (drop w s), drop-drop (w * count) w s, d)
+
+-- Rows that are held are held without the last one too.
+pub held-fewer : (w count : ℕ) (s : List ℕ) → Held w (count + 1) s → Held w count s
+held-fewer w count s held =
+    record {
+      room = omega (arith, held .room);
+      within = λ place h. held .within place (omega arith);
+      zeros = λ place h. held .zeros place (omega arith);
+    }

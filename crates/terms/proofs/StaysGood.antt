@@ -15,11 +15,12 @@ use Rattle.entities.specs.declared.Triple.{Triple}
 use Rattle.terms.specs.declared.checking.Checked.the-variants.{Good}
 use Rattle.terms.specs.Rows.{Held, rows-of, term, terms-of}
 use Rattle.terms.specs.Good.{good-indices, good-row, good-term, good-rows, checked}
-use Rattle.terms.specs.Reduction.{replacement, rewriting, dropped, reduction}
+use Rattle.terms.specs.Reduction.{replacement, rewriting, dropped, reduction, live, told-reduction}
 use Rattle.terms.proofs.RowSteps.{row-first, length-rows, rows-at}
 use Rattle.terms.proofs.RowRewritten.{length-term}
 use Rattle.terms.proofs.Sorting.{length-rewriting}
 use Rattle.terms.proofs.SortedRight.{ascends-sorted, every-sorted}
+use Rattle.terms.proofs.AsTold.{as-told}
 
 -- The facts of a good term.
 pub record GoodTerm (bound : ℕ) (term : List ℕ) : Type 0 where
@@ -73,13 +74,14 @@ module _ (bound : ℕ) where
               (every-mapped (λ index. ltb index bound) (λ index. ltb index bound) (replacement triple parent) replacement-below term (g .below));
         })
 
-    pub reduction-good : (terms : List (List ℕ)) → every (good-term bound) terms ≡ true
-        → every (good-term bound) (reduction triple parent terms) ≡ true
-    unfolding reduction firsts
+    pub reduction-good : (terms : List (List ℕ)) → every (good-term bound) (live terms) ≡ true
+        → every (good-term bound) (live (reduction triple parent terms)) ≡ true
+    unfolding told-reduction firsts
     reduction-good terms e =
-        every-first (good-term bound) alike [] _
+        rw (as-told triple parent terms)
+        (every-first (good-term bound) alike [] _
         (every-kept (good-term bound) (λ term. not (dropped parent term)) _
-        (every-mapped (good-term bound) (good-term bound) (rewriting triple parent) rewriting-good terms e))
+        (every-mapped (good-term bound) (good-term bound) (rewriting triple parent) rewriting-good (live terms) e)))
 
   -- A good row's first number is within the row, and its term is good.
   module _ (row : List ℕ) (good : good-row bound row ≡ true) where
@@ -110,14 +112,17 @@ module _ (bound : ℕ) where
 
   good-held : (count : ℕ) (s : List ℕ) → 8 * count ≤ length s → every (good-row bound) (rows-of 8 count s) ≡ true → Held 8 count s
   good-held count s h e =
+      let says : (place : ℕ) → place < count → (1 ≤ getD s (8 * place) 0) × (getD s (8 * place) 0 ≤ 7) =
+      λ place k.
+      let good : good-row bound (take 8 (drop (8 * place) s)) ≡ true =
+      rw (rows-at 8 count place s k) at (every-at (good-row bound) (rows-of 8 count s) place [] (rw (length-rows 8 count s) k) e) in
+      let told = row-says (take 8 (drop (8 * place) s)) good in
+      let first = row-first 8 place s (omega arith) (omega arith) in
+      (omega (arith, told .0, first), omega (arith, told .1, first)) in
       record {
         room = h;
-        within =
-            λ place k.
-            let good : good-row bound (take 8 (drop (8 * place) s)) ≡ true =
-            rw (rows-at 8 count place s k) at (every-at (good-row bound) (rows-of 8 count s) place [] (rw (length-rows 8 count s) k) e) in
-            let says = row-says (take 8 (drop (8 * place) s)) good in
-            rw (← row-first 8 place s (omega arith) (omega arith)) (omega arith);
+        within = λ place k. omega (arith, says place k .1);
+        zeros = λ place k none. absurd (omega (arith, says place k .0, none));
       }
 
 -- What the check's acceptance of so many rows says of the numbers.

@@ -31,17 +31,17 @@ unfolding term-weight odd-ones
 weighs triple term xs ys zs ex ey ez = rw (← ex, ← ey, ← ez) (one-or-two (xs % 2 + ys % 2 + zs % 2) (omega arith))
 
 -- Along the rows: the weight of those passed and of those ahead is the weight of all.
-module _ (triple : Triple) (live place : ℕ) (rows : List ℕ) where
-  pub weight-step : place < live
-      → weight-of triple (terms-of 8 (live - place) (drop (8 * place) rows))
+module _ (triple : Triple) (count place : ℕ) (rows : List ℕ) where
+  pub weight-step : place < count
+      → weight-of triple (terms-of 8 (count - place) (drop (8 * place) rows))
       ≡ term-weight triple (term (take 8 (drop (8 * place) rows)))
-      + weight-of triple (terms-of 8 (live - (place + 1)) (drop (8 * (place + 1)) rows))
+      + weight-of triple (terms-of 8 (count - (place + 1)) (drop (8 * (place + 1)) rows))
   unfolding weight-of sum
-  weight-step h = rw (terms-step 8 live place rows h)
+  weight-step h = rw (terms-step 8 count place rows h)
 
-  pub weight-end : live ≤ place → weight-of triple (terms-of 8 (live - place) (drop (8 * place) rows)) ≡ 0
+  pub weight-end : count ≤ place → weight-of triple (terms-of 8 (count - place) (drop (8 * place) rows)) ≡ 0
   unfolding weight-of sum
-  weight-end h = rw (terms-end 8 live place rows h)
+  weight-end h = rw (terms-end 8 count place rows h)
 
 -- The weight from how many of the three are odd.
 pub weighs-odd : (triple : Triple) (term : List ℕ) (odd : ℕ) → odd ≡ odd-ones triple term → (odd + 1) / 2 % 2 ≡ term-weight triple term

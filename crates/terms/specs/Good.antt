@@ -1,5 +1,5 @@
 -- "Indices are below 2n and never descend; equal indices and equal rows are allowed. … here empty terms are refused everywhere."
-use mathlib.Core.Bool.{Bool, cond, _&&_}
+use mathlib.Core.Bool.{Bool, cond, not, _&&_}
 use mathlib.Core.List.{List}
 use Prim.Native.Nat.{ℕ, suc, _*_, _/_, _%_}
 use lib.Dec.{eqb, ltb, leb}
@@ -36,10 +36,8 @@ good-rows bound count numbers = leading (good-row bound) (rows-of 8 count number
 -- Refusals 2, 3 and 4, in this order: "term numbers not a multiple of 8", "T above 2048", "first bad row".
 unfoldable pub checked : ℕ → List ℕ → Checked
 checked modes numbers =
-    cond (eqb (length numbers % 8) 0)
-    (cond (leb (length numbers / 8) 2048)
+    cond (not (eqb (length numbers % 8) 0)) (Refused TermNumbers)
+    (cond (not (leb (length numbers / 8) 2048)) (Refused TooManyTerms)
     (cond (ltb (good-rows (2 * modes) (length numbers / 8) numbers) (length numbers / 8))
     (Refused (BadRow (good-rows (2 * modes) (length numbers / 8) numbers)))
-    (Good (length numbers / 8)))
-    (Refused TooManyTerms))
-    (Refused TermNumbers)
+    (Good (length numbers / 8))))

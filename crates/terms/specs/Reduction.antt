@@ -1,10 +1,11 @@
 -- "Reducing: each of the three numbers becomes the parent, multiplicity kept, the row sorted; rows with all numbers equal to the
 -- parent (a single one too) are dropped; then equal rows become one."
-use mathlib.Core.Bool.{Bool, cond, not, _&&_}
+use mathlib.Core.Bool.{Bool, true, false, cond, not, _&&_}
 use mathlib.Core.List.{List, [], _∷_, map}
 use Prim.Native.Nat.{ℕ, min, max}
 use lib.Dec.{eqb}
 use Rattle.lists.specs.Members.{every, keep, some-of, alike, firsts}
+use Rattle.lists.specs.Renewed.{renewed}
 use Rattle.entities.specs.declared.Triple.{Triple}
 
 -- "each of the three numbers becomes the parent".
@@ -32,16 +33,32 @@ rewriting triple parent term = sorted (map (replacement triple parent) term)
 unfoldable pub dropped : ℕ → List ℕ → Bool
 dropped parent term = every (λ number. eqb number parent) term
 
--- "then equal rows become one": the first of equals stays.
-unfoldable pub reduction : Triple → ℕ → List (List ℕ) → List (List ℕ)
-reduction triple parent terms =
-    firsts alike (keep (λ term. not (dropped parent term)) (map (rewriting triple parent) terms))
-
--- A term stays where it is not dropped and like none of those kept before it.
+-- A row's term stays where it is not dropped and none of the rows before it has it.
 unfoldable pub stays : ℕ → List (List ℕ) → List ℕ → Bool
-stays parent kept term = not (dropped parent term) && not (some-of (alike term) kept)
+stays parent before term = not (dropped parent term) && not (some-of (alike term) before)
 
--- What one row adds to the terms kept before it: its term rewritten, where that stays.
-unfoldable pub addition : Triple → ℕ → List (List ℕ) → List ℕ → List (List ℕ)
-addition triple parent kept term =
-    cond (stays parent kept (rewriting triple parent term)) (rewriting triple parent term ∷ []) []
+-- "then equal rows become one": the first of equals stays. A row that doesn't stay is the empty term at its place.
+unfoldable pub settled : ℕ → List (List ℕ) → List ℕ → List ℕ
+settled parent before term = cond (stays parent before term) term []
+
+-- A row reduced, behind the rows that were reduced before it.
+unfoldable pub reduced-row : Triple → ℕ → List (List ℕ) → List ℕ → List ℕ
+reduced-row triple parent before term = settled parent before (rewriting triple parent term)
+
+-- Every row reduced, each where it stands.
+unfoldable pub reduction : Triple → ℕ → List (List ℕ) → List (List ℕ)
+reduction triple parent terms = renewed (reduced-row triple parent) terms
+
+-- A row that was neither dropped nor merged has a term.
+unfoldable pub is-there : List ℕ → Bool
+is-there [] = false
+is-there (index ∷ term) = true
+
+-- The rows that are there, without their places.
+unfoldable pub live : List (List ℕ) → List (List ℕ)
+live terms = keep is-there terms
+
+-- The sentence above as it stands, of rows without places.
+unfoldable pub told-reduction : Triple → ℕ → List (List ℕ) → List (List ℕ)
+told-reduction triple parent rows =
+    firsts alike (keep (λ term. not (dropped parent term)) (map (rewriting triple parent) rows))

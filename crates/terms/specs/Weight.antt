@@ -22,9 +22,9 @@ term-weight triple term = cond (eqb (odd-ones triple term) 1 || eqb (odd-ones tr
 unfoldable pub weight-of : Triple → List (List ℕ) → ℕ
 weight-of triple terms = sum (map (term-weight triple) terms)
 
--- For each live row: of two numbers, how many occur in it an odd number of times.
+-- For each of the first `count` rows: of two numbers, how many occur in it an odd number of times.
 abbrev pub OddOf : List ℕ → ℕ → ℕ → ℕ → List ℕ → Type 0
-OddOf rows live x y odd =
-    (place : ℕ) → place < live
+OddOf rows count x y odd =
+    (place : ℕ) → place < count
     → getD odd place 0
     ≡ occurrences x (term (take 8 (drop (8 * place) rows))) % 2 + occurrences y (term (take 8 (drop (8 * place) rows))) % 2

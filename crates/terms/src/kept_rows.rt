@@ -1,4 +1,4 @@
-// The rows kept: whether one of them has a term, and one more put behind them. Marks tell most new terms from them without a search.
+// The rows passed: whether one of them has a term, and the next one written over itself. Marks tell most new terms from them without a search.
 ghost use mathlib.Core.Bool.{true};
 ghost use mathlib.Core.Path.{_≡_};
 ghost use Prim.Native.Nat.{_+_, _*_, _≤_, _<_};
@@ -53,7 +53,7 @@ pub fn is_kept<'a>(rows: &'a [u16], kept: usize, marks: &'a [bool], term: &[u16]
 }
 
 // The row written over the one at this place.
-fn put_row(rows: &mut [u16], place: usize, row: &[u16])
+pub fn put_row(rows: &mut [u16], place: usize, row: &[u16])
     requires { ⌜ length (now row) ≡ 8 ⌝ }
     requires { ⌜ 8 * place + 8 ≤ length (now rows) ⌝ }
     ensures { λ r. ⌜ now (rows .exit) ≡ written-at (8 * place) (now (row .entry)) (now (rows .entry)) ⌝ }

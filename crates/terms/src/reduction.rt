@@ -1,10 +1,10 @@
 // Reduction: the triple becomes its parent in every row, rows that are all parent are dropped, equal rows become one.
 ghost use mathlib.Core.Path.{_≡_};
-ghost use Prim.Native.Nat.{_+_, _*_, _≤_, _<_, min, max};
+ghost use Prim.Native.Nat.{_+_, _<_, min, max};
 ghost use lib.ListN.{length, getD, drop};
 ghost use Rattle.terms.specs.Rows.{Held, «terms-of»};
 ghost use Rattle.terms.specs.Reduction.{replacement, «put-in», rewriting, stays};
-ghost use Rattle.terms.specs.code.Promises.{Rewritten, RowReduced, Reduced};
+ghost use Rattle.terms.specs.code.Promises.{Rewritten, RowSettled, RowReduced, Reduced};
 ghost use Rattle.terms.specs.code.Marks.{Marked};
 use crate::kept_rows;
 use crate::row;
@@ -88,60 +88,66 @@ fn rewritten(row: &[u16], triple: Triple, parent: u16) -> [u16; 8]
     aside
 }
 
-// The term is not all parent, and none of the rows kept has it.
-fn survives<'a>(rows: &'a [u16], kept: usize, marks: &'a [bool], term: &[u16], parent: u16) -> bool
-    requires { ⌜ Held 8 kept (now rows) ⌝ }
+// The term is not all parent, and none of the first `count` rows has it.
+fn survives<'a>(rows: &'a [u16], count: usize, marks: &'a [bool], term: &[u16], parent: u16) -> bool
+    requires { ⌜ Held 8 count (now rows) ⌝ }
     requires { ⌜ length (now marks) ≡ 16384 ⌝ }
-    requires { ⌜ Marked 16384 (terms-of 8 kept (now rows)) (now marks) ⌝ }
-    ensures { λ r. ⌜ r ≡ stays parent (terms-of 8 kept (now (rows .entry))) (now (term .entry)) ⌝ }
+    requires { ⌜ Marked 16384 (terms-of 8 count (now rows)) (now marks) ⌝ }
+    ensures { λ r. ⌜ r ≡ stays parent (terms-of 8 count (now (rows .entry))) (now (term .entry)) ⌝ }
 {
     if slices::all_are(term, parent) {
         return false;
     }
-    !kept_rows::is_kept(rows, kept, marks, term)
+    !kept_rows::is_kept(rows, count, marks, term)
 }
 
-// One row reduced and, where it stays, put behind the rows kept; how many are kept then.
-fn reduce_row(
-    rows: &mut [u16],
-    marks: &mut [bool],
-    kept: usize,
+// What the row at this place becomes: its term rewritten where that stays, else zeros.
+fn settled_row<'a>(
+    rows: &'a [u16],
+    marks: &'a [bool],
     place: usize,
     triple: Triple,
     parent: u16,
-) -> usize
-    requires { ⌜ Held 8 kept (now rows) ⌝ }
-    requires { ⌜ kept ≤ place ⌝ }
-    requires { ⌜ 8 * place + 8 ≤ length (now rows) ⌝ }
-    requires { ⌜ getD (now rows) (8 * place) 0 < 8 ⌝ }
+) -> [u16; 8]
+    requires { ⌜ Held 8 (place + 1) (now rows) ⌝ }
     requires { ⌜ length (now marks) ≡ 16384 ⌝ }
-    requires { ⌜ Marked 16384 (terms-of 8 kept (now rows)) (now marks) ⌝ }
-    ensures { λ r. ⌜ RowReduced triple parent kept place (now (rows .entry)) (now (rows .exit)) r ⌝ }
-    ensures { λ r. ⌜ Marked 16384 (terms-of 8 r (now (rows .exit))) (now (marks .exit)) ⌝ }
+    requires { ⌜ Marked 16384 (terms-of 8 place (now rows)) (now marks) ⌝ }
+    ensures { λ r. ⌜ RowSettled triple parent place (now (rows .entry)) r ⌝ }
 {
     let aside = rewritten(row::row_at(rows, place), triple, parent);
-    if !survives(rows, kept, marks, row::term_of(&aside), parent) {
-        return kept;
+    if survives(rows, place, marks, row::term_of(&aside), parent) {
+        return aside;
     }
-    kept_rows::keep_row(rows, marks, kept, &aside);
-    kept + 1
+    [0u16; 8]
 }
 
-// The first live rows reduced to the parent; how many stay, at the front, with zeros where the others were.
-pub fn reduce_hamiltonian(rows: &mut [u16], live: usize, parent: u16, selection: Triple) -> usize
-    requires { ⌜ Held 8 live (now rows) ⌝ }
-    ensures { λ r. ⌜ Reduced selection parent live (now (rows .entry)) (now (rows .exit)) r ⌝ }
+// The row at this place reduced where it stands, and the mark of what it becomes set.
+fn reduce_row(rows: &mut [u16], marks: &mut [bool], place: usize, triple: Triple, parent: u16)
+    requires { ⌜ Held 8 (place + 1) (now rows) ⌝ }
+    requires { ⌜ length (now marks) ≡ 16384 ⌝ }
+    requires { ⌜ Marked 16384 (terms-of 8 place (now rows)) (now marks) ⌝ }
+    ensures { λ r. ⌜ RowReduced triple parent place (now (rows .entry)) (now (rows .exit)) ⌝ }
+    ensures { λ r. ⌜ Marked 16384 (terms-of 8 (place + 1) (now (rows .exit))) (now (marks .exit)) ⌝ }
 {
-    // no row is kept yet, so no mark is set
+    // a row that is gone stays gone; the empty term's mark is 0
+    if rows[8 * place] == 0 {
+        marks[0] = true;
+        return;
+    }
+    let row = settled_row(rows, marks, place, triple, parent);
+    kept_rows::keep_row(rows, marks, place, &row);
+}
+
+// The first rows reduced to the parent, each where it stands; a row that is dropped or merged is zeros there.
+pub fn reduce_hamiltonian(rows: &mut [u16], count: usize, parent: u16, selection: Triple)
+    requires { ⌜ Held 8 count (now rows) ⌝ }
+    ensures { λ r. ⌜ Reduced selection parent count (now (rows .entry)) (now (rows .exit)) ⌝ }
+{
+    // no row is passed yet, so no mark is set
     let mut marks = [false; 16384];
-    let mut kept: usize = 0;
     let mut place = 0;
-    while place < live {
-        kept = reduce_row(rows, &mut marks, kept, place, selection, parent);
+    while place < count {
+        reduce_row(rows, &mut marks, place, selection, parent);
         place += 1;
     }
-    let from = 8 * kept;
-    let end = 8 * live;
-    slices::fill(&mut rows[from..end], 0);
-    kept
 }

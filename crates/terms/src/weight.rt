@@ -1,4 +1,4 @@
-// The weight of a triple: in one term, and in all live rows.
+// The weight of a triple: in one term, and in all rows.
 ghost use mathlib.Core.Path.{_≡_};
 ghost use Prim.Native.Nat.{_%_, _≤_};
 ghost use lib.ListN.{length};
@@ -35,14 +35,14 @@ pub fn qubit_term_weight(term: &[u16], triple: Triple) -> usize
     (odd + 1) / 2 % 2
 }
 
-// The sum of the triple's weights in the first live rows.
-pub fn weight(rows: &[u16], live: usize, triple: Triple) -> usize
-    requires { ⌜ Held 8 live (now rows) ⌝ }
-    ensures { λ r. ⌜ (r ≡ weight-of triple (terms-of 8 live (now (rows .entry)))) × (r ≤ live) ⌝ }
+// The sum of the triple's weights in the first `count` rows.
+pub fn weight(rows: &[u16], count: usize, triple: Triple) -> usize
+    requires { ⌜ Held 8 count (now rows) ⌝ }
+    ensures { λ r. ⌜ (r ≡ weight-of triple (terms-of 8 count (now (rows .entry)))) × (r ≤ count) ⌝ }
 {
     let mut sum: usize = 0;
     let mut place = 0;
-    while place < live {
+    while place < count {
         sum += qubit_term_weight(row::term_at(rows, place), triple);
         place += 1;
     }
@@ -62,14 +62,14 @@ fn odd_in(term: &[u16], number: u16) -> usize
     odd
 }
 
-// For each live row, how many of x and y occur in it an odd number of times.
-pub fn count_odd(rows: &[u16], live: usize, x: u16, y: u16, odd: &mut [u8])
-    requires { ⌜ Held 8 live (now rows) ⌝ }
-    requires { ⌜ live ≤ length (now odd) ⌝ }
-    ensures { λ r. ⌜ OddOf (now (rows .entry)) live x y (now (odd .exit)) ⌝ }
+// For each row, how many of x and y occur in it an odd number of times.
+pub fn count_odd(rows: &[u16], count: usize, x: u16, y: u16, odd: &mut [u8])
+    requires { ⌜ Held 8 count (now rows) ⌝ }
+    requires { ⌜ count ≤ length (now odd) ⌝ }
+    ensures { λ r. ⌜ OddOf (now (rows .entry)) count x y (now (odd .exit)) ⌝ }
 {
     let mut place = 0;
-    while place < live {
+    while place < count {
         let term = row::term_at(rows, place);
         odd[place] = (odd_in(term, x) + odd_in(term, y)) as u8;
         place += 1;
@@ -77,15 +77,15 @@ pub fn count_odd(rows: &[u16], live: usize, x: u16, y: u16, odd: &mut [u8])
 }
 
 // The weight of the triple, where it is known how many of its x and y are odd in each row.
-pub fn weight_beside<'a>(rows: &'a [u16], live: usize, odd: &'a [u8], triple: Triple) -> usize
-    requires { ⌜ Held 8 live (now rows) ⌝ }
-    requires { ⌜ live ≤ length (now odd) ⌝ }
-    requires { ⌜ OddOf (now rows) live (triple .x) (triple .y) (now odd) ⌝ }
-    ensures { λ r. ⌜ (r ≡ weight-of triple (terms-of 8 live (now (rows .entry)))) × (r ≤ live) ⌝ }
+pub fn weight_beside<'a>(rows: &'a [u16], count: usize, odd: &'a [u8], triple: Triple) -> usize
+    requires { ⌜ Held 8 count (now rows) ⌝ }
+    requires { ⌜ count ≤ length (now odd) ⌝ }
+    requires { ⌜ OddOf (now rows) count (triple .x) (triple .y) (now odd) ⌝ }
+    ensures { λ r. ⌜ (r ≡ weight-of triple (terms-of 8 count (now (rows .entry)))) × (r ≤ count) ⌝ }
 {
     let mut sum: usize = 0;
     let mut place = 0;
-    while place < live {
+    while place < count {
         let all = odd[place] as usize + odd_in(row::term_at(rows, place), triple.z);
         // 0, 1, 2, 3 to 0, 1, 1, 0
         sum += (all + 1) / 2 % 2;

@@ -1,28 +1,45 @@
 -- What reduction promises of the numbers lent to it.
 use mathlib.Core.Path.{_≡_}
-use mathlib.Core.List.{List, _++_}
-use Prim.Native.Nat.{ℕ, suc, _+_, _-_, _*_, _≤_}
-use lib.ListN.{drop, replicate, getD, take}
+use mathlib.Core.List.{List}
+use Prim.Native.Nat.{ℕ, _+_, _*_, _<_, _≤_}
+use lib.ListN.{length, getD, take, drop, replicate}
+use Rattle.lists.specs.Written.{written-at}
 use Rattle.entities.specs.declared.Triple.{Triple}
 use Rattle.terms.specs.Rows.{Held, term, terms-of}
-use Rattle.terms.specs.Reduction.{addition, reduction, rewriting}
+use Rattle.terms.specs.Reduction.{reduced-row, reduction, rewriting, live}
 
 -- The copy of a row with its term rewritten: as long as the row, the term where it was.
 pub record Rewritten (triple : Triple) (parent : ℕ) (row copy : List ℕ) : Type 0 where
   pub same-length : getD copy 0 0 ≡ getD row 0 0
   pub new-term : term copy ≡ rewriting triple parent (term row)
 
--- One row reduced: what it adds stands behind the rows kept, and the numbers after the row are as they were.
-pub record RowReduced (triple : Triple) (parent kept place : ℕ) (before after : List ℕ) (now-kept : ℕ) : Type 0 where
-  pub terms : terms-of 8 now-kept after
-      ≡ terms-of 8 kept before ++ addition triple parent (terms-of 8 kept before) (term (take 8 (drop (8 * place) before)))
-  pub held : Held 8 now-kept after
-  pub at-most : now-kept ≤ kept + 1
-  pub rest : drop (8 * suc place) after ≡ drop (8 * suc place) before
+-- What the row at a place becomes, beside the rows before it.
+pub record RowSettled (triple : Triple) (parent place : ℕ) (rows row : List ℕ) : Type 0 where
+  pub whole : length row ≡ 8
+  pub new-term : term row ≡ reduced-row triple parent (terms-of 8 place rows) (term (take 8 (drop (8 * place) rows)))
+  pub within : getD row 0 0 < 8
+  pub zeros : getD row 0 0 ≡ 0 → row ≡ replicate 8 0
 
--- All live rows reduced: the reduction's terms at the front, zeros where rows went, every number behind them as it was.
-pub record Reduced (triple : Triple) (parent live : ℕ) (before after : List ℕ) (kept : ℕ) : Type 0 where
-  pub terms : terms-of 8 kept after ≡ reduction triple parent (terms-of 8 live before)
-  pub held : Held 8 kept after
-  pub at-most : kept ≤ live
-  pub rest : drop (8 * kept) after ≡ replicate (8 * (live - kept)) 0 ++ drop (8 * live) before
+-- One row reduced: it is written over itself, and nothing else is.
+pub record RowReduced (triple : Triple) (parent place : ℕ) (before after : List ℕ) : Type 0 where
+  pub row : List ℕ
+  pub settled : RowSettled triple parent place before row
+  pub put : after ≡ written-at (8 * place) row before
+
+-- The first `count` rows reduced where they stand, and every number behind them as it was.
+pub record Reduced (triple : Triple) (parent count : ℕ) (before after : List ℕ) : Type 0 where
+  pub terms : terms-of 8 count after ≡ reduction triple parent (terms-of 8 count before)
+  pub held : Held 8 count after
+  pub rest : drop (8 * count) after ≡ drop (8 * count) before
+
+-- A row that is there put behind so many others; one that is gone passed over.
+pub record RowGathered (rows : List ℕ) (place kept : ℕ) (before after : List ℕ) (now-kept : ℕ) : Type 0 where
+  pub gone : getD rows (8 * place) 0 ≡ 0 → (now-kept ≡ kept) × (after ≡ before)
+  pub there : (getD rows (8 * place) 0 ≡ 0 → ⊥)
+      → (now-kept ≡ kept + 1) × (after ≡ written-at (8 * kept) (take 8 (drop (8 * place) rows)) before)
+
+-- The rows that are there, gathered at the front of other numbers.
+pub record LiveRows (count : ℕ) (rows gathered : List ℕ) (kept : ℕ) : Type 0 where
+  pub terms : terms-of 8 kept gathered ≡ live (terms-of 8 count rows)
+  pub held : Held 8 kept gathered
+  pub at-most : kept ≤ count

@@ -10,11 +10,11 @@ use Rattle.terms.proofs.weight.count_odd.Statement.{statement}
 use Rattle.terms.proofs.weight.count_odd.Tie as tie
 
 abbrev Inv-loop : tie.InvT-loop
-Inv-loop rows live x y odd₀ place₀ odd place =
-    (place ≤ live) × (length odd ≡ length odd₀) × OddOf rows place x y odd
+Inv-loop rows count x y odd₀ place₀ odd place =
+    (place ≤ count) × (length odd ≡ length odd₀) × OddOf rows place x y odd
 
 abbrev μ-loop : tie.MeasureT-loop
-μ-loop rows live x y odd₀ place₀ odd place = live - place
+μ-loop rows count x y odd₀ place₀ odd place = count - place
 
 loop-holds : tie.Need-loop-holds Inv-loop μ-loop
 loop-holds c = search needs

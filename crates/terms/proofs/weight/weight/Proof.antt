@@ -13,13 +13,13 @@ use Rattle.terms.proofs.weight.weight.Statement.{statement}
 use Rattle.terms.proofs.weight.weight.Tie as tie
 
 abbrev Inv-loop : tie.InvT-loop
-Inv-loop rows live triple sum₀ place₀ sum place =
-    (place ≤ live)
+Inv-loop rows count triple sum₀ place₀ sum place =
+    (place ≤ count)
     × (sum ≤ place)
-    × (sum + weight-of triple (terms-of 8 (live - place) (drop (8 * place) rows)) ≡ weight-of triple (terms-of 8 live rows))
+    × (sum + weight-of triple (terms-of 8 (count - place) (drop (8 * place) rows)) ≡ weight-of triple (terms-of 8 count rows))
 
 abbrev μ-loop : tie.MeasureT-loop
-μ-loop rows live triple sum₀ place₀ sum place = live - place
+μ-loop rows count triple sum₀ place₀ sum place = count - place
 
 loop-holds : tie.Need-loop-holds Inv-loop μ-loop
 loop-holds c = (search needs, search needs, zero-add _ ∙ sym (ap (weight-of _) (terms-start 8 _ _)))
@@ -45,7 +45,7 @@ loop-again : tie.Need-loop-again Inv-loop μ-loop
 loop-again c =
     let here = c .before .before .before in
     let args = here .before .before .args in
-    let step = weight-step (args .triple) (args .live) (here .loop .place) (args .rows .now) (omega arith) in
+    let step = weight-step (args .triple) (args .count) (here .loop .place) (args .rows .now) (omega arith) in
     let e = c .qubit-term-weight .ensures .0 ∙ ap (term-weight (args .triple)) (c .before .term-at .ensures) in
     omega arith
 
@@ -53,7 +53,7 @@ returns : tie.Need-returns Inv-loop μ-loop
 returns c =
     let here = c .before in
     let args = here .before .before .args in
-    let done = weight-end (args .triple) (args .live) (here .loop .place) (args .rows .now) (omega arith) in
+    let done = weight-end (args .triple) (args .count) (here .loop .place) (args .rows .now) (omega arith) in
     omega arith
 
 pub weight-spec : {M : Type 1} → statement M

@@ -13,13 +13,13 @@ use Rattle.terms.proofs.weight.weight_beside.Statement.{statement}
 use Rattle.terms.proofs.weight.weight_beside.Tie as tie
 
 abbrev Inv-loop : tie.InvT-loop
-Inv-loop rows live odd triple sum₀ place₀ sum place =
-    (place ≤ live)
+Inv-loop rows count odd triple sum₀ place₀ sum place =
+    (place ≤ count)
     × (sum ≤ place)
-    × (sum + weight-of triple (terms-of 8 (live - place) (drop (8 * place) rows)) ≡ weight-of triple (terms-of 8 live rows))
+    × (sum + weight-of triple (terms-of 8 (count - place) (drop (8 * place) rows)) ≡ weight-of triple (terms-of 8 count rows))
 
 abbrev μ-loop : tie.MeasureT-loop
-μ-loop rows live odd triple sum₀ place₀ sum place = live - place
+μ-loop rows count odd triple sum₀ place₀ sum place = count - place
 
 loop-holds : tie.Need-loop-holds Inv-loop μ-loop
 loop-holds c = (search needs, search needs, zero-add _ ∙ sym (ap (weight-of _) (terms-start 8 _ _)))
@@ -67,7 +67,7 @@ loop-again c =
     let here = c .before .before .before .before in
     let start = here .before .before .before in
     let args = start .args in
-    let step = weight-step (args .triple) (args .live) (here .loop .place) (args .rows .now) (omega arith) in
+    let step = weight-step (args .triple) (args .count) (here .loop .place) (args .rows .now) (omega arith) in
     let weighed = weighs-odd (args .triple) (term (take 8 (drop (8 * here .loop .place) (args .rows .now)))) _ (odd-is c) in
     omega arith
 
@@ -75,7 +75,7 @@ returns : tie.Need-returns Inv-loop μ-loop
 returns c =
     let here = c .before in
     let args = here .before .before .before .args in
-    let done = weight-end (args .triple) (args .live) (here .loop .place) (args .rows .now) (omega arith) in
+    let done = weight-end (args .triple) (args .count) (here .loop .place) (args .rows .now) (omega arith) in
     omega arith
 
 pub weight-beside-spec : {M : Type 1} → statement M

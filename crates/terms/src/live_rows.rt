@@ -1,0 +1,34 @@
+// The rows that are there, one behind the other, for whoever weighs many triples in them.
+ghost use Prim.Native.Nat.{_+_, _*_, _≤_};
+ghost use lib.ListN.{length};
+ghost use Rattle.terms.specs.Rows.{Held};
+ghost use Rattle.terms.specs.code.Promises.{RowGathered, LiveRows};
+use crate::kept_rows;
+use crate::row;
+
+// The row at this place put behind the first `kept`, where it is there; how many there are then.
+fn gather_row(rows: &[u16], place: usize, live: &mut [u16], kept: usize) -> usize
+    requires { ⌜ (8 * place + 8 ≤ length (now rows)) × (8 * kept + 8 ≤ length (now live)) ⌝ }
+    ensures { λ r. ⌜ RowGathered (now (rows .entry)) place kept (now (live .entry)) (now (live .exit)) r ⌝ }
+{
+    if rows[8 * place] == 0 {
+        return kept;
+    }
+    kept_rows::put_row(live, kept, row::row_at(rows, place));
+    kept + 1
+}
+
+// Those of the first `count` rows that are there, over the front of the numbers; how many they are.
+pub fn put_live(rows: &[u16], count: usize, live: &mut [u16]) -> usize
+    requires { ⌜ Held 8 count (now rows) ⌝ }
+    requires { ⌜ 8 * count ≤ length (now live) ⌝ }
+    ensures { λ r. ⌜ LiveRows count (now (rows .entry)) (now (live .exit)) r ⌝ }
+{
+    let mut kept = 0;
+    let mut place = 0;
+    while place < count {
+        kept = gather_row(rows, place, live, kept);
+        place += 1;
+    }
+    kept
+}
