@@ -12,9 +12,8 @@ use lib.ListN.{length}
 use Rattle.lists.proofs.Tests.{same-or-not}
 use Rattle.lists.proofs.Totals.{total}
 use Rattle.entities.specs.declared.Triple.{Triple}
-use Rattle.merging.specs.History.{next-parent, is-open}
+use Rattle.merging.specs.History.{merge-of, next-parent, is-open}
 use Rattle.merging.specs.Lawful.{Lawful, LawfulHistory}
-use Rattle.merging.specs.Flatpack.{merge-of}
 use Rattle.merging.proofs.Holders.{open-below}
 use Rattle.merging.proofs.OpenSums.{open-sum, parent-after, open-same, open-start, open-step, root-sum}
 

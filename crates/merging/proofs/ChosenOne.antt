@@ -2,27 +2,32 @@
 use mathlib.Core.Path.{_≡_, ap, _∙_, sym}
 use mathlib.Core.List.{List}
 use mathlib.Core.Logic.{⊎-elim}
-use Prim.Native.Nat.{ℕ}
 use native.Mathlib.Omega.{arith}
 use Rattle.entities.specs.declared.Triple.{Triple}
-use Rattle.merging.specs.Lawful.{LawfulHistory, Pair, named}
-use Rattle.merging.specs.Choice.{weight-in, Before, first-name, Chosen}
-use Rattle.merging.proofs.Names.{same-pair, named-triple, first-names}
+use Rattle.terms.specs.Job.{Job}
+use Rattle.merging.specs.Lawful.{LawfulHistory, Pair, Sooner, named}
+use Rattle.merging.specs.Choice.{weight-in, Chosen}
+use Rattle.merging.proofs.Names.{named-triple}
 
-before-both : (p q : Pair) → Before p q → Before q p → p ≡ q
-before-both p q h k =
+not-both : (p q : Pair) → Sooner p q → Sooner q p → ⊥
+not-both p q h k =
     ⊎-elim
-    (λ less. ⊎-elim (λ more. absurd (omega arith)) (λ same. absurd (omega arith)) k)
-    (λ same. ⊎-elim (λ more. absurd (omega arith)) (λ back. same-pair p q (same .0) (omega arith)) k)
+    (λ less. ⊎-elim (λ more. omega arith) (λ same. omega arith) k)
+    (λ same. ⊎-elim (λ more. omega arith) (λ back. omega arith) k)
     h
 
-module _ (modes : ℕ) (terms : List (List ℕ)) (history : List Triple) (lawful : LawfulHistory modes history) where
-  pub chosen-one : (one other : Triple) → Chosen modes terms history one → Chosen modes terms history other → one ≡ other
+module _ (job : Job) (history : List Triple) (lawful : LawfulHistory (job .modes) history) where
+  pub chosen-one : (one other : Triple) → Chosen job history one → Chosen job history other → one ≡ other
   chosen-one one other c d =
-      let same : weight-in modes terms history one ≡ weight-in modes terms history other =
+      let same : weight-in job history one ≡ weight-in job history other =
       omega (arith, c .least other (d .lawful), d .least one (c .lawful)) in
-      let names : first-name one ≡ first-name other =
-      before-both _ _ (c .first other (d .lawful) (sym same)) (d .first one (c .lawful) same) in
-      sym (named-triple modes history lawful one (c .lawful) _ (first-names one))
-      ∙ ap (named modes history) names
-      ∙ named-triple modes history lawful other (d .lawful) _ (first-names other)
+      let by-names : c .name ≡ d .name → one ≡ other =
+      λ e.
+      sym (named-triple (job .modes) history lawful one (c .lawful) (c .name) (c .names))
+      ∙ ap (named (job .modes) history) e
+      ∙ named-triple (job .modes) history lawful other (d .lawful) (d .name) (d .names) in
+      ⊎-elim by-names
+      (λ sooner.
+      ⊎-elim (λ e. by-names (sym e)) (λ back. absurd (not-both (c .name) (d .name) sooner back))
+      (d .first one (c .lawful) same (c .name) (c .names)))
+      (c .first other (d .lawful) (sym same) (d .name) (d .names))

@@ -1,82 +1,72 @@
 -- While there is a lawful pair, the computed choice of a step is the one that document 01 describes.
 use mathlib.Core.Path.{_≡_, refl, ap, _∙_, sym}
 use mathlib.Core.List.{List, [], _∷_, List·Memᴰ}
-use mathlib.Core.Logic.{_⊎_, inl, inr, ⊎-elim}
-use Prim.Native.Nat.{ℕ, _<_, _≤_}
+use mathlib.Core.Logic.{inl, inr, ⊎-elim}
+use Prim.Native.Nat.{ℕ, _<_}
 use native.Mathlib.Omega.{arith}
 use lib.ListN.{length}
 use Rattle.lists.specs.Least.{least, least-of}
-use Rattle.lists.proofs.Tests.{same-or-not}
 use Rattle.lists.proofs.Least.{FirstLeast, least-first, least-map}
 use Rattle.entities.specs.declared.Triple.{Triple}
-use Rattle.merging.specs.Lawful.{Lawful, LawfulHistory, Pair, named, lawful-pairs}
-use Rattle.merging.specs.Choice.{weight-in, candidates, chosen, Before, first-name, Chosen}
-use Rattle.merging.proofs.Names.{Names, Sooner, pair-lawful, names-named, named-triple, names-listed, pairs-ascend, first-names, first-lowest}
+use Rattle.terms.specs.Job.{Job}
+use Rattle.merging.specs.Lawful.{Lawful, LawfulHistory, Pair, Names, Sooner, named, lawful-pairs}
+use Rattle.merging.specs.Choice.{weight-in, candidates, chosen, Chosen}
+use Rattle.merging.proofs.Names.{pair-lawful, names-named, named-triple, names-listed, pairs-ascend}
 
 -- The weight of the triple that a pair names.
-unfoldable pub pair-weight : ℕ → List (List ℕ) → List Triple → Pair → ℕ
-pair-weight modes terms history pair = weight-in modes terms history (named modes history pair)
+unfoldable pub pair-weight : Job → List Triple → Pair → ℕ
+pair-weight job history pair = weight-in job history (named (job .modes) history pair)
 
 -- The choice is the triple that the first of the lightest pairs names.
-pub record FirstPair (modes : ℕ) (terms : List (List ℕ)) (history : List Triple) (triple : Triple) : Type 0 where
+pub record FirstPair (job : Job) (history : List Triple) (triple : Triple) : Type 0 where
   pub pair : Pair
-  pub names : triple ≡ named modes history pair
-  pub found : FirstLeast (pair-weight modes terms history) Sooner (lawful-pairs modes history) pair
+  pub names : triple ≡ named (job .modes) history pair
+  pub found : FirstLeast (pair-weight job history) Sooner (lawful-pairs (job .modes) history) pair
 
-module _ (modes : ℕ) (terms : List (List ℕ)) (history : List Triple) where
-  chosen-from : (pairs : List Pair) → lawful-pairs modes history ≡ pairs → 0 < length pairs → FirstPair modes terms history (chosen modes terms history)
+module _ (job : Job) (history : List Triple) where
+  chosen-from : (pairs : List Pair) → lawful-pairs (job .modes) history ≡ pairs → 0 < length pairs → FirstPair job history (chosen job history)
   unfolding chosen least-of candidates pair-weight
   chosen-from [] e some-pair = absurd (omega arith)
   chosen-from (first ∷ rest) e some-pair =
       record {
-        pair = least (λ p. weight-in modes terms history (named modes history p)) first rest;
-        names = rw e (least-map (weight-in modes terms history) (named modes history) first rest);
-        found = rw e (least-first _ Sooner first rest (rw e at (pairs-ascend modes history)));
+        pair = least (λ p. weight-in job history (named (job .modes) history p)) first rest;
+        names = rw e (least-map (weight-in job history) (named (job .modes) history) first rest);
+        found = rw e (least-first _ Sooner first rest (rw e at (pairs-ascend (job .modes) history)));
       }
 
-  pub chosen-first : 0 < length (lawful-pairs modes history) → FirstPair modes terms history (chosen modes terms history)
+  pub chosen-first : 0 < length (lawful-pairs (job .modes) history) → FirstPair job history (chosen job history)
   chosen-first some-pair = chosen-from _ refl some-pair
 
--- A pair of no higher a, and of the same z, is before what the other is before.
-lower-before : (low pair later : Pair) → low .a ≤ pair .a → low .z ≡ pair .z → Before pair later → Before low later
-lower-before low pair later h e before =
-    ⊎-elim (λ less. inl (omega arith))
-    (λ same. ⊎-elim (λ tie. inr (tie, omega arith)) (λ n. inl (omega arith)) (same-or-not (low .a) (later .a)))
-    before
+module _ (job : Job) (history : List Triple) (lawful : LawfulHistory (job .modes) history) where
+  -- A pair that names a lawful triple is listed, and weighs what the triple does.
+  module _ (triple : Triple) (l : Lawful (job .modes) history triple) (pair : Pair) (names : Names pair triple) where
+    listed : List·Memᴰ pair (lawful-pairs (job .modes) history)
+    listed = names-listed (job .modes) history lawful triple l pair names
 
-sooner-before : (pair later : Pair) → (later ≡ pair) ⊎ Sooner pair later → Before pair later
-sooner-before pair later =
-    ⊎-elim (λ e. inr (ap (λ (p : Pair). p .a) (sym e), omega (arith, ap (λ (p : Pair). p .z) e)))
-    (⊎-elim inl (λ same. inr (same .0, omega arith)))
-
-module _ (modes : ℕ) (terms : List (List ℕ)) (history : List Triple) (lawful : LawfulHistory modes history) where
-  first-weight : (triple : Triple) → Lawful modes history triple
-      → pair-weight modes terms history (first-name triple) ≡ weight-in modes terms history triple
-  unfolding pair-weight
-  first-weight triple l = ap (weight-in modes terms history) (named-triple modes history lawful triple l _ (first-names triple))
-
-  first-listed : (triple : Triple) → Lawful modes history triple → List·Memᴰ (first-name triple) (lawful-pairs modes history)
-  first-listed triple l = names-listed modes history lawful triple l _ (first-names triple)
-
-  module _ (triple : Triple) (by : FirstPair modes terms history triple) where
-    weight-by : pair-weight modes terms history (by .pair) ≡ weight-in modes terms history triple
+    weighs : pair-weight job history pair ≡ weight-in job history triple
     unfolding pair-weight
-    weight-by = ap (weight-in modes terms history) (sym (by .names))
+    weighs = ap (weight-in job history) (named-triple (job .modes) history lawful triple l pair names)
 
-    names-by : Names (by .pair) triple
-    names-by = rw (by .names) (names-named modes history (by .pair))
+  module _ (triple : Triple) (by : FirstPair job history triple) where
+    weight-by : pair-weight job history (by .pair) ≡ weight-in job history triple
+    unfolding pair-weight
+    weight-by = ap (weight-in job history) (sym (by .names))
 
-    pub first-chosen : Chosen modes terms history triple
-    unfolding first-name
+    pub first-chosen : Chosen job history triple
     first-chosen =
         record {
-          lawful = rw (by .names) (pair-lawful modes history (by .pair) (by .found .member));
-          least = λ other l. omega (arith, weight-by, first-weight other l, by .found .smallest _ (first-listed other l));
+          lawful = rw (by .names) (pair-lawful (job .modes) history (by .pair) (by .found .member));
+          least =
+              λ other l.
+              let by-x : Names (record { a = other .x; z = other .z }) other = record { a-is = inl refl; z-is = refl } in
+              omega (arith, weight-by, weighs other l _ by-x, by .found .smallest _ (listed other l _ by-x));
+          name = by .pair;
+          names = rw (by .names) (names-named (job .modes) history (by .pair));
           first =
-              λ other l same.
-              lower-before (first-name triple) (by .pair) (first-name other) (first-lowest _ triple names-by) (sym (names-by .z-is))
-              (sooner-before (by .pair) (first-name other) (by .found .first _ (first-listed other l) (first-weight other l ∙ same ∙ sym weight-by)));
+              λ other l same pair names.
+              ⊎-elim (λ e. inl (sym e)) inr
+              (by .found .first pair (listed other l pair names) (weighs other l pair names ∙ same ∙ sym weight-by));
         }
 
-  pub chosen-right : 0 < length (lawful-pairs modes history) → Chosen modes terms history (chosen modes terms history)
-  chosen-right some-pair = first-chosen _ (chosen-first modes terms history some-pair)
+  pub chosen-right : 0 < length (lawful-pairs (job .modes) history) → Chosen job history (chosen job history)
+  chosen-right some-pair = first-chosen _ (chosen-first job history some-pair)

@@ -11,9 +11,9 @@ use Rattle.lists.proofs.Sums.{sum-of, occurrences-flatMap, same-none, total-onc
 use Rattle.entities.specs.declared.Triple.{Triple}
 use Rattle.entities.specs.Codes.{absent, code}
 use Rattle.entities.proofs.ChildCodes.{code-absent, same-code}
-use Rattle.merging.specs.History.{next-parent}
+use Rattle.merging.specs.History.{merge-of, next-parent}
 use Rattle.merging.specs.Lawful.{LawfulHistory}
-use Rattle.merging.specs.Flatpack.{merge-of, children, rows-for, flatpack}
+use Rattle.merging.specs.Flatpack.{children, rows-for, flatpack}
 use Rattle.merging.proofs.OpenSums.{open-sum, parent-after, open-start, open-step, root-sum}
 use Rattle.merging.proofs.AbsentLeaf.{absent-leaf-last}
 use Rattle.merging.proofs.Amounts.{newest-merge, older-merge, node}

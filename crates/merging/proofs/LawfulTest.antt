@@ -6,24 +6,32 @@ use Prim.Native.Nat.{ℕ}
 use borrow.Author.Tests.{eqb-true, eqb-false, eq-eqb, ne-eqb, ltb-true, lt-ltb, not-true}
 use Rattle.lists.proofs.Tests.{both}
 use Rattle.entities.specs.declared.Triple.{Triple}
+use Rattle.merging.specs.History.{is-open}
 use Rattle.merging.specs.Lawful.{Lawful, is-lawful, three-open, paired}
 
 module _ (modes : ℕ) (history : List Triple) (triple : Triple) where
+  pub opens-test : three-open modes history triple ≡ true
+      → (is-open modes history (triple .x) ≡ true) × (is-open modes history (triple .y) ≡ true) × (is-open modes history (triple .z) ≡ true)
+  unfolding three-open
+  opens-test e =
+      let x = both _ _ e in
+      let yz = both _ _ (x .1) in
+      (x .0, yz .0, yz .1)
+
   pub test-lawful : is-lawful modes history triple ≡ true → Lawful modes history triple
-  unfolding is-lawful three-open paired
+  unfolding is-lawful paired
   test-lawful e =
       let parts = both (three-open modes history triple) (paired modes history triple) e in
-      let x = both _ _ (parts .0) in
-      let yz = both _ _ (x .1) in
+      let opens = opens-test (parts .0) in
       let x-y = both _ _ (parts .1) in
       let x-z = both _ _ (x-y .1) in
       let y-z = both _ _ (x-z .1) in
       let even = both _ _ (y-z .1) in
       let below = both _ _ (even .1) in
       record {
-        x-open = x .0;
-        y-open = yz .0;
-        z-open = yz .1;
+        x-open = opens .0;
+        y-open = opens .1;
+        z-open = opens .2;
         x-not-y = eqb-false _ _ (not-true _ (x-y .0));
         x-not-z = eqb-false _ _ (not-true _ (x-z .0));
         y-not-z = eqb-false _ _ (not-true _ (y-z .0));

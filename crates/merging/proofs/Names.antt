@@ -9,18 +9,13 @@ use borrow.Author.Tests.{eq-eqb, ne-eqb}
 use lib.Dec.{eqb}
 use Rattle.lists.proofs.Tests.{same-or-not}
 use Rattle.lists.proofs.Membership.{kept, of-kept, joined, of-joined, counted}
-use Rattle.lists.proofs.Ordered.{Ascending, counted-ascends, kept-ascends, map-ascends, joined-ascends}
+use Rattle.lists.specs.Ordered.{Ascending}
+use Rattle.lists.proofs.Ordered.{counted-ascends, kept-ascends, map-ascends, joined-ascends}
 use Rattle.entities.specs.declared.Triple.{Triple}
 use Rattle.merging.specs.History.{next-parent, z-end, holder}
-use Rattle.merging.specs.Lawful.{Lawful, LawfulHistory, is-lawful, Pair, named, entities, pairs-with, lawful-pairs}
-use Rattle.merging.specs.Choice.{first-name}
+use Rattle.merging.specs.Lawful.{Lawful, LawfulHistory, is-lawful, Pair, Names, Sooner, LawfulPairs, named, entities, pairs-with, lawful-pairs}
 use Rattle.merging.proofs.LawfulTest.{test-lawful, lawful-test}
 use Rattle.merging.proofs.Holders.{open-below, holds-end}
-
--- "A lawful ordered pair (a, z) names it when a is its x or its y."
-pub record Names (pair : Pair) (triple : Triple) : Type 0 where
-  pub a-is : (pair .a ≡ triple .x) ⊎ (pair .a ≡ triple .y)
-  pub z-is : pair .z ≡ triple .z
 
 pub same-pair : (p q : Pair) → p .a ≡ q .a → p .z ≡ q .z → p ≡ q
 same-pair p q e h = go (p .a) (q .a) (p .z) (q .z) e h
@@ -78,10 +73,6 @@ module _ (modes : ℕ) (history : List Triple) (lawful : LawfulHistory modes his
       (⊎-elim (λ e. rw e (open-below modes history _ (l .x-open))) (λ e. rw e (open-below modes history _ (l .y-open))) (names .a-is))
       (rw (names .z-is) (open-below modes history _ (l .z-open)))
 
--- "in ascending a, then z", and no pair twice.
-abbrev pub Sooner : Pair → Pair → Type 0
-Sooner p q = (p .a < q .a) ⊎ ((p .a ≡ q .a) × (p .z < q .z))
-
 module _ (modes : ℕ) (history : List Triple) where
   entities-ascend : Ascending _<_ (entities modes history)
   unfolding entities
@@ -107,15 +98,10 @@ module _ (modes : ℕ) (history : List Triple) where
       (λ a c h p q m n. inl (omega (arith, with-a a p m, with-a c q n)))
       (entities modes history) entities-ascend
 
-pub first-names : (triple : Triple) → Names (first-name triple) triple
-unfolding first-name
-first-names triple =
+pub pairs-right : (modes : ℕ) (history : List Triple) → LawfulHistory modes history → LawfulPairs modes history (lawful-pairs modes history)
+pairs-right modes history lawful =
     record {
-      a-is = ⊎-elim inl (λ n. inr (omega arith)) (same-or-not (min (triple .x) (triple .y)) (triple .x));
-      z-is = refl;
+      each = λ pair triple l names. names-listed modes history lawful triple l pair names;
+      no-other = λ pair m. (named modes history pair, (pair-lawful modes history pair m, names-named modes history pair));
+      ascending = pairs-ascend modes history;
     }
-
--- No pair that names the triple has a lower a.
-pub first-lowest : (pair : Pair) (triple : Triple) → Names pair triple → first-name triple .a ≤ pair .a
-unfolding first-name
-first-lowest pair triple names = ⊎-elim (λ e. omega arith) (λ e. omega arith) (names .a-is)

@@ -2,16 +2,18 @@
 use mathlib.Core.Path.{_≡_, refl, _∙_, sym}
 use mathlib.Core.Bool.{Bool, true, false, cond, not, _&&_, _||_}
 use mathlib.Core.List.{List, [], _∷_}
+use mathlib.Core.Logic.{⊎-elim}
 use Prim.Native.Nat.{ℕ, suc, _+_, _*_, _<_, _≤_}
 use native.Mathlib.Nat.{add-suc, add-zero, mul-zero}
 use native.Mathlib.Omega.{arith}
 use borrow.Author.Tests.{ne-eqb, le-leb}
 use lib.Dec.{eqb}
 use lib.ListN.{length}
+use Rattle.lists.proofs.Tests.{same-or-not}
 use Rattle.lists.proofs.Totals.{total, without, without-there, total-same, total-ones, total-add, total-times, total-apart, total-single}
 use Rattle.entities.specs.declared.Triple.{Triple}
 use Rattle.merging.specs.History.{next-parent, among, is-open}
-use Rattle.merging.specs.Lawful.{Lawful, LawfulHistory}
+use Rattle.merging.specs.Lawful.{Lawful, LawfulHistory, OneRoot}
 use Rattle.merging.proofs.Holders.{open-below, parent-open}
 
 pub parent-after : (modes : ℕ) (merge : Triple) (history : List Triple) → next-parent modes (merge ∷ history) ≡ suc (next-parent modes history)
@@ -163,11 +165,31 @@ module _ (modes : ℕ) (history : List Triple) (root : ℕ) (opened : is-open mo
   alone-sum value = open-single modes history value root opened (λ k e apart. absurd (no-other k e apart))
 
 -- "After n steps the last parent is the root."
+module _ (modes : ℕ) (merge : Triple) (history : List Triple) (lawful : LawfulHistory modes (merge ∷ history)) (all : suc (length history) ≡ modes) where
+  root-is : next-parent modes history ≡ 3 * modes
+  unfolding next-parent
+  root-is = omega arith
+
+  root-open : is-open modes (merge ∷ history) (3 * modes) ≡ true
+  root-open = rw root-is at (parent-open modes merge history)
+
+  one-open : open-sum modes (merge ∷ history) (λ entity. 1) ≡ 1
+  one-open = omega (arith, open-count modes (merge ∷ history) lawful)
+
 pub root-sum : (modes : ℕ) (history : List Triple) → LawfulHistory modes history → length history ≡ modes → 1 ≤ modes
     → (value : ℕ → ℕ) → open-sum modes history value ≡ value (3 * modes)
-unfolding next-parent
 root-sum modes [] lawful all some-modes value = absurd (omega arith)
 root-sum modes (merge ∷ history) lawful all some-modes value =
-    let root : next-parent modes history ≡ 3 * modes = omega arith in
-    let count = open-count modes (merge ∷ history) lawful in
-    rw root at (alone-sum modes (merge ∷ history) (next-parent modes history) (parent-open modes merge history) (omega arith) value)
+    alone-sum modes (merge ∷ history) (3 * modes) (root-open modes merge history lawful all) (one-open modes merge history lawful all) value
+
+pub one-root : (modes : ℕ) (history : List Triple) → LawfulHistory modes history → length history ≡ modes → 1 ≤ modes → OneRoot modes history
+one-root modes [] lawful all some-modes = absurd (omega arith)
+one-root modes (merge ∷ history) lawful all some-modes =
+    let opened = root-open modes merge history lawful all in
+    record {
+      root-open = opened;
+      alone = λ entity e.
+          ⊎-elim (λ same. same)
+          (λ apart. absurd (no-other modes (merge ∷ history) (3 * modes) opened (one-open modes merge history lawful all) entity e apart))
+          (same-or-not entity (3 * modes));
+    }

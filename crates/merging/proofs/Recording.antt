@@ -2,14 +2,14 @@
 use mathlib.Core.Path.{_≡_, refl, ap, _∙_}
 use mathlib.Core.List.{List, _∷_}
 use mathlib.Core.Logic.{⊎-elim}
-use Prim.Native.Nat.{ℕ, zero, suc, _+_, _<_, _≤_}
+use Prim.Native.Nat.{ℕ, zero, suc, _+_, _-_, _<_, _≤_}
 use native.Mathlib.Numerals.{add-one}
 use native.Mathlib.Omega.{arith}
 use lib.ListN.{length, set}
 use lib.Seq.{getD-set-same, getD-set-other}
 use Rattle.lists.proofs.Tests.{same-or-not}
 use Rattle.entities.specs.declared.Triple.{Triple}
-use Rattle.merging.specs.Flatpack.{merge-of}
+use Rattle.merging.specs.History.{merge-of, history-before}
 use Rattle.merging.specs.code.Recorded.{merge-at, recorded}
 use Rattle.merging.proofs.Amounts.{newest-merge, older-merge}
 
@@ -29,6 +29,21 @@ recorded-merge xs ys zs (suc steps) label h =
     (λ e. newest-merge merge older label (omega arith) ∙ ap (merge-at xs ys zs) (rw e refl))
     (λ other. older-merge merge older label (omega arith) ∙ recorded-merge xs ys zs steps label (omega arith))
     (same-or-not label steps)
+
+-- The merges before a step are the first so many.
+pub recorded-earlier : (xs ys zs : List ℕ) (steps step : ℕ) → step ≤ steps
+    → history-before (recorded xs ys zs steps) step ≡ recorded xs ys zs step
+unfolding recorded
+recorded-earlier xs ys zs zero step h = let e : step ≡ 0 = omega arith in rw e
+recorded-earlier xs ys zs (suc steps) step h =
+    let older = recorded xs ys zs steps in
+    let count = length-recorded xs ys zs steps in
+    ⊎-elim
+    (λ e. rw e (let none-later : suc (length older) - suc steps ≡ 0 = omega arith in rw none-later))
+    (λ other.
+    let one-later : suc (length older) - step ≡ suc (length older - step) = omega arith in
+    rw one-later (recorded-earlier xs ys zs steps step (omega arith)))
+    (same-or-not step (suc steps))
 
 module _ (xs ys zs : List ℕ) (triple : Triple) (place : ℕ) where
   -- Writing at a place leaves the merges before it.

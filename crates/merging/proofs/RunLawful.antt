@@ -6,35 +6,36 @@ use native.Mathlib.Nat.{add-zero}
 use native.Mathlib.Omega.{arith}
 use lib.ListN.{length}
 use Rattle.entities.specs.declared.Triple.{Triple}
+use Rattle.terms.specs.Job.{Job}
 use Rattle.merging.specs.Lawful.{Lawful, LawfulHistory}
 use Rattle.merging.specs.Choice.{chosen}
 use Rattle.merging.specs.Run.{greedy, finished}
 use Rattle.merging.proofs.PairCount.{some-pair}
 use Rattle.merging.proofs.ChosenRight.{chosen-right}
 
-module _ (modes : ℕ) (terms : List (List ℕ)) where
-  pub chosen-lawful : (history : List Triple) → LawfulHistory modes history → length history < modes
-      → Lawful modes history (chosen modes terms history)
+module _ (job : Job) where
+  pub chosen-lawful : (history : List Triple) → LawfulHistory (job .modes) history → length history < job .modes
+      → Lawful (job .modes) history (chosen job history)
   chosen-lawful history lawful h =
-      chosen-right modes terms history lawful (some-pair modes history lawful (modes - length history) (omega arith) (omega arith)) .lawful
+      chosen-right job history lawful (some-pair (job .modes) history lawful (job .modes - length history) (omega arith) (omega arith)) .lawful
 
-  pub greedy-lawful : (steps : ℕ) (history : List Triple) → LawfulHistory modes history → length history + steps ≤ modes
-      → LawfulHistory modes (greedy modes terms steps history)
+  pub greedy-lawful : (steps : ℕ) (history : List Triple) → LawfulHistory (job .modes) history → length history + steps ≤ job .modes
+      → LawfulHistory (job .modes) (greedy job steps history)
   unfolding greedy
   greedy-lawful zero history lawful h = lawful
   greedy-lawful (suc steps) history lawful h =
-      greedy-lawful steps (chosen modes terms history ∷ history) (chosen-lawful history lawful (omega arith), lawful) (omega arith)
+      greedy-lawful steps (chosen job history ∷ history) (chosen-lawful history lawful (omega arith), lawful) (omega arith)
 
-  pub greedy-length : (steps : ℕ) (history : List Triple) → length (greedy modes terms steps history) ≡ length history + steps
+  pub greedy-length : (steps : ℕ) (history : List Triple) → length (greedy job steps history) ≡ length history + steps
   unfolding greedy
   greedy-length zero history = rw (add-zero (length history))
-  greedy-length (suc steps) history = greedy-length steps (chosen modes terms history ∷ history) ∙ omega arith
+  greedy-length (suc steps) history = greedy-length steps (chosen job history ∷ history) ∙ omega arith
 
-  module _ (history : List Triple) (lawful : LawfulHistory modes history) (within : length history ≤ modes) where
-    pub finished-lawful : LawfulHistory modes (finished modes terms history)
+  module _ (history : List Triple) (lawful : LawfulHistory (job .modes) history) (within : length history ≤ job .modes) where
+    pub finished-lawful : LawfulHistory (job .modes) (finished job history)
     unfolding finished
-    finished-lawful = greedy-lawful (modes - length history) history lawful (omega arith)
+    finished-lawful = greedy-lawful (job .modes - length history) history lawful (omega arith)
 
-    pub finished-length : length (finished modes terms history) ≡ modes
+    pub finished-length : length (finished job history) ≡ job .modes
     unfolding finished
-    finished-length = greedy-length (modes - length history) history ∙ omega arith
+    finished-length = greedy-length (job .modes - length history) history ∙ omega arith

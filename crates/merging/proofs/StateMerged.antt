@@ -5,31 +5,31 @@ use mathlib.Core.List.{List, _∷_}
 use Prim.Native.Nat.{ℕ, _+_, _*_, _%_, _<_, _≤_}
 use native.Mathlib.Omega.{arith}
 use borrow.Author.Count.{below-more}
-use lib.ListN.{getD, set, length-set}
+use lib.ListN.{length, getD, set, length-set}
 use lib.Seq.{getD-set-same, getD-set-other}
 use Rattle.entities.specs.declared.Triple.{Triple}
 use Rattle.terms.specs.Rows.{terms-of}
+use Rattle.terms.specs.Job.{Job}
 use Rattle.terms.specs.code.Promises.{Reduced}
-use Rattle.terms.proofs.RowSteps.{length-terms}
-use Rattle.terms.proofs.WeightBound.{weight-at-most}
 use Rattle.merging.specs.declared.run.Run.{Run}
 use Rattle.merging.specs.History.{next-parent, rows-after}
 use Rattle.merging.specs.Choice.{weight-in}
 use Rattle.merging.specs.code.Couples.{Tied}
 use Rattle.merging.specs.code.Recorded.{merge-at, recorded}
 use Rattle.merging.specs.Run.{run-weight}
-use Rattle.merging.specs.code.State.{history-of, Whole, Holds, EntitiesMerged, Noted, Ready, Went}
+use Rattle.merging.specs.code.State.{history-of, Whole, HoldsIn, EntitiesMerged, Noted, ReadyIn, WentIn}
 use Rattle.merging.proofs.Holders.{open-below, end-within}
 use Rattle.merging.proofs.Recording.{length-recorded, merge-before, merge-here, recorded-before, recorded-next}
+use Rattle.merging.proofs.RowsAfter.{weight-in-most}
 use Rattle.merging.proofs.Tables.{tied-merged}
 
 -- The state that a merge makes.
-unfoldable pub next-run : Run → Triple → ℕ → ℕ → Run
-next-run run triple weight kept =
+unfoldable pub next-run : Run → Triple → ℕ → Run
+next-run run triple weight =
     record {
       modes = run .modes;
       step = run .step + 1;
-      live = kept;
+      count = run .count;
       weight = run .weight + weight;
       opens = set (set (set (set (run .opens) (triple .x) false) (triple .y) false) (triple .z) false) (2 * run .modes + 1 + run .step) true;
       ends = set (run .ends) (2 * run .modes + 1 + run .step) (getD (run .ends) (triple .z) 0);
@@ -41,44 +41,44 @@ next-run run triple weight kept =
     }
 
 -- The parent of the next merge, as the state has it.
-pub parent-is : (run : Run) → 2 * run .modes + 1 + run .step ≡ next-parent (run .modes) (history-of run)
+pub parent-is : (modes : ℕ) (run : Run) → run .modes ≡ modes → 2 * run .modes + 1 + run .step ≡ next-parent modes (history-of run)
 unfolding next-parent
-parent-is run = ap (λ n. 2 * run .modes + 1 + n) (sym (length-recorded (run .xs) (run .ys) (run .zs) (run .step)))
+parent-is modes run e = rw (e, length-recorded (run .xs) (run .ys) (run .zs) (run .step))
 
-module _ (entities steps : ℕ) (terms : List (List ℕ)) (rows : List ℕ) (run : Run) (triple : Triple) (weight : ℕ)
-    (room : 3 * steps + 1 ≤ entities) (ready : Ready entities steps terms rows run triple weight) where
-  holds : Holds entities steps terms rows run
+module _ (entities steps : ℕ) (job : Job) (rows : List ℕ) (run : Run) (triple : Triple) (weight : ℕ)
+    (room : 3 * steps + 1 ≤ entities) (ready : ReadyIn entities steps job rows run triple weight) where
+  holds : HoldsIn entities steps job rows run
   holds = ready .holds
 
-  parent-in : next-parent (run .modes) (history-of run) + 1 ≤ entities
-  parent-in = rw (← parent-is run) (omega (arith, ready .left, holds .few, room))
+  parent-here : 2 * run .modes + 1 + run .step ≡ next-parent (job .modes) (history-of run)
+  parent-here = parent-is (job .modes) run (holds .modes-are)
 
-  pub weight-bound : weight ≤ run .live
-  unfolding weight-in
-  weight-bound =
-      rw (ready .weight-is, ← holds .rows-are)
-      (omega (arith, weight-at-most triple (terms-of 8 (run .live) rows), length-terms 8 (run .live) rows))
+  parent-in : next-parent (job .modes) (history-of run) + 1 ≤ entities
+  parent-in = rw (← parent-here) (omega (arith, ready .left, holds .few, holds .modes-are, room))
+
+  pub weight-bound : weight ≤ length (job .terms)
+  weight-bound = rw (ready .weight-is) (weight-in-most job (history-of run) triple)
 
   -- An open entity stands in the tables.
-  module _ (entity : ℕ) (below : entity < next-parent (run .modes) (history-of run)) where
+  module _ (entity : ℕ) (below : entity < next-parent (job .modes) (history-of run)) where
     pub in-room : entity < entities
     in-room = omega (arith, parent-in)
 
-    pub end-low : getD (run .ends) entity 0 ≤ 2 * run .modes
-    end-low = rw (holds .tied .ends-are entity in-room) (end-within (run .modes) (history-of run) (holds .lawful) entity below)
+    pub end-low : getD (run .ends) entity 0 ≤ 2 * job .modes
+    end-low = rw (holds .tied .ends-are entity in-room) (end-within (job .modes) (history-of run) (holds .lawful) entity below)
 
-  pub x-below : triple .x < next-parent (run .modes) (history-of run)
-  x-below = open-below (run .modes) (history-of run) (triple .x) (ready .lawful .x-open)
+  pub x-below : triple .x < next-parent (job .modes) (history-of run)
+  x-below = open-below (job .modes) (history-of run) (triple .x) (ready .lawful .x-open)
 
-  pub y-below : triple .y < next-parent (run .modes) (history-of run)
-  y-below = open-below (run .modes) (history-of run) (triple .y) (ready .lawful .y-open)
+  pub y-below : triple .y < next-parent (job .modes) (history-of run)
+  y-below = open-below (job .modes) (history-of run) (triple .y) (ready .lawful .y-open)
 
-  pub z-below : triple .z < next-parent (run .modes) (history-of run)
-  z-below = open-below (run .modes) (history-of run) (triple .z) (ready .lawful .z-open)
+  pub z-below : triple .z < next-parent (job .modes) (history-of run)
+  z-below = open-below (job .modes) (history-of run) (triple .z) (ready .lawful .z-open)
 
-  module _ (kept : ℕ) (now-rows : List ℕ) (reduced : Reduced triple (2 * run .modes + 1 + run .step) (run .live) rows now-rows kept) where
+  module _ (now-rows : List ℕ) (reduced : Reduced triple (2 * run .modes + 1 + run .step) (run .count) rows now-rows) where
     next : Run
-    next = next-run run triple weight kept
+    next = next-run run triple weight
 
     step-in : run .step < steps
     step-in = omega (arith, ready .left, holds .few)
@@ -103,26 +103,25 @@ module _ (entities steps : ℕ) (terms : List (List ℕ)) (rows : List ℕ) (run
           weights = simp length-set (w .weights);
         }
 
-    next-tied : Tied entities (run .modes) (triple ∷ history-of run) (next .opens) (next .ends) (next .holders)
+    next-tied : Tied entities (job .modes) (triple ∷ history-of run) (next .opens) (next .ends) (next .holders)
     unfolding next next-run
     next-tied =
         let w = holds .whole in
-        rw (parent-is run)
-        (tied-merged entities (run .modes) (history-of run) (run .opens) (run .ends) (run .holders) triple (holds .tied)
+        rw parent-here
+        (tied-merged entities (job .modes) (history-of run) (run .opens) (run .ends) (run .holders) triple (holds .tied)
         (w .opens) (w .ends) (w .holders) (in-room (triple .x) x-below) (in-room (triple .y) y-below) (in-room (triple .z) z-below)
         (omega (arith, end-low (triple .z) z-below, holds .few, room)) (omega (arith, parent-in)) parent-in)
 
-    next-rows : terms-of 8 kept now-rows ≡ rows-after (run .modes) terms (triple ∷ history-of run)
+    next-rows : terms-of 8 (run .count) now-rows ≡ rows-after job (triple ∷ history-of run)
     unfolding rows-after
-    next-rows = reduced .terms ∙ rw (parent-is run, holds .rows-are)
+    next-rows = reduced .terms ∙ rw (parent-here, holds .rows-are)
 
-    next-weight : run .weight + weight ≡ run-weight (run .modes) terms (triple ∷ history-of run)
+    next-weight : run .weight + weight ≡ run-weight job (triple ∷ history-of run)
     unfolding run-weight
     next-weight = rw (holds .weight-is, ready .weight-is)
 
     weight-noted : (step : ℕ) → ℕ
-    weight-noted step =
-        weight-in (run .modes) terms (recorded (next .xs) (next .ys) (next .zs) step) (merge-at (next .xs) (next .ys) (next .zs) step)
+    weight-noted step = weight-in job (recorded (next .xs) (next .ys) (next .zs) step) (merge-at (next .xs) (next .ys) (next .zs) step)
 
     next-weights : (step : ℕ) → step < run .step + 1 → getD (next .weights) step 0 ≡ weight-noted step
     unfolding next next-run weight-noted
@@ -143,43 +142,38 @@ module _ (entities steps : ℕ) (terms : List (List ℕ)) (rows : List ℕ) (run
         )
         (omega (arith, weight-bound, holds .light, ready .weight-is)))
 
-    next-holds : Holds entities steps terms now-rows next
+    next-holds : HoldsIn entities steps job now-rows next
     unfolding next next-run weight-noted
     next-holds =
         record {
           whole = next-whole;
+          modes-are = holds .modes-are;
+          count-is = holds .count-is;
           some = holds .some;
           few = holds .few;
+          light = holds .light;
           inside = omega (arith, ready .left);
           lawful = rw merges (ready .lawful, holds .lawful);
           tied = rw merges next-tied;
           held = reduced .held;
-          light = omega (arith, reduced .at-most, holds .light);
           rows-are = rw merges next-rows;
           weight-is = rw merges next-weight;
           bounded = omega (arith, holds .bounded, weight-bound, holds .light);
           weights-are = next-weights;
         }
 
-    pub merged-went : Went entities steps terms (triple ∷ history-of run) run rows (next-run run triple weight kept) now-rows
+    pub merged-went : WentIn entities steps job (triple ∷ history-of run) rows (next-run run triple weight) now-rows
     unfolding next next-run
-    merged-went =
-        record {
-          holds = next-holds;
-          modes = refl;
-          merges = merges;
-          fewer = reduced .at-most;
-          cleared = reduced .rest;
-        }
+    merged-went = record { holds = next-holds; merges = merges; rest = rw (← holds .count-is) (reduced .rest) }
 
 -- The state as the code makes it.
-pub same-run : (triple : Triple) (weight kept : ℕ) (before middle after : Run)
+pub same-run : (triple : Triple) (weight : ℕ) (before middle after : Run)
     → EntitiesMerged triple before middle → Noted triple (weight % 65536) middle after
     → _≡_ {A = Run}
     (record {
       modes = after .modes;
       step = after .step;
-      live = kept;
+      count = after .count;
       weight = before .weight + weight;
       opens = after .opens;
       ends = after .ends;
@@ -189,9 +183,9 @@ pub same-run : (triple : Triple) (weight kept : ℕ) (before middle after : Run)
       zs = after .zs;
       weights = after .weights;
     })
-    (next-run before triple weight kept)
+    (next-run before triple weight)
 unfolding next-run
-same-run triple weight kept before middle after m n =
+same-run triple weight before middle after m n =
     let xs-are = rw (m .xs, m .step) at (n .xs) in
     let ys-are = rw (m .ys, m .step) at (n .ys) in
     let zs-are = rw (m .zs, m .step) at (n .zs) in
@@ -200,7 +194,7 @@ same-run triple weight kept before middle after m n =
     record {
       modes = (n .modes ∙ m .modes) i;
       step = (n .step ∙ ap (λ s. s + 1) (m .step)) i;
-      live = kept;
+      count = (n .count ∙ m .count) i;
       weight = before .weight + weight;
       opens = (n .opens ∙ m .opens) i;
       ends = (n .ends ∙ m .ends) i;

@@ -17,7 +17,8 @@ use Rattle.entities.specs.declared.Triple.{Triple}
 use Rattle.entities.specs.Codes.{absent, code}
 use Rattle.entities.proofs.ChildCodes.{code-absent, code-leaf, code-node, entity-cases}
 use Rattle.merging.specs.Lawful.{LawfulHistory}
-use Rattle.merging.specs.Flatpack.{merge-of, children, walk}
+use Rattle.merging.specs.History.{merge-of}
+use Rattle.merging.specs.Flatpack.{children, walk}
 use Rattle.merging.proofs.AbsentLeaf.{absent-leaf-last}
 use Rattle.merging.proofs.Amounts.{amount, amount-leaf, amount-root, node}
 

@@ -2,36 +2,31 @@
 use mathlib.Core.Path.{_≡_}
 use mathlib.Core.List.{List, map}
 use mathlib.Core.Logic.{_⊎_}
-use Prim.Native.Nat.{ℕ, _≤_, _<_, min}
+use Prim.Native.Nat.{ℕ, _≤_}
 use Rattle.lists.specs.Least.{least-of}
 use Rattle.entities.specs.declared.Triple.{Triple}
+use Rattle.terms.specs.Job.{Job}
 use Rattle.terms.specs.Weight.{weight-of}
 use Rattle.merging.specs.History.{rows-after}
-use Rattle.merging.specs.Lawful.{Lawful, Pair, named, lawful-pairs}
+use Rattle.merging.specs.Lawful.{Lawful, Pair, Names, Sooner, named, lawful-pairs}
 
 -- The weight of a triple after a history.
-unfoldable pub weight-in : ℕ → List (List ℕ) → List Triple → Triple → ℕ
-weight-in modes terms history triple = weight-of triple (rows-after modes terms history)
+unfoldable pub weight-in : Job → List Triple → Triple → ℕ
+weight-in job history triple = weight-of triple (rows-after job history)
 
 -- The triples that the lawful pairs name, in the pairs' order.
 unfoldable pub candidates : ℕ → List Triple → List Triple
 candidates modes history = map (named modes history) (lawful-pairs modes history)
 
 -- The choice of a step, as a computation; where there is no lawful pair, three zeros.
-unfoldable pub chosen : ℕ → List (List ℕ) → List Triple → Triple
-chosen modes terms history = least-of (weight-in modes terms history) (record { x = 0; y = 0; z = 0 }) (candidates modes history)
+unfoldable pub chosen : Job → List Triple → Triple
+chosen job history = least-of (weight-in job history) (record { x = 0; y = 0; z = 0 }) (candidates (job .modes) history)
 
--- "in ascending a, then z".
-abbrev pub Before : Pair → Pair → Type 0
-Before p q = (p .a < q .a) ⊎ ((p .a ≡ q .a) × (p .z ≤ q .z))
-
--- The first of the two pairs that name a lawful triple.
-unfoldable pub first-name : Triple → Pair
-first-name triple = record { a = min (triple .x) (triple .y); z = triple .z }
-
--- The choice of a step, as a reader states it.
-pub record Chosen (modes : ℕ) (terms : List (List ℕ)) (history : List Triple) (triple : Triple) : Type 0 where
-  pub lawful : Lawful modes history triple
-  pub least : (other : Triple) → Lawful modes history other → weight-in modes terms history triple ≤ weight-in modes terms history other
-  pub first : (other : Triple) → Lawful modes history other → weight-in modes terms history other ≡ weight-in modes terms history triple
-      → Before (first-name triple) (first-name other)
+-- The choice of a step, as a reader states it: no lawful triple is lighter, and of those that are as light none is named before it.
+pub record Chosen (job : Job) (history : List Triple) (triple : Triple) : Type 0 where
+  pub lawful : Lawful (job .modes) history triple
+  pub least : (other : Triple) → Lawful (job .modes) history other → weight-in job history triple ≤ weight-in job history other
+  pub name : Pair
+  pub names : Names name triple
+  pub first : (other : Triple) → Lawful (job .modes) history other → weight-in job history other ≡ weight-in job history triple
+      → (pair : Pair) → Names pair other → (name ≡ pair) ⊎ Sooner name pair

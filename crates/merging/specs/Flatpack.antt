@@ -2,15 +2,11 @@
 use mathlib.Core.List.{List, [], _∷_, _++_, flatMap}
 use Prim.Native.Nat.{ℕ, zero, suc, _+_, _-_, _*_}
 use lib.Dec.{ltb}
-use lib.ListN.{length, getD}
+use lib.ListN.{length}
 use Rattle.lists.specs.Members.{keep}
 use Rattle.entities.specs.declared.Triple.{Triple}
 use Rattle.entities.specs.Codes.{code}
-use Rattle.merging.specs.History.{z-end}
-
--- The merge of a step; the history has the newest first.
-unfoldable pub merge-of : List Triple → ℕ → Triple
-merge-of history step = getD history (length history - suc step) (record { x = 0; y = 0; z = 0 })
+use Rattle.merging.specs.History.{merge-of, z-end}
 
 -- "After n steps the last parent is the root. The absent child replaces the end of its z-chain."
 unfoldable pub absent-leaf : ℕ → List Triple → ℕ

@@ -1,12 +1,21 @@
 -- The state of a run is its history: the merges so far, newest first. Everything else is read off it.
 use mathlib.Core.Bool.{Bool, cond, not, _&&_, _||_}
 use mathlib.Core.List.{List, [], _∷_}
-use Prim.Native.Nat.{ℕ, _*_}
+use Prim.Native.Nat.{ℕ, suc, _-_, _*_}
 use lib.Dec.{eqb, leb}
-use lib.ListN.{length}
+use lib.ListN.{length, getD, drop}
 use Rattle.entities.specs.declared.Triple.{Triple}
 use Rattle.entities.specs.Parents.{parent-number}
+use Rattle.terms.specs.Job.{Job}
 use Rattle.terms.specs.Reduction.{reduction}
+
+-- The merge of a step.
+unfoldable pub merge-of : List Triple → ℕ → Triple
+merge-of history step = getD history (length history - suc step) (record { x = 0; y = 0; z = 0 })
+
+-- The merges before a step's.
+abbrev pub history-before : List Triple → ℕ → List Triple
+history-before history step = drop (length history - step) history
 
 -- "Its parent is 2n+1+i": the entity that the next merge makes.
 unfoldable pub next-parent : ℕ → List Triple → ℕ
@@ -35,6 +44,6 @@ holder modes (merge ∷ history) leaf =
     cond (eqb (z-end modes history (merge .z)) leaf) (next-parent modes history) (holder modes history leaf)
 
 -- The rows after a history: each merge reduces them to its parent.
-unfoldable pub rows-after : ℕ → List (List ℕ) → List Triple → List (List ℕ)
-rows-after modes terms [] = terms
-rows-after modes terms (merge ∷ history) = reduction merge (next-parent modes history) (rows-after modes terms history)
+unfoldable pub rows-after : Job → List Triple → List (List ℕ)
+rows-after job [] = job .terms
+rows-after job (merge ∷ history) = reduction merge (next-parent (job .modes) history) (rows-after job history)

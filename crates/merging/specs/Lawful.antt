@@ -1,10 +1,12 @@
 -- "A lawful triple (x, y, z) is three different open entities where x's z-end is an even 2k below 2n and y's is 2k+1."
 use mathlib.Core.Path.{_≡_}
 use mathlib.Core.Bool.{Bool, true, cond, not, _&&_}
-use mathlib.Core.List.{List, [], _∷_, map, flatMap}
+use mathlib.Core.List.{List, [], _∷_, map, flatMap, List·Memᴰ}
+use mathlib.Core.Logic.{_⊎_}
 use Prim.Native.Nat.{ℕ, _+_, _-_, _*_, _%_, _<_}
 use lib.Dec.{eqb, ltb}
 use Rattle.lists.specs.Members.{keep}
+use Rattle.lists.specs.Ordered.{Ascending}
 use Rattle.lists.specs.Ranges.{listed}
 use Rattle.entities.specs.declared.Triple.{Triple}
 use Rattle.merging.specs.History.{next-parent, is-open, z-end, holder}
@@ -26,7 +28,12 @@ abbrev pub LawfulHistory : ℕ → List Triple → Type 0
 LawfulHistory modes [] = Unit
 LawfulHistory modes (merge ∷ history) = Lawful modes history merge × LawfulHistory modes history
 
--- The same sentence as a test.
+-- "After n steps the last parent is the root": it is open, and nothing else is.
+pub record OneRoot (modes : ℕ) (history : List Triple) : Type 0 where
+  pub root-open : is-open modes history (3 * modes) ≡ true
+  pub alone : (entity : ℕ) → is-open modes history entity ≡ true → entity ≡ 3 * modes
+
+-- The sentence of a lawful triple as a test.
 unfoldable pub three-open : ℕ → List Triple → Triple → Bool
 three-open modes history triple =
     is-open modes history (triple .x) && (is-open modes history (triple .y) && is-open modes history (triple .z))
@@ -48,6 +55,21 @@ is-lawful modes history triple = three-open modes history triple && paired modes
 pub record Pair : Type 0 where
   pub a : ℕ
   pub z : ℕ
+
+-- "names it when a is its x or its y".
+pub record Names (pair : Pair) (triple : Triple) : Type 0 where
+  pub a-is : (pair .a ≡ triple .x) ⊎ (pair .a ≡ triple .y)
+  pub z-is : pair .z ≡ triple .z
+
+-- The pair is earlier "in ascending a, then z".
+abbrev pub Sooner : Pair → Pair → Type 0
+Sooner p q = (p .a < q .a) ⊎ ((p .a ≡ q .a) × (p .z < q .z))
+
+-- A list of the lawful ordered pairs: each pair that names a lawful triple, no other, and none twice, for they ascend.
+pub record LawfulPairs (modes : ℕ) (history : List Triple) (pairs : List Pair) : Type 0 where
+  pub each : (pair : Pair) (triple : Triple) → Lawful modes history triple → Names pair triple → List·Memᴰ pair pairs
+  pub no-other : (pair : Pair) → List·Memᴰ pair pairs → (triple : Triple) × (Lawful modes history triple × Names pair triple)
+  pub ascending : Ascending Sooner pairs
 
 -- The triple that a pair names: a with the holder of the leaf paired with a's z-end, the even one first.
 unfoldable pub named : ℕ → List Triple → Pair → Triple

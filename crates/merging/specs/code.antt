@@ -2,3 +2,4 @@
 pub mod Couples
 pub mod Recorded
 pub mod State
+pub mod Runs

@@ -48,15 +48,15 @@ fn lighter(best: Best, triple: Triple, weight: usize) -> Best
 fn best_beside<'a>(
     opens: &'a [bool; 769],
     rows: &'a [u16],
-    live: usize,
+    count: usize,
     odd: &'a [u8],
     triple: Triple,
     best: Best,
 ) -> Best
-    requires { ⌜ Held 8 live (now rows) ⌝ }
-    requires { ⌜ live ≤ length (now odd) ⌝ }
-    requires { ⌜ OddOf (now rows) live (triple .x) (triple .y) (now odd) ⌝ }
-    ensures { λ r. ⌜ ((modes : ℕ) (history : List Three) → next-parent modes history ≤ 769 → OpensAre 769 modes history (now (opens .entry)) → r ≡ seek (weight-here live (now (rows .entry))) best (cond (free modes history triple) (triple ∷ []) [])) ⌝ }
+    requires { ⌜ Held 8 count (now rows) ⌝ }
+    requires { ⌜ count ≤ length (now odd) ⌝ }
+    requires { ⌜ OddOf (now rows) count (triple .x) (triple .y) (now odd) ⌝ }
+    ensures { λ r. ⌜ ((modes : ℕ) (history : List Three) → next-parent modes history ≤ 769 → OpensAre 769 modes history (now (opens .entry)) → r ≡ seek (weight-here count (now (rows .entry))) best (cond (free modes history triple) (triple ∷ []) [])) ⌝ }
 {
     if triple.x == triple.z {
         return best;
@@ -67,30 +67,34 @@ fn best_beside<'a>(
     if !lawful::marked(opens, triple.z) {
         return best;
     }
-    lighter(best, triple, weight::weight_beside(rows, live, odd, triple))
+    lighter(
+        best,
+        triple,
+        weight::weight_beside(rows, count, odd, triple),
+    )
 }
 
 // The best so far against the triples of x and y with every z in turn, given how many of the two are odd in each row.
 fn best_of_rest<'a>(
     opens: &'a [bool; 769],
     rows: &'a [u16],
-    live: usize,
-    count: u16,
+    count: usize,
+    next: u16,
     odd: &'a [u8],
     x: u16,
     y: u16,
     start: Best,
 ) -> Best
-    requires { ⌜ Held 8 live (now rows) ⌝ }
-    requires { ⌜ live ≤ length (now odd) ⌝ }
-    requires { ⌜ OddOf (now rows) live x y (now odd) ⌝ }
-    ensures { λ r. ⌜ ((modes : ℕ) (history : List Three) → next-parent modes history ≤ 769 → OpensAre 769 modes history (now (opens .entry)) → r ≡ seek (weight-here live (now (rows .entry))) start (beside modes history x y 0 count)) ⌝ }
+    requires { ⌜ Held 8 count (now rows) ⌝ }
+    requires { ⌜ count ≤ length (now odd) ⌝ }
+    requires { ⌜ OddOf (now rows) count x y (now odd) ⌝ }
+    ensures { λ r. ⌜ ((modes : ℕ) (history : List Three) → next-parent modes history ≤ 769 → OpensAre 769 modes history (now (opens .entry)) → r ≡ seek (weight-here count (now (rows .entry))) start (beside modes history x y 0 next)) ⌝ }
 {
     let mut best = start;
     let mut z: u16 = 0;
-    while z < count {
+    while z < next {
         let triple = Triple { x: x, y: y, z: z };
-        best = best_beside(opens, rows, live, odd, triple, best);
+        best = best_beside(opens, rows, count, odd, triple, best);
         z += 1;
     }
     best
@@ -100,19 +104,19 @@ fn best_of_rest<'a>(
 fn best_of_couple<'a>(
     opens: &'a [bool; 769],
     rows: &'a [u16],
-    live: usize,
-    count: u16,
+    count: usize,
+    next: u16,
     x: u16,
     y: u16,
     start: Best,
 ) -> Best
-    requires { ⌜ Held 8 live (now rows) ⌝ }
-    requires { ⌜ live ≤ 2048 ⌝ }
-    ensures { λ r. ⌜ ((modes : ℕ) (history : List Three) → next-parent modes history ≤ 769 → OpensAre 769 modes history (now (opens .entry)) → r ≡ seek (weight-here live (now (rows .entry))) start (beside modes history x y 0 count)) ⌝ }
+    requires { ⌜ Held 8 count (now rows) ⌝ }
+    requires { ⌜ count ≤ 2048 ⌝ }
+    ensures { λ r. ⌜ ((modes : ℕ) (history : List Three) → next-parent modes history ≤ 769 → OpensAre 769 modes history (now (opens .entry)) → r ≡ seek (weight-here count (now (rows .entry))) start (beside modes history x y 0 next)) ⌝ }
 {
     let mut odd = [0u8; 2048];
-    weight::count_odd(rows, live, x, y, &mut odd);
-    best_of_rest(opens, rows, live, count, &odd, x, y, start)
+    weight::count_odd(rows, count, x, y, &mut odd);
+    best_of_rest(opens, rows, count, next, &odd, x, y, start)
 }
 
 // The best so far against the triples that this entity names.
@@ -122,43 +126,43 @@ fn best_with<'a>(
     holders: &'a [u16; 769],
     rows: &'a [u16],
     modes: usize,
-    live: usize,
-    count: u16,
+    count: usize,
+    next: u16,
     a: u16,
     best: Best,
 ) -> Best
-    requires { ⌜ Held 8 live (now rows) ⌝ }
-    requires { ⌜ (live ≤ 2048) × (modes ≤ 256) × (a < 769) × (getD (now ends) a 0 < 768) ⌝ }
-    ensures { λ r. ⌜ ((history : List Three) → Tied 769 modes history (now (opens .entry)) (now (ends .entry)) (now (holders .entry)) → r ≡ seek (weight-here live (now (rows .entry))) best (beside-couple modes history count (couple modes history a))) ⌝ }
+    requires { ⌜ Held 8 count (now rows) ⌝ }
+    requires { ⌜ (count ≤ 2048) × (modes ≤ 256) × (a < 769) × (getD (now ends) a 0 < 768) ⌝ }
+    ensures { λ r. ⌜ ((history : List Three) → Tied 769 modes history (now (opens .entry)) (now (ends .entry)) (now (holders .entry)) → r ≡ seek (weight-here count (now (rows .entry))) best (beside-couple modes history next (couple modes history a))) ⌝ }
 {
     let Couple::Of(x, y) = lawful::couple_of(opens, ends, holders, modes, a) else {
         return best;
     };
-    best_of_couple(opens, rows, live, count, x, y, best)
+    best_of_couple(opens, rows, count, next, x, y, best)
 }
 
-// The least of all lawful triples, each named in ascending a, then z; no weight is above the live rows.
+// The least of all lawful triples, each named in ascending a, then z; no weight is above the number of rows.
 pub fn choose<'a>(
     opens: &'a [bool; 769],
     ends: &'a [u16; 769],
     holders: &'a [u16; 769],
     rows: &'a [u16],
     modes: usize,
-    live: usize,
-    count: u16,
+    count: usize,
+    next: u16,
 ) -> Best
-    requires { ⌜ Held 8 live (now rows) ⌝ }
-    requires { ⌜ (live ≤ 2048) × (modes ≤ 256) × (count ≤ 769) ⌝ }
-    requires { ⌜ ((entity : ℕ) → entity < count → getD (now ends) entity 0 < 768) ⌝ }
-    ensures { λ r. ⌜ ((history : List Three) → Tied 769 modes history (now (opens .entry)) (now (ends .entry)) (now (holders .entry)) → count ≡ next-parent modes history → r ≡ seek (weight-here live (now (rows .entry))) (nothing live) (candidates modes history)) ⌝ }
+    requires { ⌜ Held 8 count (now rows) ⌝ }
+    requires { ⌜ (count ≤ 2048) × (modes ≤ 256) × (next ≤ 769) ⌝ }
+    requires { ⌜ ((entity : ℕ) → entity < next → getD (now ends) entity 0 < 768) ⌝ }
+    ensures { λ r. ⌜ ((history : List Three) → Tied 769 modes history (now (opens .entry)) (now (ends .entry)) (now (holders .entry)) → next ≡ next-parent modes history → r ≡ seek (weight-here count (now (rows .entry))) (nothing count) (candidates modes history)) ⌝ }
 {
     let mut best = Best {
-        weight: live + 1,
+        weight: count + 1,
         triple: Triple { x: 0, y: 0, z: 0 },
     };
     let mut a: u16 = 0;
-    while a < count {
-        best = best_with(opens, ends, holders, rows, modes, live, count, a, best);
+    while a < next {
+        best = best_with(opens, ends, holders, rows, modes, count, next, a, best);
         a += 1;
     }
     best

@@ -7,10 +7,12 @@ ghost use lib.Dec.{ltb};
 ghost use lib.ListN.{length, take};
 ghost use Rattle.lists.specs.Members.{keep};
 ghost use Rattle.lists.specs.Written.{«written-at»};
+ghost use Rattle.terms.specs.Job.{Job};
 ghost use Rattle.merging.specs.Lawful.{LawfulHistory};
 ghost use Rattle.merging.specs.code.Recorded.{recorded};
 ghost use Rattle.merging.specs.Flatpack.{children as «children-of», «absent-leaf», flatpack};
-ghost use Rattle.merging.specs.code.State.{«history-of», Holds};
+ghost use Rattle.merging.specs.code.State.{«history-of»};
+ghost use Rattle.merging.specs.code.Runs.{Holds};
 use crate::run::Run;
 use entities::Triple;
 use entities::codes;
@@ -101,9 +103,8 @@ fn write_rows<'a>(
 
 // The rows of a finished run into the front of a lent slice.
 pub fn write_flatpack(run: Run, rows: &mut [u16])
-    requires { ⌜ ((terms : List (List ℕ)) × ((own : List ℕ) × Holds 769 256 terms own run)) ⌝ }
-    requires { ⌜ (run .step ≡ run .modes) × (4 * run .modes ≤ length (now rows)) ⌝ }
-    ensures { λ r. ⌜ now (rows .exit) ≡ written-at 0 (flatpack (run .modes) (history-of run)) (now (rows .entry)) ⌝ }
+    requires { ⌜ ((job : Job) × ((own : List ℕ) × (Holds job own run × (length (history-of run) ≡ job .modes) × (4 * job .modes ≤ length (now rows))))) ⌝ }
+    ensures { λ r. ⌜ ((job : Job) (own : List ℕ) → Holds job own run → now (rows .exit) ≡ written-at 0 (flatpack (job .modes) (history-of run)) (now (rows .entry))) ⌝ }
 {
     let end = run.ends[3 * run.modes];
     write_rows(rows, run.modes, end, &run.xs, &run.ys, &run.zs);

@@ -4,21 +4,25 @@ ghost use mathlib.Core.List.{List, [], _∷_};
 ghost use Prim.Native.Nat.{ℕ, _+_, _*_, _≤_, _<_};
 ghost use lib.ListN.{getD};
 ghost use Rattle.lists.specs.Ranges.{listed};
-ghost use Rattle.terms.specs.Rows.{Held, «terms-of»};
+ghost use Rattle.terms.specs.Rows.{Held};
+ghost use Rattle.terms.specs.Job.{Job, «job-of»};
 ghost use Rattle.merging.specs.History.{«is-open»};
 ghost use Rattle.merging.specs.Choice.{chosen};
 ghost use Rattle.merging.specs.Run.{finished as «finished-from»};
-ghost use Rattle.merging.specs.code.State.{«history-of», Holds, EntitiesMerged, Noted, Ready, Went};
+ghost use Rattle.merging.specs.code.State.{«history-of», EntitiesMerged, Noted};
+ghost use Rattle.merging.specs.code.Runs.{Holds, Ready, Went};
 use crate::choice;
 use entities::Triple;
 use entities::parents;
+use terms::live_rows;
 use terms::reduction;
 
-// What a run holds: a mark, a z-end and a holder for every entity, and x, y, z and the weight of every merge.
+// What a run holds: its modes and how many rows it has, a mark, a z-end and a holder for every entity, and x, y, z and the weight of
+// every merge.
 pub struct Run {
     pub modes: usize,
     pub step: usize,
-    pub live: usize,
+    pub count: usize,
     pub weight: usize,
     pub opens: [bool; 769],
     pub ends: [u16; 769],
@@ -57,11 +61,10 @@ fn leaves(modes: usize) -> [bool; 769]
     opens
 }
 
-// The state before the first step, of as many rows as are live.
-pub fn fresh(modes: usize, live: usize) -> Run
-    requires { ⌜ (1 ≤ modes) × (modes ≤ 256) × (live ≤ 2048) ⌝ }
-    ensures { λ r.
-        ⌜ ((rows : List ℕ) → Held 8 live rows → Holds 769 256 (terms-of 8 live rows) rows r × (r .modes ≡ modes) × (r .step ≡ 0) × (r .live ≡ live)) ⌝ }
+// The state before the first step, of so many modes and rows.
+pub fn fresh(modes: usize, count: usize) -> Run
+    requires { ⌜ (1 ≤ modes) × (modes ≤ 256) × (count ≤ 2048) ⌝ }
+    ensures { λ r. ⌜ ((rows : List ℕ) → Held 8 count rows → Holds (job-of modes count rows) rows r × (history-of r ≡ [])) ⌝ }
 {
     let opens = leaves(modes);
     let ends = identity();
@@ -69,7 +72,7 @@ pub fn fresh(modes: usize, live: usize) -> Run
     Run {
         modes: modes,
         step: 0,
-        live: live,
+        count: count,
         weight: 0,
         opens: opens,
         ends: ends,
@@ -120,42 +123,43 @@ impl Run {
 
     // The next merge made: entities, rows and notes.
     pub fn merged(self, rows: &mut [u16], triple: Triple, weight: usize) -> Run
-        requires { ⌜ ((terms : List (List ℕ)) × Ready 769 256 terms (now rows) self triple weight) ⌝ }
-        ensures { λ r. ⌜ ((terms : List (List ℕ)) → Ready 769 256 terms (now (rows .entry)) self triple weight → Went 769 256 terms (triple ∷ history-of self) self (now (rows .entry)) r (now (rows .exit))) ⌝ }
+        requires { ⌜ ((job : Job) × Ready job (now rows) self triple weight) ⌝ }
+        ensures { λ r. ⌜ ((job : Job) → Ready job (now (rows .entry)) self triple weight → Went job (triple ∷ history-of self) (now (rows .entry)) r (now (rows .exit))) ⌝ }
     {
         let parent = parents::parent_number(self.modes, self.step);
-        let kept = reduction::reduce_hamiltonian(rows, self.live, parent, triple);
+        reduction::reduce_hamiltonian(rows, self.count, parent, triple);
         let sum = self.weight + weight;
         let mut next = self.entities_merged(triple)
             .noted(triple, (weight % 65536) as u16);
-        next.live = kept;
         next.weight = sum;
         next
     }
 
-    // The next step: the least lawful triple merged.
-    pub fn stepped(self, rows: &mut [u16]) -> Run
-        requires { ⌜ ((terms : List (List ℕ)) × Holds 769 256 terms (now rows) self) ⌝ }
+    // The next step: the least lawful triple merged. It is sought in the rows that are there, gathered once.
+    fn stepped(self, rows: &mut [u16]) -> Run
+        requires { ⌜ ((job : Job) × Holds job (now rows) self) ⌝ }
         requires { ⌜ self .step < self .modes ⌝ }
-        ensures { λ r. ⌜ ((terms : List (List ℕ)) → Holds 769 256 terms (now (rows .entry)) self → Went 769 256 terms (chosen (self .modes) terms (history-of self) ∷ history-of self) self (now (rows .entry)) r (now (rows .exit))) ⌝ }
+        ensures { λ r. ⌜ ((job : Job) → Holds job (now (rows .entry)) self → Went job (chosen job (history-of self) ∷ history-of self) (now (rows .entry)) r (now (rows .exit))) ⌝ }
     {
-        let count = parents::parent_number(self.modes, self.step);
+        let mut live = [0u16; 16384];
+        let kept = live_rows::put_live(rows, self.count, &mut live);
+        let next = parents::parent_number(self.modes, self.step);
         let best = choice::choose(
             &self.opens,
             &self.ends,
             &self.holders,
-            rows,
+            &live,
             self.modes,
-            self.live,
-            count,
+            kept,
+            next,
         );
         self.merged(rows, best.triple, best.weight)
     }
 
     // The steps that are left.
     pub fn finished(self, rows: &mut [u16]) -> Run
-        requires { ⌜ ((terms : List (List ℕ)) × Holds 769 256 terms (now rows) self) ⌝ }
-        ensures { λ r. ⌜ ((terms : List (List ℕ)) → Holds 769 256 terms (now (rows .entry)) self → Went 769 256 terms (finished-from (self .modes) terms (history-of self)) self (now (rows .entry)) r (now (rows .exit))) ⌝ }
+        requires { ⌜ ((job : Job) × Holds job (now rows) self) ⌝ }
+        ensures { λ r. ⌜ ((job : Job) → Holds job (now (rows .entry)) self → Went job (finished-from job (history-of self)) (now (rows .entry)) r (now (rows .exit))) ⌝ }
     {
         let mut run = self;
         while run.step < run.modes {

@@ -56,9 +56,9 @@ unfoldable pub beside-couple : ℕ → List Triple → ℕ → Couple → List T
 beside-couple modes history count (Of x y) = beside modes history x y 0 count
 beside-couple modes history count Nothing = []
 
--- The weight of a triple in the live rows.
+-- The weight of a triple in the first rows.
 unfoldable pub weight-here : ℕ → List ℕ → Triple → ℕ
-weight-here live rows triple = weight-of triple (terms-of 8 live rows)
+weight-here count rows triple = weight-of triple (terms-of 8 count rows)
 
 -- A triple with its weight.
 unfoldable pub weighed : (Triple → ℕ) → Triple → Best
@@ -70,7 +70,7 @@ seek measure best triples = least (λ b. b .weight) best (map (weighed measure) 
 
 -- Before the first triple: above every weight, since a row weighs at most 1.
 unfoldable pub nothing : ℕ → Best
-nothing live = record { weight = live + 1; triple = record { x = 0; y = 0; z = 0 } }
+nothing count = record { weight = count + 1; triple = record { x = 0; y = 0; z = 0 } }
 
 -- The tables of the entities say what the history says, as far as they reach.
 abbrev pub OpensAre : ℕ → ℕ → List Triple → List Bool → Type 0

@@ -1,11 +1,12 @@
 -- What the state of a run holds: the tables say what its history says, and the rows are those after it.
 use mathlib.Core.Path.{_≡_}
 use mathlib.Core.Bool.{false, true}
-use mathlib.Core.List.{List, _++_}
-use Prim.Native.Nat.{ℕ, _+_, _-_, _*_, _≤_, _<_}
-use lib.ListN.{length, getD, set, drop, replicate}
+use mathlib.Core.List.{List}
+use Prim.Native.Nat.{ℕ, _+_, _*_, _≤_, _<_}
+use lib.ListN.{length, getD, set, drop}
 use Rattle.entities.specs.declared.Triple.{Triple}
 use Rattle.terms.specs.Rows.{Held, terms-of}
+use Rattle.terms.specs.Job.{Job}
 use Rattle.merging.specs.declared.run.Run.{Run}
 use Rattle.merging.specs.History.{rows-after}
 use Rattle.merging.specs.Lawful.{Lawful, LawfulHistory}
@@ -28,22 +29,24 @@ pub record Whole (entities steps : ℕ) (run : Run) : Type 0 where
   pub zs : length (run .zs) ≡ steps
   pub weights : length (run .weights) ≡ steps
 
--- The state of a run over these terms, with its live rows at the front of the numbers.
-pub record Holds (entities steps : ℕ) (terms : List (List ℕ)) (rows : List ℕ) (run : Run) : Type 0 where
+-- The state of a run of this job, its rows at the front of the numbers, in tables of so many entities and steps.
+pub record HoldsIn (entities steps : ℕ) (job : Job) (rows : List ℕ) (run : Run) : Type 0 where
   pub whole : Whole entities steps run
-  pub some : 1 ≤ run .modes
-  pub few : run .modes ≤ steps
-  pub inside : run .step ≤ run .modes
-  pub lawful : LawfulHistory (run .modes) (history-of run)
-  pub tied : Tied entities (run .modes) (history-of run) (run .opens) (run .ends) (run .holders)
-  pub held : Held 8 (run .live) rows
-  pub light : run .live ≤ 2048
-  pub rows-are : terms-of 8 (run .live) rows ≡ rows-after (run .modes) terms (history-of run)
-  pub weight-is : run .weight ≡ run-weight (run .modes) terms (history-of run)
+  pub modes-are : run .modes ≡ job .modes
+  pub count-is : run .count ≡ length (job .terms)
+  pub some : 1 ≤ job .modes
+  pub few : job .modes ≤ steps
+  pub light : length (job .terms) ≤ 2048
+  pub inside : run .step ≤ job .modes
+  pub lawful : LawfulHistory (job .modes) (history-of run)
+  pub tied : Tied entities (job .modes) (history-of run) (run .opens) (run .ends) (run .holders)
+  pub held : Held 8 (run .count) rows
+  pub rows-are : terms-of 8 (run .count) rows ≡ rows-after job (history-of run)
+  pub weight-is : run .weight ≡ run-weight job (history-of run)
   pub bounded : run .weight ≤ 2048 * run .step
   pub weights-are : (step : ℕ) → step < run .step
       → getD (run .weights) step 0
-      ≡ weight-in (run .modes) terms (recorded (run .xs) (run .ys) (run .zs) step) (merge-at (run .xs) (run .ys) (run .zs) step)
+      ≡ weight-in job (recorded (run .xs) (run .ys) (run .zs) step) (merge-at (run .xs) (run .ys) (run .zs) step)
 
 -- The entities' tables after a merge: the three closed, their parent open with z's end, which it holds; the merges written down as before.
 pub record EntitiesMerged (triple : Triple) (before after : Run) : Type 0 where
@@ -53,6 +56,7 @@ pub record EntitiesMerged (triple : Triple) (before after : Run) : Type 0 where
   pub holders : after .holders ≡ set (before .holders) (getD (before .ends) (triple .z) 0) (2 * before .modes + 1 + before .step)
   pub modes : after .modes ≡ before .modes
   pub step : after .step ≡ before .step
+  pub count : after .count ≡ before .count
   pub xs : after .xs ≡ before .xs
   pub ys : after .ys ≡ before .ys
   pub zs : after .zs ≡ before .zs
@@ -65,26 +69,21 @@ pub record Noted (triple : Triple) (weight : ℕ) (before after : Run) : Type 0 
   pub zs : after .zs ≡ set (before .zs) (before .step) (triple .z)
   pub weights : after .weights ≡ set (before .weights) (before .step) weight
   pub step : after .step ≡ before .step + 1
+  pub count : after .count ≡ before .count
   pub modes : after .modes ≡ before .modes
   pub opens : after .opens ≡ before .opens
   pub ends : after .ends ≡ before .ends
   pub holders : after .holders ≡ before .holders
 
 -- A lawful merge with its true weight, ready to be made.
-pub record Ready (entities steps : ℕ) (terms : List (List ℕ)) (rows : List ℕ) (run : Run) (triple : Triple) (weight : ℕ) : Type 0 where
-  pub holds : Holds entities steps terms rows run
-  pub left : run .step < run .modes
-  pub lawful : Lawful (run .modes) (history-of run) triple
-  pub weight-is : weight ≡ weight-in (run .modes) terms (history-of run) triple
+pub record ReadyIn (entities steps : ℕ) (job : Job) (rows : List ℕ) (run : Run) (triple : Triple) (weight : ℕ) : Type 0 where
+  pub holds : HoldsIn entities steps job rows run
+  pub left : run .step < job .modes
+  pub lawful : Lawful (job .modes) (history-of run) triple
+  pub weight-is : weight ≡ weight-in job (history-of run) triple
 
--- The rows that went are zeros, and the numbers behind the live rows are as they were.
-abbrev pub Cleared : ℕ → List ℕ → ℕ → List ℕ → Type 0
-Cleared live rows now-live now-rows = drop (8 * now-live) now-rows ≡ replicate (8 * (live - now-live)) 0 ++ drop (8 * live) rows
-
--- The state after more merges: a state over the same terms, with this history.
-pub record Went (entities steps : ℕ) (terms : List (List ℕ)) (history : List Triple) (before : Run) (rows : List ℕ) (after : Run) (now-rows : List ℕ) : Type 0 where
-  pub holds : Holds entities steps terms now-rows after
-  pub modes : after .modes ≡ before .modes
+-- The state after more merges: this history, of the same job; the numbers behind its rows as they were.
+pub record WentIn (entities steps : ℕ) (job : Job) (history : List Triple) (rows : List ℕ) (after : Run) (now-rows : List ℕ) : Type 0 where
+  pub holds : HoldsIn entities steps job now-rows after
   pub merges : history-of after ≡ history
-  pub fewer : after .live ≤ before .live
-  pub cleared : Cleared (before .live) rows (after .live) now-rows
+  pub rest : drop (8 * length (job .terms)) now-rows ≡ drop (8 * length (job .terms)) rows

@@ -14,14 +14,14 @@ use Rattle.merging.proofs.choice.best_of_rest.Statement.{statement}
 use Rattle.merging.proofs.choice.best_of_rest.Tie as tie
 
 abbrev Inv-loop : tie.InvT-loop
-Inv-loop opens rows live count odd x y best₀ z₀ best z =
-    (z ≤ count)
+Inv-loop opens rows count next odd x y best₀ z₀ best z =
+    (z ≤ next)
     × ((modes : ℕ) (history : List Triple) → next-parent modes history ≤ 769 → OpensAre 769 modes history opens
-    → seek (weight-here live rows) best₀ (beside modes history x y 0 count)
-    ≡ seek (weight-here live rows) best (beside modes history x y z (count - z)))
+    → seek (weight-here count rows) best₀ (beside modes history x y 0 next)
+    ≡ seek (weight-here count rows) best (beside modes history x y z (next - z)))
 
 abbrev μ-loop : tie.MeasureT-loop
-μ-loop opens rows live count odd x y best₀ z₀ best z = count - z
+μ-loop opens rows count next odd x y best₀ z₀ best z = next - z
 
 loop-holds : tie.Need-loop-holds Inv-loop μ-loop
 loop-holds c =
@@ -43,9 +43,9 @@ loop-again c =
       omega arith,
       λ modes history within opens.
           here .loop .inv .1 modes history within opens
-          ∙ rw (beside-step modes history (args .x) (args .y) (here .loop .z) (args .count) (omega arith))
-          (seek-joined (weight-here (args .live) (args .rows .now)) (here .loop .best) _ _
-          ∙ ap (λ b. seek (weight-here (args .live) (args .rows .now)) b (beside modes history (args .x) (args .y) (here .loop .z + 1) (args .count - (here .loop .z + 1))))
+          ∙ rw (beside-step modes history (args .x) (args .y) (here .loop .z) (args .next) (omega arith))
+          (seek-joined (weight-here (args .count) (args .rows .now)) (here .loop .best) _ _
+          ∙ ap (λ b. seek (weight-here (args .count) (args .rows .now)) b (beside modes history (args .x) (args .y) (here .loop .z + 1) (args .next - (here .loop .z + 1))))
           (sym (c .best-beside .ensures modes history within opens))),
     )
 
@@ -55,7 +55,7 @@ returns c modes history within opens =
     let args = here .before .before .before .args in
     sym
     (here .loop .inv .1 modes history within opens
-    ∙ rw (beside-end modes history (args .x) (args .y) (here .loop .z) (args .count) (omega arith)) (seek-none _ _))
+    ∙ rw (beside-end modes history (args .x) (args .y) (here .loop .z) (args .next) (omega arith)) (seek-none _ _))
 
 pub best-of-rest-spec : {M : Type 1} → statement M
 best-of-rest-spec =

@@ -14,14 +14,14 @@ use Rattle.merging.proofs.choice.choose.Statement.{statement}
 use Rattle.merging.proofs.choice.choose.Tie as tie
 
 abbrev Inv-loop : tie.InvT-loop
-Inv-loop opens ends holders rows modes live count best₀ a₀ best a =
-    (a ≤ count)
-    × ((history : List Triple) → Tied 769 modes history opens ends holders → count ≡ next-parent modes history
-    → seek (weight-here live rows) (nothing live) (candidates modes history)
-    ≡ seek (weight-here live rows) best (candidates-from modes history a (count - a)))
+Inv-loop opens ends holders rows modes count next best₀ a₀ best a =
+    (a ≤ next)
+    × ((history : List Triple) → Tied 769 modes history opens ends holders → next ≡ next-parent modes history
+    → seek (weight-here count rows) (nothing count) (candidates modes history)
+    ≡ seek (weight-here count rows) best (candidates-from modes history a (next - a)))
 
 abbrev μ-loop : tie.MeasureT-loop
-μ-loop opens ends holders rows modes live count best₀ a₀ best a = count - a
+μ-loop opens ends holders rows modes count next best₀ a₀ best a = next - a
 
 add-t10 : tie.Need-add-t10 Inv-loop μ-loop
 add-t10 c = search needs
@@ -47,14 +47,14 @@ loop-again : tie.Need-loop-again Inv-loop μ-loop
 loop-again c =
     let here = c .before .before in
     let args = here .before .before .args in
-    let measure = weight-here (args .live) (args .rows .now) in (
+    let measure = weight-here (args .count) (args .rows .now) in (
       omega arith,
       λ history tied all.
           here .loop .inv .1 history tied all
-          ∙ rw (candidates-step (args .modes) history (here .loop .a) (args .count) (omega arith))
+          ∙ rw (candidates-step (args .modes) history (here .loop .a) (args .next) (omega arith))
           (seek-joined measure (here .loop .best) (named-with (args .modes) history (here .loop .a))
-          (candidates-from (args .modes) history (here .loop .a + 1) (args .count - (here .loop .a + 1)))
-          ∙ ap (λ b. seek measure b (candidates-from (args .modes) history (here .loop .a + 1) (args .count - (here .loop .a + 1))))
+          (candidates-from (args .modes) history (here .loop .a + 1) (args .next - (here .loop .a + 1)))
+          ∙ ap (λ b. seek measure b (candidates-from (args .modes) history (here .loop .a + 1) (args .next - (here .loop .a + 1))))
           (rw (named-with-couple (args .modes) history (here .loop .a), ← all) (sym (c .best-with .ensures history tied)))),
     )
 
@@ -64,7 +64,7 @@ returns c history tied all =
     let args = here .before .before .args in
     sym
     (here .loop .inv .1 history tied all
-    ∙ rw (candidates-end (args .modes) history (here .loop .a) (args .count) (omega arith)) (seek-none _ _))
+    ∙ rw (candidates-end (args .modes) history (here .loop .a) (args .next) (omega arith)) (seek-none _ _))
 
 pub choose-spec : {M : Type 1} → statement M
 choose-spec =

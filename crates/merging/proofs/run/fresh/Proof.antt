@@ -4,6 +4,7 @@ use native.Mathlib.Omega.{arith}
 use borrow.Author.Needs.{needs}
 use lib.ListN.{length}
 use Rattle.lists.proofs.Listed.{length-listed}
+use Rattle.merging.specs.code.Recorded.{recorded}
 use Rattle.merging.proofs.StateFresh.{fresh-holds}
 use Rattle.merging.proofs.run.fresh.Statement.{statement}
 use Rattle.merging.proofs.run.fresh.Tie as tie
@@ -18,6 +19,7 @@ identity-requires-2 : tie.Need-identity-requires-2
 identity-requires-2 c κs = search needs
 
 returns : tie.Need-returns
+unfolding recorded
 returns c rows held =
     let opens = c .before .before .leaves .ensures in
     let ends = c .before .identity .ensures in
@@ -33,8 +35,6 @@ returns c rows held =
             weights = refl;
           })
           refl refl (omega arith) (omega arith) (omega arith) held opens ends holders,
-      refl,
-      refl,
       refl,
     )
 

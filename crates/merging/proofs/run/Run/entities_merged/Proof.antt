@@ -61,6 +61,7 @@ returns c =
       holders = cc;
       modes = refl;
       step = refl;
+      count = refl;
       xs = refl;
       ys = refl;
       zs = refl;

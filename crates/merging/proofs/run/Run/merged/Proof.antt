@@ -23,18 +23,20 @@ entities-merged-requires : tie.Need-entities-merged-requires
 entities-merged-requires c κs =
     let start = c .before .before .before .before .before .before .before in
     let ready = start .pre .1 in
-    let terms = start .pre .0 in
+    let job = start .pre .0 in
     let rows = start .args .rows .now in
     let run = start .args .self in
     let triple = start .args .triple in
     let weight = start .args .weight in
-    let in-table = in-room 769 256 terms rows run triple weight (lit≤ tt) ready in
-    let x = in-table (triple .x) (x-below 769 256 terms rows run triple weight (lit≤ tt) ready) in
-    let y = in-table (triple .y) (y-below 769 256 terms rows run triple weight (lit≤ tt) ready) in
-    let z-is = z-below 769 256 terms rows run triple weight (lit≤ tt) ready in
+    let in-table = in-room 769 256 job rows run triple weight (lit≤ tt) ready in
+    let x = in-table (triple .x) (x-below 769 256 job rows run triple weight (lit≤ tt) ready) in
+    let y = in-table (triple .y) (y-below 769 256 job rows run triple weight (lit≤ tt) ready) in
+    let z-is = z-below 769 256 job rows run triple weight (lit≤ tt) ready in
     let z = in-table (triple .z) z-is in
-    let end = end-low 769 256 terms rows run triple weight (lit≤ tt) ready (triple .z) z-is in
-    ((omega (arith, ready .holds .few), omega (arith, ready .holds .few, ready .left), x, y, z), omega (arith, end, ready .holds .few))
+    let end = end-low 769 256 job rows run triple weight (lit≤ tt) ready (triple .z) z-is in
+    let few = ready .holds .few in
+    let same = ready .holds .modes-are in
+    ((omega arith, omega (arith, ready .left), x, y, z), omega arith)
 
 cast-noted : tie.Need-cast-noted
 cast-noted c = search needs
@@ -46,15 +48,15 @@ same-length : tie.Need-same-length
 same-length c = search needs
 
 returns : tie.Need-returns
-returns c terms ready =
+returns c job ready =
     let start = c .before .before .before .before .before .before .before .before .before in
     let args = start .args in
     let merged = c .before .entities-merged .ensures in
     let noted = c .noted .ensures in
     let reduced = c .before .before .before .before .before .reduce-hamiltonian .ensures in
     let parent = c .before .before .before .before .before .before .before .parent-number .ensures in
-    rw (same-run (args .triple) (args .weight) (c .before .before .before .before .before .reduce-hamiltonian .result) (args .self) _ _ merged noted)
-    (merged-went 769 256 terms (args .rows .now) (args .self) (args .triple) (args .weight) (lit≤ tt) ready _ _ (rw parent at reduced))
+    rw (same-run (args .triple) (args .weight) (args .self) _ _ merged noted)
+    (merged-went 769 256 job (args .rows .now) (args .self) (args .triple) (args .weight) (lit≤ tt) ready _ (rw parent at reduced))
 
 pub merged-spec : {M : Type 1} → statement M
 merged-spec =
