@@ -1,87 +1,100 @@
--- Demand 3: an unbroken run's journal, cut after any byte and resumed, ends as the unbroken run.
-use mathlib.Core.Path.{_≡_, ap, _∙_, sym}
+-- Demand 3: the journal of a call that is done, cut after any byte that isn't before the end of what it kept, resumes to the same end.
+use mathlib.Core.Path.{_≡_, refl, ap, _∙_, sym}
+use mathlib.Core.Bool.{true}
 use mathlib.Core.List.{List, [], _++_, flatMap}
-use Prim.Native.Nat.{ℕ, _-_, _*_, _≤_}
+use mathlib.Core.Logic.{⊎-elim}
+use Prim.Native.Nat.{ℕ, _+_, _-_, _*_, _<_, _≤_}
 use native.Mathlib.Omega.{arith}
 use borrow.Author.Tests.{leb-true}
 use lib.Dec.{leb}
-use lib.ListN.{length, take, length-take}
-use lib.Seq.{take-take}
-use Rattle.lists.proofs.Tests.{both}
+use lib.ListN.{length, take}
+use Rattle.lists.proofs.Parts.{nothing-in}
+use Rattle.lists.proofs.Tests.{both, same-or-not}
 use Rattle.entities.specs.declared.Triple.{Triple}
 use Rattle.fields.specs.Lines.{lines, lines-after, kept-of}
-use Rattle.fields.proofs.LinesJoined.{kept-front}
-use Rattle.terms.specs.Rows.{terms-of}
-use Rattle.terms.specs.Good.{modes-good}
+use Rattle.terms.specs.Job.{Job, job-of}
+use Rattle.terms.specs.Good.{modes-good, checked}
+use Rattle.terms.specs.declared.checking.Checked.the-variants.{Good}
 use Rattle.terms.proofs.RowSteps.{length-terms}
 use Rattle.terms.proofs.StaysGood.{accepted}
-use Rattle.merging.specs.Trials.{trial-total}
+use Rattle.merging.specs.Run.{run-weight}
+use Rattle.merging.specs.Flatpack.{flatpack}
 use Rattle.journal.specs.Obeying.{went, obeyed, obeyed-texts}
 use Rattle.journal.specs.Writing.{new-text, unbroken}
-use Rattle.journal.specs.Resuming.{Ending, done, ending, hatt-run}
-use Rattle.journal.specs.CutAndResumed.{ResumesCut}
+use Rattle.journal.specs.Resuming.{Ending, done, ending, Rooms, resumed, hatt-run}
+use Rattle.journal.specs.CutAndResumed.{journal-of, ResumesCut, Suffice, JournalsResume, UnbrokenResume}
 use Rattle.journal.proofs.CutObeyed.{CutObeyed, cut-obeyed}
-use Rattle.journal.proofs.CallDone.{CallDone, call-done, done-again}
+use Rattle.journal.proofs.CutBehind.{cut-behind}
+use Rattle.journal.proofs.CallDone.{call-done, done-in}
+use Rattle.journal.proofs.ObeyedThenGreedy.{obeyed-then-greedy}
 
-same-text : (modes count : ℕ) (terms : List (List ℕ)) (k : ℕ) {text other : List ℕ} → text ≡ other → CutObeyed modes count terms (take k other)
-    → CutObeyed modes count terms (take k text)
-same-text modes count terms k e cut = rw e cut
+-- What was kept of a journal, and what the run from its history writes behind it.
+abbrev whole : Job → List ℕ → List Triple → List ℕ
+whole job bytes history = kept-of bytes ++ new-text job (length (kept-of bytes)) history
 
-module _ (most modes : ℕ) (numbers : List ℕ) (work rows journal : ℕ) (whole : Ending) (fits : 3 * most ≤ 65535)
-    (unbroken-run : hatt-run most modes numbers work rows journal ≡ done whole) where
-  known : CallDone most modes numbers [] work rows journal whole
-  unfolding hatt-run
-  known = call-done most modes numbers [] work rows journal whole unbroken-run
+went-same : {h g : List Triple} → went h ≡ went g → h ≡ g
+went-same e = cc
 
-  abbrev terms : List (List ℕ)
-  terms = terms-of 8 (known .count) numbers
+module _ (job : Job) (few : 3 * job .modes ≤ 65535) (light : length (job .terms) ≤ 65535) (bytes : List ℕ) (history : List Triple)
+    (obeys : obeyed job bytes ≡ went history) (cut : ℕ) (behind : length (kept-of bytes) ≤ cut) where
+  -- No line was kept: the journal is an unbroken run's.
+  from-nothing : length (lines bytes) ≡ 0 → CutObeyed job history (whole job bytes history) (take cut (whole job bytes history))
+  unfolding obeyed obeyed-texts kept-of flatMap unbroken
+  from-nothing none =
+      let empty : lines bytes ≡ [] = nothing-in (lines bytes) none in
+      let begun : [] ≡ history = went-same (ap (obeyed-texts job) (sym empty) ∙ obeys) in
+      rw (empty, ← begun) (cut-obeyed job few light cut)
 
-  -- The unbroken run begins from no merge, and writes the unbroken journal.
-  from-nothing : whole ≡ ending modes (known .count) terms [] []
-  unfolding obeyed obeyed-texts lines lines-after
-  from-nothing =
-      let begun : [] ≡ known .history = went-same (known .obeys) in
-      known .ends ∙ ap (ending modes (known .count) terms []) (sym begun)
-    where
-      went-same : {h g : List Triple} → went h ≡ went g → h ≡ g
-      went-same e = cc
+  -- The lines that were kept are all before the cut.
+  from-lines : 0 < length (lines bytes) → CutObeyed job history (whole job bytes history) (take cut (whole job bytes history))
+  from-lines some =
+      let e : length (kept-of bytes) + (cut - length (kept-of bytes)) ≡ cut = omega arith in
+      rw e at (cut-behind job few light bytes history obeys some (cut - length (kept-of bytes)))
 
-  writes-unbroken : whole .new ≡ unbroken modes (known .count) terms
-  unfolding ending unbroken kept-of lines lines-after flatMap
-  writes-unbroken = ap (λ e. e .new) from-nothing
+  pub cut-anywhere : CutObeyed job history (whole job bytes history) (take cut (whole job bytes history))
+  cut-anywhere = ⊎-elim from-nothing (λ some. from-lines (omega arith)) (same-or-not (length (lines bytes)) 0)
 
-  module _ (k : ℕ) where
-    abbrev bytes : List ℕ
-    bytes = take k (whole .new)
+-- The end of a run from a journal that is obeyed to another history of it.
+module _ (other : Rooms) (modes count : ℕ) (numbers bytes : List ℕ) (history : List Triple) (good : checked modes numbers ≡ Good count)
+    (fits : Suffice other modes (ending (job-of modes count numbers) bytes history))
+    (obeys : obeyed (job-of modes count numbers) bytes ≡ went history) (cut : ℕ) (behind : length (kept-of bytes) ≤ cut) where
+  abbrev job : Job
+  job = job-of modes count numbers
 
-    cut : CutObeyed modes (known .count) terms bytes
-    unfolding modes-good
-    cut =
-        let good = accepted modes numbers (known .count) (known .terms-are) in
-        let few = leb-true modes most (both (leb 1 modes) (leb modes most) (known .modes-are) .1) in
-        let counted = length-terms 8 (known .count) numbers in
-        same-text modes (known .count) terms k writes-unbroken
-        (cut-obeyed modes (known .count) (terms-of 8 (known .count) numbers) (omega (arith, few, fits)) (omega (arith, counted, good .at-most)) counted k)
+  counted : length (job .terms) ≡ count
+  counted = length-terms 8 count numbers
 
-    -- What is kept of the cut journal is the front of the whole.
-    kept-there : take (length (kept-of bytes)) (whole .new) ≡ kept-of bytes
-    kept-there =
-        let front = kept-front bytes in
-        let inside : length (kept-of bytes) ≤ k =
-        omega (arith, ap length front, length-take (length (kept-of bytes)) bytes, length-take k (whole .new)) in
-        sym (take-take (length (kept-of bytes)) k (whole .new) inside) ∙ front
+  found : CutObeyed job history (whole job bytes history) (take cut (whole job bytes history))
+  unfolding modes-good
+  found =
+      let few = leb-true modes (other .modes) (both (leb 1 modes) (leb modes (other .modes)) (fits .modes-taken) .1) in
+      let light = accepted modes numbers count good .at-most in
+      cut-anywhere job (omega (arith, few, fits .numbers-fit)) (omega (arith, counted, light)) bytes history obeys cut behind
 
-    pub cut-and-resumed : ResumesCut most modes numbers work rows journal whole k
-    unfolding ending
-    cut-and-resumed =
-        record {
-          part = ending modes (known .count) terms bytes (cut .history);
-          resumes = done-again most modes numbers work rows journal [] bytes whole known (cut .history) (cut .obeys);
-          same-rows = cut .same-rows ∙ sym (ap (λ e. e .rows) from-nothing);
-          same-weight = cut .same-weight ∙ sym (ap (λ e. e .weight) from-nothing);
-          same-bytes =
-              ap (λ kept. kept ++ new-text modes (known .count) terms (length (kept-of bytes)) (cut .history)) kept-there
-              ∙ cut .same-bytes
-              ∙ sym writes-unbroken;
-          trials-left = cut .trials-are ∙ ap (λ n. trial-total (modes - n)) (cut .a-line-each);
-        }
+  resumes-on : resumed other modes numbers (take cut (whole job bytes history)) ≡ done (ending job (take cut (whole job bytes history)) (found .history))
+  unfolding ending
+  resumes-on = done-in other modes count numbers _ (found .history) (fits .modes-taken) good (rw counted at (fits .room)) (found .obeys)
+
+  pub resumes-ending : ResumesCut other modes numbers (journal-of bytes (ending job bytes history)) (ending job bytes history) cut
+  unfolding ending journal-of
+  resumes-ending =
+      record {
+        again = ending job (take cut (whole job bytes history)) (found .history);
+        resumes = resumes-on;
+        same-rows = ap (flatpack modes) (found .same-end);
+        same-weight = ap (run-weight job) (found .same-end);
+        same-journal = found .same-bytes;
+        told = obeyed-then-greedy other modes numbers _ _ resumes-on;
+      }
+
+pub cut-and-resumed : JournalsResume
+cut-and-resumed rooms other modes numbers bytes part says fits cut behind =
+    let known = call-done rooms modes numbers bytes part says in
+    let as-ended : (p : Ending) → p ≡ ending (job-of modes (known .count) numbers) bytes (known .history) → Suffice other modes p
+    → ResumesCut other modes numbers (journal-of bytes p) p cut =
+    λ p e. rw e (λ enough. resumes-ending other modes (known .count) numbers bytes (known .history) (known .terms-are) enough (known .obeys) cut behind) in
+    as-ended part (known .ends) fits
+
+pub unbroken-resumed : UnbrokenResume
+unfolding hatt-run journal-of kept-of lines lines-after flatMap
+unbroken-resumed rooms other modes numbers whole says fits cut = cut-and-resumed rooms other modes numbers [] whole says fits cut (omega arith)

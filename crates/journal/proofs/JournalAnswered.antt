@@ -1,8 +1,9 @@
 -- A refusal's answer leaves everything as it was, and a call answers what its part of the meaning says.
-use mathlib.Core.Path.{_≡_, refl, sym}
+use mathlib.Core.Path.{_≡_, refl, ap, _∙_, sym}
 use mathlib.Core.List.{List}
 use Prim.Native.Nat.{ℕ}
 use Rattle.refusal.specs.declared.Refusal.{Refusal}
+use Rattle.terms.specs.Job.{Job}
 use Rattle.merging.specs.declared.run.Run.{Run}
 use Rattle.merging.specs.code.State.{history-of}
 use Rattle.journal.specs.declared.obeying.Verdict.{Verdict}
@@ -12,23 +13,31 @@ use Rattle.journal.specs.declared.resuming.Answer.the-variants.{Refused 
 use Rattle.journal.specs.Obeying.{Obeyed}
 use Rattle.journal.specs.Resuming.{Outcome, done, refuses, ending, with-journal}
 use Rattle.journal.specs.code.Obeys.{came-to}
-use Rattle.journal.specs.Promises.{Answers, returned, work-then, rows-then, journal-then}
+use Rattle.journal.specs.Promises.{numbers-of, told-numbers, returned, Lent, lent-then, Answers}
 
-module _ (work rows journal : List ℕ) where
-  pub nothing-altered : (refusal : Refusal) → Answers (refuses refusal) work rows journal work rows journal (Refuses refusal)
-  unfolding returned work-then rows-then journal-then
-  nothing-altered refusal = record { answer = refl; work-is = refl; rows-is = refl; journal-is = refl }
+-- The numbers of an answer are those of its meaning.
+numbers-so : (outcome : Outcome) → numbers-of (returned outcome) ≡ told-numbers outcome
+unfolding numbers-of told-numbers returned
+numbers-so (done ending) = refl
+numbers-so (refuses refusal) = refl
 
-  pub answers-so : (meant same : Outcome) (now-work now-rows now-journal : List ℕ) (r : Answer) → meant ≡ same
-      → Answers same work rows journal now-work now-rows now-journal r → Answers meant work rows journal now-work now-rows now-journal r
-  answers-so meant same now-work now-rows now-journal r e answers = rw e answers
+module _ (meant : Lent → Outcome) (before : Lent) where
+  pub answers : (after : Lent) (r : Answer) → r ≡ returned (meant before) → after ≡ lent-then (meant before) before → Answers meant before after r
+  answers after r e l = record { answer = e; numbers = ap numbers-of e ∙ numbers-so (meant before); leaves = l }
 
-module _ (modes count : ℕ) (terms : List (List ℕ)) (bytes : List ℕ) (answer : Obeyed) (verdict : Verdict) (run : Run)
-    (comes : came-to verdict run ≡ answer) where
-  pub journal-refused : (refusal : Refusal) → verdict ≡ Refused refusal → with-journal modes count terms bytes answer ≡ refuses refusal
+  pub nothing-altered : (refusal : Refusal) → meant before ≡ refuses refusal → Answers meant before before (Refuses refusal)
+  unfolding returned lent-then
+  nothing-altered refusal e = answers before (Refuses refusal) (rw e) (rw e)
+
+  pub answers-so : (same : Lent → Outcome) (after : Lent) (r : Answer) → meant before ≡ same before
+      → Answers same before after r → Answers meant before after r
+  answers-so same after r e told = answers after r (rw e (told .answer)) (rw e (told .leaves))
+
+module _ (job : Job) (bytes : List ℕ) (answer : Obeyed) (verdict : Verdict) (run : Run) (comes : came-to verdict run ≡ answer) where
+  pub journal-refused : (refusal : Refusal) → verdict ≡ Refused refusal → with-journal job bytes answer ≡ refuses refusal
   unfolding came-to with-journal
   journal-refused refusal told = rw (sym comes) (rw told)
 
-  pub journal-obeyed : verdict ≡ Fine → with-journal modes count terms bytes answer ≡ done (ending modes count terms bytes (history-of run))
+  pub journal-obeyed : verdict ≡ Fine → with-journal job bytes answer ≡ done (ending job bytes (history-of run))
   unfolding came-to with-journal
   journal-obeyed told = rw (sym comes) (rw told)

@@ -1,5 +1,4 @@
 -- "journal bytes 16 + 21n": what a run writes fits, whatever it began from.
-use mathlib.Core.Bool.{cond}
 use mathlib.Core.List.{List, [], _∷_, flatMap}
 use Prim.Native.Nat.{ℕ, zero, suc, _+_, _-_, _*_, _<_, _≤_}
 use native.Mathlib.Omega.{arith}
@@ -7,53 +6,55 @@ use lib.Dec.{eqb}
 use lib.ListN.{length, length-append}
 use Rattle.lists.proofs.Tests.{whichever}
 use Rattle.entities.specs.declared.Triple.{Triple}
+use Rattle.terms.specs.Job.{Job}
 use Rattle.merging.specs.Lawful.{LawfulHistory}
 use Rattle.merging.specs.Choice.{weight-in, chosen}
+use Rattle.merging.proofs.RowsAfter.{weight-in-most}
 use Rattle.merging.proofs.RunLawful.{chosen-lawful}
 use Rattle.journal.specs.LineForms.{header-text}
-use Rattle.journal.specs.Writing.{line-of, greedy-lines, new-text}
+use Rattle.journal.specs.Writing.{line-of, greedy-lines, header-behind, new-text}
 use Rattle.journal.proofs.TextLengths.{header-short, merge-short}
-use Rattle.journal.proofs.ObeyGreedy.{open-within, weight-within}
+use Rattle.journal.proofs.ObeyGreedy.{open-within}
 
 -- Numbers of three digits for steps and entities, of four for weights and terms.
-module _ (modes count : ℕ) (terms : List (List ℕ)) (few : 3 * modes < 1000) (light : length terms < 10000) (counted : count < 10000) where
-  step-fits : (history : List Triple) → LawfulHistory modes history → length history < modes
-      → length (line-of modes terms history (chosen modes terms history)) ≤ 21
+module _ (job : Job) (few : 3 * job .modes < 1000) (light : length (job .terms) < 10000) where
+  step-fits : (history : List Triple) → LawfulHistory (job .modes) history → length history < job .modes
+      → length (line-of job history (chosen job history)) ≤ 21
   unfolding line-of
   step-fits history lawful left =
-      let merge = chosen modes terms history in
-      let good = chosen-lawful modes terms history lawful left in
-      merge-short (length history) merge (weight-in modes terms history merge) (omega arith)
-      (omega (arith, open-within modes history (merge .x) left (good .x-open)))
-      (omega (arith, open-within modes history (merge .y) left (good .y-open)))
-      (omega (arith, open-within modes history (merge .z) left (good .z-open)))
-      (omega (arith, weight-within modes terms history merge))
+      let merge = chosen job history in
+      let good = chosen-lawful job history lawful left in
+      merge-short (length history) merge (weight-in job history merge) (omega arith)
+      (omega (arith, open-within (job .modes) history (merge .x) left (good .x-open)))
+      (omega (arith, open-within (job .modes) history (merge .y) left (good .y-open)))
+      (omega (arith, open-within (job .modes) history (merge .z) left (good .z-open)))
+      (omega (arith, weight-in-most job history merge))
 
-  steps-fit : (steps : ℕ) (history : List Triple) → LawfulHistory modes history → length history + steps ≤ modes
-      → length (flatMap (λ line. line) (greedy-lines modes terms steps history)) ≤ 21 * steps
+  steps-fit : (steps : ℕ) (history : List Triple) → LawfulHistory (job .modes) history → length history + steps ≤ job .modes
+      → length (flatMap (λ line. line) (greedy-lines job steps history)) ≤ 21 * steps
   unfolding greedy-lines flatMap
   steps-fit zero history lawful h = omega arith
   steps-fit (suc steps) history lawful h =
-      let left : length history < modes = omega arith in
-      let merge = chosen modes terms history in
-      let line = line-of modes terms history merge in
-      let rest = flatMap (λ line. line) (greedy-lines modes terms steps (merge ∷ history)) in
+      let left : length history < job .modes = omega arith in
+      let merge = chosen job history in
+      let line = line-of job history merge in
+      let rest = flatMap (λ line. line) (greedy-lines job steps (merge ∷ history)) in
       omega (
         arith,
         length-append line rest,
         step-fits history lawful left,
-        steps-fit steps (merge ∷ history) (chosen-lawful modes terms history lawful left, lawful) (omega arith),
+        steps-fit steps (merge ∷ history) (chosen-lawful job history lawful left, lawful) (omega arith),
       )
 
-  pub new-fits : (kept : ℕ) (history : List Triple) → LawfulHistory modes history → length history ≤ modes
-      → length (new-text modes count terms kept history) ≤ 16 + 21 * (modes - length history)
-  unfolding new-text
+  pub new-fits : (kept : ℕ) (history : List Triple) → LawfulHistory (job .modes) history → length history ≤ job .modes
+      → length (new-text job kept history) ≤ 16 + 21 * (job .modes - length history)
+  unfolding new-text header-behind
   new-fits kept history lawful h =
-      let header = cond (eqb kept 0) (header-text modes count) [] in
-      let rest = flatMap (λ line. line) (greedy-lines modes terms (modes - length history) history) in
+      let header = header-text (job .modes) (length (job .terms)) in
+      let rest = flatMap (λ line. line) (greedy-lines job (job .modes - length history) history) in
       omega (
         arith,
-        length-append header rest,
-        whichever length 16 (eqb kept 0) (header-text modes count) [] (λ e. header-short modes count (omega arith) counted) (omega arith),
-        steps-fit (modes - length history) history lawful (omega arith),
+        length-append (header-behind job kept) rest,
+        whichever length 16 (eqb kept 0) header [] (λ e. header-short (job .modes) (length (job .terms)) (omega arith) light) (omega arith),
+        steps-fit (job .modes - length history) history lawful (omega arith),
       )

@@ -4,7 +4,7 @@ pub mod Texts
 pub mod TextLengths
 pub mod TextLines
 pub mod LineRead
-pub mod MergeObeyed
+pub mod LineJudged
 pub mod LineObeyed
 pub mod LinesObeyed
 pub mod JournalObeyed
@@ -12,11 +12,13 @@ pub mod ObeyGreedy
 pub mod GreedyLines
 pub mod NotedLines
 pub mod PuttingLines
-pub mod RunEnds
 pub mod JournalAnswered
+pub mod RunEnds
 pub mod CutObeyed
+pub mod CutBehind
 pub mod CallDone
 pub mod RowsFit
+pub mod InWork
 pub mod CutAndResumed
 pub mod ObeyedThenGreedy
 pub mod OneAnswer

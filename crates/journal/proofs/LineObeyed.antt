@@ -1,55 +1,70 @@
--- One line in a state: 12 before 6, then what its merge comes to; and the header.
-use mathlib.Core.Path.{_≡_}
-use mathlib.Core.List.{List}
-use Prim.Native.Nat.{ℕ, _<_, _≤_}
-use borrow.Author.Tests.{eq-eqb, ne-eqb, lt-ltb, le-ltb}
-use Rattle.refusal.specs.declared.Refusal.the-variants.{LineForm, Header as OtherHeader, LineAfterLast}
+-- One line obeyed as it was judged, and the header.
+use mathlib.Core.Path.{_≡_, ap, _∙_, sym}
+use mathlib.Core.List.{List, [], _∷_}
+use Prim.Native.Nat.{ℕ}
+use borrow.Author.Tests.{eq-eqb, ne-eqb}
+use lib.ListN.{length}
+use Rattle.refusal.specs.declared.Refusal.{Refusal}
+use Rattle.refusal.specs.declared.Refusal.the-variants.{LineForm, Header as OtherHeader}
+use Rattle.terms.specs.Job.{Job}
 use Rattle.merging.specs.declared.run.Run.{Run}
-use Rattle.merging.specs.code.Recorded.{recorded}
-use Rattle.merging.specs.code.State.{history-of, Holds}
-use Rattle.merging.proofs.StateStepped.{merges-so-far}
+use Rattle.merging.specs.code.State.{history-of}
+use Rattle.merging.specs.code.Runs.{Holds, Ready, Went}
+use Rattle.merging.proofs.Runs.{went-nowhere, went-here, ready}
 use Rattle.journal.specs.declared.header.Header.{Header}
 use Rattle.journal.specs.declared.header.Header.the-variants.{Is as HeaderIs, Broken as HeaderBroken}
-use Rattle.journal.specs.declared.merge_line.Merge.the-variants.{Is as MergeIs, Broken as MergeBroken}
+use Rattle.journal.specs.declared.judging.Judged.the-variants.{Obey, Refused as Judged-bad}
 use Rattle.journal.specs.declared.merge_line.MergeLine.{MergeLine}
 use Rattle.journal.specs.declared.obeying.Verdict.the-variants.{Fine, Refused}
-use Rattle.journal.specs.LineForms.{merge-of-line}
-use Rattle.journal.specs.Obeying.{refused, obeyed-merge, obeyed-form, obeyed-line, obeyed-header}
-use Rattle.journal.specs.code.Obeys.{came-to}
+use Rattle.journal.specs.Obeying.{Obeyed, went, refused, judged-line, obeyed-as, obeyed-next, obeyed-header}
+use Rattle.journal.specs.code.Sized.{Sized}
+use Rattle.journal.specs.code.Obeys.{came-to, Obeys}
+use Rattle.journal.proofs.LineJudged.{says-next}
 
-module _ (entities steps : ℕ) (terms : List (List ℕ)) (rows : List ℕ) (run : Run) (holds : Holds entities steps terms rows run)
-    (line : ℕ) (bytes : List ℕ) where
-  pub after-last : run .modes ≤ run .step
-      → refused (LineAfterLast line) ≡ obeyed-line (run .modes) terms (history-of run) line bytes
-  unfolding obeyed-line
-  after-last h = rw (merges-so-far entities steps terms rows run holds, le-ltb _ _ h)
+module _ (job : Job) (rows : List ℕ) (run : Run) (holds : Holds job rows run) where
+  -- A refusal leaves the run as it is.
+  pub refuses : (why : Refusal) (answer : Obeyed) → refused why ≡ answer → Obeys job answer rows rows (record { verdict = Refused why; run = run })
+  unfolding came-to
+  refuses why answer e = record { comes-to = e; went = went-nowhere job rows run holds }
 
-  module _ (left : run .step < run .modes) where
-    pub line-broken : merge-of-line bytes ≡ MergeBroken
-        → refused (LineForm line) ≡ obeyed-line (run .modes) terms (history-of run) line bytes
-    unfolding obeyed-line obeyed-form
-    line-broken e = rw (merges-so-far entities steps terms rows run holds, lt-ltb _ _ left, e)
+  -- So does nothing to obey.
+  pub stays : (answer : Obeyed) → went (history-of run) ≡ answer → Obeys job answer rows rows (record { verdict = Fine; run = run })
+  unfolding came-to
+  stays answer e = record { comes-to = e; went = went-nowhere job rows run holds }
 
-    pub line-says : (said : MergeLine) → merge-of-line bytes ≡ MergeIs said
-        → obeyed-merge (run .modes) terms (history-of run) line said ≡ obeyed-line (run .modes) terms (history-of run) line bytes
-    unfolding obeyed-line obeyed-form
-    line-says said e = rw (merges-so-far entities steps terms rows run holds, lt-ltb _ _ left, e)
+  module _ (line : ℕ) (bytes : List ℕ) where
+    pub line-refused : (why : Refusal) → Judged-bad why ≡ judged-line job (history-of run) line bytes
+        → Obeys job (obeyed-next job line bytes (went (history-of run))) rows rows (record { verdict = Refused why; run = run })
+    unfolding obeyed-next obeyed-as
+    line-refused why e = refuses why (obeyed-next job line bytes (went (history-of run))) (rw (← e))
 
-module _ (modes live : ℕ) (run : Run) where
-  pub header-broken : (found : Header) → found ≡ HeaderBroken
-      → came-to (Refused (LineForm 0)) run ≡ obeyed-header modes live found
+    module _ (said : MergeLine) (judged : Obey said ≡ judged-line job (history-of run) line bytes) where
+      pub line-ready : Ready job rows run (said .triple) (said .weight)
+      line-ready =
+          let next = says-next job (history-of run) line said bytes (sym judged) in
+          ready job rows run holds (said .triple) (said .weight) (next .left) (next .lawful) (next .weight-is)
+
+      pub line-made : (after : Run) (now-rows : List ℕ) → Went job (said .triple ∷ history-of run) rows after now-rows
+          → Obeys job (obeyed-next job line bytes (went (history-of run))) rows now-rows (record { verdict = Fine; run = after })
+      unfolding came-to obeyed-next obeyed-as
+      line-made after now-rows gone =
+          record { comes-to = rw (← judged) (ap went (gone .merges)); went = went-here job _ after rows now-rows gone }
+
+module _ (job : Job) (modes count : ℕ) (sized : Sized job modes count) (run : Run) where
+  pub header-broken : (found : Header) → found ≡ HeaderBroken → came-to (Refused (LineForm 0)) run ≡ obeyed-header job found
   unfolding came-to obeyed-header
   header-broken found e = rw e
 
   module _ (n t : ℕ) (found : Header) (says : found ≡ HeaderIs n t) where
-    pub other-modes : (n ≡ modes → ⊥) → came-to (Refused OtherHeader) run ≡ obeyed-header modes live found
+    pub other-modes : (n ≡ modes → ⊥) → came-to (Refused OtherHeader) run ≡ obeyed-header job found
     unfolding came-to obeyed-header
-    other-modes other = rw (says, ne-eqb _ _ other)
+    other-modes other = rw (says, sized .modes-are, ne-eqb _ _ other)
 
-    pub other-terms : n ≡ modes → (t ≡ live → ⊥) → came-to (Refused OtherHeader) run ≡ obeyed-header modes live found
-    unfolding came-to obeyed-header
-    other-terms e other = rw (says, eq-eqb _ _ e, ne-eqb _ _ other)
+    module _ (same : n ≡ modes) where
+      pub other-terms : (t ≡ count → ⊥) → came-to (Refused OtherHeader) run ≡ obeyed-header job found
+      unfolding came-to obeyed-header
+      other-terms other = rw (says, sized .modes-are, eq-eqb _ _ same, sized .count-is, ne-eqb _ _ other)
 
-    pub same-header : n ≡ modes → t ≡ live → run .step ≡ 0 → came-to Fine run ≡ obeyed-header modes live found
-    unfolding came-to obeyed-header recorded
-    same-header e f none = rw (says, eq-eqb _ _ e, eq-eqb _ _ f, none)
+      pub same-header : t ≡ count → history-of run ≡ [] → came-to Fine run ≡ obeyed-header job found
+      unfolding came-to obeyed-header
+      same-header counted none-yet = rw (says, sized .modes-are, eq-eqb _ _ same, sized .count-is, eq-eqb _ _ counted) (ap went none-yet)

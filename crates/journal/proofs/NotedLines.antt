@@ -1,100 +1,114 @@
--- The lines that a finished run has noted behind a history are those of the greedy steps from there.
+-- The lines of the merges that a finished run has made behind a history are those of the greedy steps from there.
 use mathlib.Core.Path.{_≡_, refl, ap, _∙_, sym}
 use mathlib.Core.List.{List, [], _∷_, _++_, flatMap, append-nil}
 use Prim.Native.Nat.{ℕ, zero, suc, _+_, _-_, _<_, _≤_}
 use native.Mathlib.Omega.{arith}
 use borrow.Author.Tests.{eq-eqb, ne-eqb}
-use lib.ListN.{length, getD, drop}
+use lib.ListN.{length, length-drop, length-append}
 use Rattle.lists.specs.Ranges.{listed}
 use Rattle.lists.proofs.Joined.{flatMap-joined}
 use Rattle.lists.proofs.Listed.{listed-more}
 use Rattle.entities.specs.declared.Triple.{Triple}
+use Rattle.terms.specs.Job.{Job}
 use Rattle.merging.specs.declared.run.Run.{Run}
-use Rattle.merging.specs.Choice.{chosen}
-use Rattle.merging.specs.code.Recorded.{merge-at, recorded}
+use Rattle.merging.specs.History.{merge-of, history-before}
+use Rattle.merging.specs.Choice.{weight-in, chosen}
 use Rattle.merging.specs.Run.{greedy, finished}
-use Rattle.merging.specs.code.State.{history-of, Holds}
-use Rattle.merging.proofs.Recording.{length-recorded}
-use Rattle.journal.specs.LineForms.{header-text}
-use Rattle.journal.specs.Writing.{line-of, greedy-lines, new-text}
-use Rattle.journal.specs.code.NewLines.{noted-line, noted-text, first-text, all-noted}
-use Rattle.journal.proofs.GreedyLines.{greedy-more, greedy-lines-more}
+use Rattle.merging.specs.code.State.{history-of}
+use Rattle.merging.proofs.Runs.{merges-within}
+use Rattle.merging.proofs.RunLawful.{greedy-length}
+use Rattle.merging.proofs.GreedySteps.{before-step, step-chosen}
+use Rattle.journal.specs.LineForms.{header-text, merge-text}
+use Rattle.journal.specs.Writing.{line-of, greedy-lines, header-behind, new-text}
+use Rattle.journal.specs.code.NewLines.{noted-line, noted-text, noted-from, StepsFit, Ended}
+use Rattle.journal.proofs.GreedyLines.{greedy-lines-more}
 
-pub no-header : (modes count kept : ℕ) → (kept ≡ 0 → ⊥) → first-text modes count kept ≡ []
-unfolding first-text
-no-header modes count kept some = rw (ne-eqb kept 0 some)
+module _ (job : Job) where
+  pub no-header : (kept : ℕ) → (kept ≡ 0 → ⊥) → header-behind job kept ≡ []
+  unfolding header-behind
+  no-header kept some = rw (ne-eqb kept 0 some)
 
-pub header-first : (modes count kept : ℕ) → kept ≡ 0 → first-text modes count kept ≡ header-text modes count
-unfolding first-text
-header-first modes count kept none-kept = rw (eq-eqb kept 0 none-kept)
+  pub header-first : (kept : ℕ) → kept ≡ 0 → header-behind job kept ≡ header-text (job .modes) (length (job .terms))
+  unfolding header-behind
+  header-first kept none-kept = rw (eq-eqb kept 0 none-kept)
 
-pub noted-none : (run : Run) (from : ℕ) → noted-text run from 0 ≡ []
-unfolding noted-text listed flatMap
-noted-none run from = refl
+  pub noted-none : (history : List Triple) (from : ℕ) → noted-text job history from 0 ≡ []
+  unfolding noted-text listed flatMap
+  noted-none history from = refl
 
-pub noted-more : (run : Run) (from count : ℕ) → noted-text run from (count + 1) ≡ noted-text run from count ++ noted-line run (from + count)
-unfolding noted-text flatMap
-noted-more run from count =
-    ap (flatMap (λ line. line)) (listed-more (noted-line run) from count)
-    ∙ flatMap-joined (λ line. line) (listed (noted-line run) from count) (noted-line run (from + count) ∷ [])
-    ∙ ap (λ l. noted-text run from count ++ l) (append-nil (noted-line run (from + count)))
+  pub noted-more : (history : List Triple) (from count : ℕ)
+      → noted-text job history from (count + 1) ≡ noted-text job history from count ++ noted-line job history (from + count)
+  unfolding noted-text flatMap
+  noted-more history from count =
+      ap (flatMap (λ line. line)) (listed-more (noted-line job history) from count)
+      ∙ flatMap-joined (λ line. line) (listed (noted-line job history) from count) (noted-line job history (from + count) ∷ [])
+      ∙ ap (λ l. noted-text job history from count ++ l) (append-nil (noted-line job history (from + count)))
 
--- The tables hold the merges of a run that went on from a history by the greedy rule.
-module _ (entities steps : ℕ) (terms : List (List ℕ)) (rows : List ℕ) (run : Run) (holds : Holds entities steps terms rows run)
-    (history : List Triple) where
-  abbrev merges : ℕ → List Triple
-  merges step = recorded (run .xs) (run .ys) (run .zs) step
+-- The line of a step, of the merge and the weight that the run has for it.
+pub noted-as : (job : Job) (history : List Triple) (step : ℕ) (triple : Triple) (weight : ℕ) → step < length history
+    → triple ≡ merge-of history step → weight ≡ weight-in job (history-before history step) (merge-of history step)
+    → merge-text step triple weight ≡ noted-line job history step
+unfolding noted-line line-of
+noted-as job history step triple weight made merges weighs =
+    let size : length (history-before history step) ≡ step = omega (arith, length-drop (length history - step) history) in
+    rw (size, merges, weighs)
 
-  -- The last merge and those before it, after one greedy step more.
-  module _ (j : ℕ) (same : merges (length history + suc j) ≡ greedy (run .modes) terms (suc j) history) where
-    abbrev so-far : List Triple
-    so-far = greedy (run .modes) terms j history
+-- The merges of a run that went so many greedy steps from a history.
+module _ (job : Job) (history : List Triple) (steps : ℕ) where
+  abbrev all : List Triple
+  all = greedy job steps history
 
-    both : merge-at (run .xs) (run .ys) (run .zs) (length history + j) ∷ merges (length history + j)
-        ≡ chosen (run .modes) terms so-far ∷ so-far
-    unfolding recorded
-    both =
-        let e : suc (length history + j) ≡ length history + suc j = omega arith in
-        ap merges e ∙ same ∙ greedy-more (run .modes) terms j history
+  line-there : (i : ℕ) → i < steps
+      → noted-line job all (length history + i) ≡ line-of job (greedy job i history) (chosen job (greedy job i history))
+  unfolding noted-line
+  line-there i h = rw (before-step job steps history i (omega arith), step-chosen job steps history i h)
 
-    last-chosen : merge-at (run .xs) (run .ys) (run .zs) (length history + j) ≡ chosen (run .modes) terms so-far
-    last-chosen = ap (λ l. getD l 0 (record { x = 0; y = 0; z = 0 })) both
-
-    before-it : merges (length history + j) ≡ so-far
-    before-it = ap (drop 1) both
-
-    last-line : length history + j < run .step
-        → noted-line run (length history + j) ≡ line-of (run .modes) terms so-far (chosen (run .modes) terms so-far)
-    unfolding noted-line line-of
-    last-line h =
-        let size : length history + j ≡ length so-far =
-        sym (length-recorded (run .xs) (run .ys) (run .zs) (length history + j)) ∙ ap length before-it in
-        rw (holds .weights-are (length history + j) h) (rw (last-chosen, before-it) (rw size))
-
-  -- After so many greedy steps.
-  none-listed : listed (noted-line run) (length history) 0 ≡ greedy-lines (run .modes) terms 0 history
+  none-listed : listed (noted-line job all) (length history) 0 ≡ greedy-lines job 0 history
   unfolding listed greedy-lines
   none-listed = refl
 
-  noted-greedy : (j : ℕ) → length history + j ≤ run .step → merges (length history + j) ≡ greedy (run .modes) terms j history
-      → listed (noted-line run) (length history) j ≡ greedy-lines (run .modes) terms j history
-  noted-greedy zero h same = none-listed
-  noted-greedy (suc j) h same =
-      let e : suc j ≡ j + 1 = omega arith in
-      ap (listed (noted-line run) (length history)) e
-      ∙ listed-more (noted-line run) (length history) j
-      ∙ ap2 (noted-greedy j (omega arith) (before-it j same)) (last-line j same (omega arith))
-      ∙ sym (greedy-lines-more (run .modes) terms j history)
+  noted-greedy : (i : ℕ) → i ≤ steps → listed (noted-line job all) (length history) i ≡ greedy-lines job i history
+  noted-greedy zero h = none-listed
+  noted-greedy (suc i) h =
+      let e : suc i ≡ i + 1 = omega arith in
+      ap (listed (noted-line job all) (length history)) e
+      ∙ listed-more (noted-line job all) (length history) i
+      ∙ ap2 (noted-greedy i (omega arith)) (line-there i h)
+      ∙ sym (greedy-lines-more job i history)
     where
       ap2 : {a b : List (List ℕ)} {c d : List ℕ} → a ≡ b → c ≡ d → a ++ (c ∷ []) ≡ b ++ (d ∷ [])
       ap2 p q = rw (p, q)
 
-  -- All steps.
-  pub noted-all : (count kept : ℕ) → length history ≤ run .modes → run .step ≡ run .modes
-      → history-of run ≡ finished (run .modes) terms history
-      → all-noted run (length history) count kept ≡ new-text (run .modes) count terms kept history
-  unfolding all-noted new-text first-text noted-text finished
-  noted-all count kept within all same =
-      let e : length history + (run .modes - length history) ≡ run .step = omega arith in
-      ap (λ l. first-text (run .modes) count kept ++ flatMap (λ line. line) l)
-      (noted-greedy (run .modes - length history) (omega arith) (ap merges e ∙ same))
+-- All steps.
+pub noted-all : (job : Job) (history : List Triple) (kept : ℕ)
+    → header-behind job kept ++ noted-from job (finished job history) (length history) ≡ new-text job kept history
+unfolding new-text noted-text finished
+noted-all job history kept =
+    let steps = job .modes - length history in
+    let e : length (greedy job steps history) - length history ≡ steps = omega (arith, greedy-length job steps history) in
+    rw e (ap (λ l. header-behind job kept ++ flatMap (λ line. line) l) (noted-greedy job history steps steps (omega arith)))
+
+-- A run at its end, with room for all that it writes.
+module _ (job : Job) (history : List Triple) (modes count from : ℕ) (run : Run) (ended : Ended job history modes count from run) (kept : ℕ) where
+  pub ended-text : header-behind job kept ++ noted-from job (history-of run) from ≡ new-text job kept history
+  ended-text = rw (ended .merges, ← ended .from-is) (noted-all job history kept)
+
+  all-merges : length (history-of run) ≡ from + (job .modes - from)
+  unfolding finished
+  all-merges = rw (ended .merges, ← ended .from-is) (greedy-length job (job .modes - length history) history)
+
+  module _ (room : ℕ) (fits : length (new-text job kept history) ≤ room) where
+    whole-length : length (header-behind job kept) + length (noted-from job (history-of run) from) ≤ room
+    whole-length = omega (arith, ap length ended-text, length-append (header-behind job kept) (noted-from job (history-of run) from))
+
+    pub header-fits : length (header-behind job kept) ≤ room
+    header-fits = omega (arith, whole-length)
+
+    pub steps-fit : modes < 65536 → (at : ℕ) → at ≡ length (header-behind job kept) → StepsFit job (ended .own) run from at room
+    steps-fit small at e =
+        record {
+          holds = ended .holds;
+          begun = omega (arith, all-merges);
+          small = omega (arith, merges-within job (ended .own) run (ended .holds), ended .sized .modes-are);
+          fits = omega (arith, whole-length);
+        }

@@ -8,32 +8,32 @@ use Rattle.lists.proofs.Every.{every-at}
 use Rattle.entities.specs.declared.Triple.{Triple}
 use Rattle.fields.specs.Lines.{lines, is-line}
 use Rattle.fields.proofs.LinesJoined.{lines-are-lines, line-ends}
+use Rattle.terms.specs.Job.{Job}
+use Rattle.merging.specs.History.{merge-of, history-before}
 use Rattle.merging.specs.Choice.{weight-in}
-use Rattle.merging.specs.Flatpack.{merge-of}
 use Rattle.journal.specs.LineForms.{header-text}
 use Rattle.journal.specs.Obeying.{went, obeyed}
 use Rattle.journal.specs.Writing.{line-of}
-use Rattle.journal.specs.Obedience.{history-before}
 use Rattle.journal.proofs.LineRead.{header-written, merge-written}
 use Rattle.journal.proofs.Obedience.{obedient}
 
-module _ (modes count : ℕ) (terms : List (List ℕ)) (bytes : List ℕ) (history : List Triple) (e : obeyed modes count terms bytes ≡ went history) where
+module _ (job : Job) (bytes : List ℕ) (history : List Triple) (e : obeyed job bytes ≡ went history) where
   ends-well : (i : ℕ) → i < length (lines bytes) → getD (getD (lines bytes) i []) (length (getD (lines bytes) i []) - 1) 0 ≡ 10
   ends-well i h = line-ends (getD (lines bytes) i []) (every-at is-line (lines bytes) i [] h (lines-are-lines bytes))
 
-  pub header-stands : 0 < length (lines bytes) → getD (lines bytes) 0 [] ≡ header-text modes count
+  pub header-stands : 0 < length (lines bytes) → getD (lines bytes) 0 [] ≡ header-text (job .modes) (length (job .terms))
   header-stands some =
-      header-written (getD (lines bytes) 0 []) modes count (obedient modes count terms bytes history e .header some) (ends-well 0 some)
+      header-written (getD (lines bytes) 0 []) (job .modes) (length (job .terms)) (obedient job bytes history e .header some) (ends-well 0 some)
 
   pub merge-stands : (i : ℕ) → i < length history
-      → getD (lines bytes) (suc i) [] ≡ line-of modes terms (history-before history i) (merge-of history i)
+      → getD (lines bytes) (suc i) [] ≡ line-of job (history-before history i) (merge-of history i)
   unfolding line-of
   merge-stands i h =
-      let says = obedient modes count terms bytes history e in
+      let says = obedient job bytes history e in
       let merge = merge-of history i in
       let before = history-before history i in
       let step : length before ≡ i = omega (arith, length-drop (length history - i) history) in
       rw step
       (merge-written (getD (lines bytes) (suc i) [])
-      (record { step = i; triple = merge; weight = weight-in modes terms before merge }) (says .says i h)
+      (record { step = i; triple = merge; weight = weight-in job before merge }) (says .says i h)
       (ends-well (suc i) (omega (arith, says .a-line-each))))

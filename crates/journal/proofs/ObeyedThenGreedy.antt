@@ -1,30 +1,82 @@
--- Obedience: a call that is done obeyed its journal's lines in order, and the greedy rule went on from there.
-use mathlib.Core.Path.{_≡_, ap, _∙_}
-use mathlib.Core.List.{List}
-use Prim.Native.Nat.{ℕ, _-_}
+-- Demands 2 and 3: a call that is done obeyed its journal's lines in order, and the greedy rule went on from there to n merges.
+use mathlib.Core.Path.{_≡_, refl, ap, _∙_, sym}
+use mathlib.Core.List.{List, _++_, flatMap}
+use Prim.Native.Nat.{ℕ, zero, suc, _-_, _≤_}
 use native.Mathlib.Omega.{arith}
+use borrow.Author.Tests.{leb-true}
+use lib.Dec.{leb}
 use lib.ListN.{length}
-use Rattle.terms.specs.Rows.{terms-of}
+use Rattle.lists.specs.Ranges.{listed}
+use Rattle.lists.proofs.Tests.{both}
+use Rattle.entities.specs.declared.Triple.{Triple}
+use Rattle.fields.specs.Lines.{lines, kept-of}
+use Rattle.terms.specs.Job.{Job, job-of}
+use Rattle.terms.specs.Good.{modes-good, checked}
+use Rattle.terms.specs.declared.checking.Checked.the-variants.{Good}
+use Rattle.merging.specs.History.{merge-of, history-before}
+use Rattle.merging.specs.Run.{finished}
+use Rattle.merging.proofs.RunLawful.{finished-length}
+use Rattle.merging.proofs.RunsOn.{runs-on}
 use Rattle.merging.proofs.TrialTotals.{trials-total}
-use Rattle.journal.specs.Resuming.{Ending, done, ending, resumed}
-use Rattle.journal.specs.Obedience.{ObeyedThenGreedy}
+use Rattle.journal.specs.Obeying.{went, obeyed}
+use Rattle.journal.specs.Writing.{line-of, header-behind, new-text}
+use Rattle.journal.specs.Resuming.{Ending, ending}
+use Rattle.journal.specs.Obedience.{Obedient, ObeyedThenGreedy, EveryCall}
+use Rattle.journal.specs.code.NewLines.{noted-line, noted-text}
 use Rattle.journal.proofs.Obedience.{obedient}
 use Rattle.journal.proofs.CallDone.{call-done}
+use Rattle.journal.proofs.NotedLines.{noted-all}
 
-pub obeyed-then-greedy : (most modes : ℕ) (numbers bytes : List ℕ) (work rows journal : ℕ) (part : Ending)
-    → resumed most modes numbers bytes work rows journal ≡ done part → ObeyedThenGreedy modes numbers bytes part
-unfolding ending
-obeyed-then-greedy most modes numbers bytes work rows journal part says =
-    let known = call-done most modes numbers bytes work rows journal part says in
-    let terms = terms-of 8 (known .count) numbers in
-    let obeys = obedient modes (known .count) terms bytes (known .history) (known .obeys) in
-    record {
-      count = known .count;
-      terms-good = known .terms-are;
-      history = known .history;
-      obedient = obeys;
-      then-greedy = known .ends;
-      trials-left =
-          ap (λ e. e .trials) (known .ends)
-          ∙ trials-total modes terms (modes - length (known .history)) (known .history) (obeys .lawful) (omega (arith, obeys .within));
-    }
+joined-lines : (line : ℕ → List ℕ) (from count : ℕ)
+    → flatMap (λ text. text) (listed line from count) ≡ flatMap line (listed (λ step. step) from count)
+unfolding flatMap listed
+joined-lines line from zero = refl
+joined-lines line from (suc count) = ap (λ l. line from ++ l) (joined-lines line (suc from) count)
+
+-- The end of a run from the merges that a journal says.
+module _ (modes count : ℕ) (numbers bytes : List ℕ) (good : checked modes numbers ≡ Good count) (some : 1 ≤ modes) (history : List Triple)
+    (obeys : obeyed (job-of modes count numbers) bytes ≡ went history) where
+  abbrev job : Job
+  job = job-of modes count numbers
+
+  told : Obedient job (lines bytes) history
+  told = obedient job bytes history obeys
+
+  new-lines : new-text job (length (kept-of bytes)) history
+      ≡ header-behind job (length (kept-of bytes))
+      ++ flatMap (λ step. line-of job (history-before (finished job history) step) (merge-of (finished job history) step))
+      (listed (λ step. step) (length history) (modes - length history))
+  unfolding noted-text noted-line
+  new-lines =
+      let header = header-behind job (length (kept-of bytes)) in
+      let merges = finished job history in
+      sym (noted-all job history (length (kept-of bytes)))
+      ∙ ap (λ n. header ++ noted-text job merges (length history) (n - length history)) (finished-length job history (told .lawful) (told .within))
+      ∙ ap (λ l. header ++ l) (joined-lines (noted-line job merges) (length history) (modes - length history))
+
+  pub ending-told : ObeyedThenGreedy modes numbers bytes (ending job bytes history)
+  unfolding ending
+  ending-told =
+      record {
+        count = count;
+        terms-good = good;
+        history = history;
+        obedient = told;
+        merges = finished job history;
+        runs = runs-on job history (told .lawful) (told .within) some;
+        rows-are = refl;
+        weight-is = refl;
+        trials-left = trials-total job (modes - length history) history (told .lawful) (omega (arith, told .within));
+        kept-is = refl;
+        new-is = new-lines;
+      }
+
+pub obeyed-then-greedy : EveryCall
+unfolding modes-good
+obeyed-then-greedy rooms modes numbers bytes part says =
+    let known = call-done rooms modes numbers bytes part says in
+    let some = leb-true 1 modes (both (leb 1 modes) (leb modes (rooms .modes)) (known .modes-are) .0) in
+    let whole = ending-told modes (known .count) numbers bytes (known .terms-are) some (known .history) (known .obeys) in
+    let as-ended : (p : Ending) → p ≡ ending (job-of modes (known .count) numbers) bytes (known .history) → ObeyedThenGreedy modes numbers bytes p =
+    λ p e. rw e whole in
+    as-ended part (known .ends)

@@ -1,17 +1,42 @@
 -- "The journal of an unbroken run, cut before or after any byte and resumed with the same modes and terms, ends in the same rows and weight, and kept bytes followed by new ones are the unbroken journal."
 use mathlib.Core.Path.{_≡_}
+use mathlib.Core.Bool.{true}
 use mathlib.Core.List.{List, _++_}
-use Prim.Native.Nat.{ℕ, _-_}
+use Prim.Native.Nat.{ℕ, _*_, _≤_}
 use lib.ListN.{length, take}
-use Rattle.fields.specs.Lines.{lines}
-use Rattle.merging.specs.Trials.{trial-total}
-use Rattle.journal.specs.Resuming.{Ending, done, resumed}
+use Rattle.fields.specs.Lines.{kept-of}
+use Rattle.terms.specs.Good.{modes-good}
+use Rattle.journal.specs.Resuming.{Ending, done, Rooms, roomy, resumed, hatt-run}
+use Rattle.journal.specs.Obedience.{ObeyedThenGreedy}
 
--- What resuming from so many bytes of an unbroken run's journal comes to.
-pub record ResumesCut (most modes : ℕ) (numbers : List ℕ) (work rows journal : ℕ) (whole : Ending) (k : ℕ) : Type 0 where
-  pub part : Ending
-  pub resumes : resumed most modes numbers (take k (whole .new)) work rows journal ≡ done part
-  pub same-rows : part .rows ≡ whole .rows
-  pub same-weight : part .weight ≡ whole .weight
-  pub same-bytes : take (part .kept) (whole .new) ++ part .new ≡ whole .new
-  pub trials-left : part .trials ≡ trial-total (modes - (length (lines (take k (whole .new))) - 1))
+-- The journal that a call leaves: "kept bytes (through the last LF)" of what it read, followed by the new ones.
+unfoldable pub journal-of : List ℕ → Ending → List ℕ
+journal-of bytes part = kept-of bytes ++ part .new
+
+-- Resuming from the first bytes of a journal comes to the end that the journal had.
+pub record ResumesCut (rooms : Rooms) (modes : ℕ) (numbers journal : List ℕ) (part : Ending) (cut : ℕ) : Type 0 where
+  pub again : Ending
+  pub resumes : resumed rooms modes numbers (take cut journal) ≡ done again
+  pub same-rows : again .rows ≡ part .rows
+  pub same-weight : again .weight ≡ part .weight
+  pub same-journal : journal-of (take cut journal) again ≡ journal
+  pub told : ObeyedThenGreedy modes numbers (take cut journal) again
+
+-- Rooms that suffice for a call.
+pub record Suffice (rooms : Rooms) (modes : ℕ) (part : Ending) : Type 0 where
+  pub modes-taken : modes-good (rooms .modes) modes ≡ true
+  pub room : roomy rooms modes (part .count) ≡ true
+  pub numbers-fit : 3 * rooms .modes ≤ 65535
+
+-- Demand 3, of every call that is done: its journal, cut after any byte that isn't before the end of what it kept.
+abbrev pub JournalsResume : Type 0
+JournalsResume =
+    (rooms other : Rooms) (modes : ℕ) (numbers bytes : List ℕ) (part : Ending)
+    → resumed rooms modes numbers bytes ≡ done part → Suffice other modes part
+    → (cut : ℕ) → length (kept-of bytes) ≤ cut → ResumesCut other modes numbers (journal-of bytes part) part cut
+
+-- Of an unbroken run: its journal, cut after any byte.
+abbrev pub UnbrokenResume : Type 0
+UnbrokenResume =
+    (rooms other : Rooms) (modes : ℕ) (numbers : List ℕ) (whole : Ending)
+    → hatt-run rooms modes numbers ≡ done whole → Suffice other modes whole → (cut : ℕ) → ResumesCut other modes numbers (whole .new) whole cut

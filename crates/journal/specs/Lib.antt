@@ -4,6 +4,6 @@ pub mod Obeying
 pub mod Writing
 pub mod Resuming
 pub mod Promises
-pub mod CutAndResumed
 pub mod Obedience
+pub mod CutAndResumed
 pub mod code

@@ -1,46 +1,61 @@
 -- "From any other accepted journal the lines are obeyed in order and the greedy rule goes on. The trials reported are exactly the lawful pairs of the steps not kept."
 use mathlib.Core.Path.{_≡_}
-use mathlib.Core.List.{List, []}
+use mathlib.Core.List.{List, [], _++_, flatMap}
 use Prim.Native.Nat.{ℕ, suc, _-_, _<_, _≤_}
-use lib.ListN.{length, getD, drop}
+use lib.ListN.{length, getD}
+use Rattle.lists.specs.Ranges.{listed}
 use Rattle.entities.specs.declared.Triple.{Triple}
-use Rattle.fields.specs.Lines.{lines}
-use Rattle.terms.specs.Rows.{terms-of}
+use Rattle.fields.specs.Lines.{lines, kept-of}
+use Rattle.terms.specs.Job.{Job, job-of}
 use Rattle.terms.specs.Good.{checked}
 use Rattle.terms.specs.declared.checking.Checked.the-variants.{Good}
+use Rattle.merging.specs.History.{merge-of, history-before}
 use Rattle.merging.specs.Lawful.{LawfulHistory}
 use Rattle.merging.specs.Choice.{weight-in}
-use Rattle.merging.specs.Flatpack.{merge-of}
+use Rattle.merging.specs.Run.{run-weight, RunsFrom}
+use Rattle.merging.specs.Flatpack.{flatpack}
 use Rattle.merging.specs.Trials.{trial-total}
 use Rattle.journal.specs.declared.header.Header.the-variants.{Is as HeaderIs}
 use Rattle.journal.specs.declared.merge_line.Merge.the-variants.{Is as MergeIs}
 use Rattle.journal.specs.LineForms.{header-of, merge-of-line}
-use Rattle.journal.specs.Resuming.{Ending, ending}
-
--- The merges before the i-th, counted from the oldest.
-abbrev pub history-before : List Triple → ℕ → List Triple
-history-before history i = drop (length history - i) history
+use Rattle.journal.specs.Writing.{line-of, header-behind}
+use Rattle.journal.specs.Resuming.{Ending, done, Rooms, resumed}
 
 -- Lines that were obeyed to a history: no line at all and no merge, or a header and a line for each merge.
-pub record Obedient (modes count : ℕ) (terms : List (List ℕ)) (texts : List (List ℕ)) (history : List Triple) : Type 0 where
-  pub lawful : LawfulHistory modes history
-  pub within : length history ≤ modes
+pub record Obedient (job : Job) (texts : List (List ℕ)) (history : List Triple) : Type 0 where
+  pub lawful : LawfulHistory (job .modes) history
+  pub within : length history ≤ job .modes
   pub a-line-each : length history ≡ length texts - 1
-  pub header : 0 < length texts → header-of (getD texts 0 []) ≡ HeaderIs modes count
+  pub header : 0 < length texts → header-of (getD texts 0 []) ≡ HeaderIs (job .modes) (length (job .terms))
   pub says : (i : ℕ) → i < length history
       → merge-of-line (getD texts (suc i) [])
       ≡ MergeIs
       (record {
         step = i;
         triple = merge-of history i;
-        weight = weight-in modes terms (history-before history i) (merge-of history i);
+        weight = weight-in job (history-before history i) (merge-of history i);
       })
 
--- A call that is done obeyed its journal's lines and went on by the greedy rule from the merges that they say.
+-- A call that is done: the merges that its journal's lines say, n merges in all that begin with those and go on by the greedy rule, and
+-- every number, row and byte of its answer read off them.
 pub record ObeyedThenGreedy (modes : ℕ) (numbers bytes : List ℕ) (part : Ending) : Type 0 where
   pub count : ℕ
   pub terms-good : checked modes numbers ≡ Good count
   pub history : List Triple
-  pub obedient : Obedient modes count (terms-of 8 count numbers) (lines bytes) history
-  pub then-greedy : part ≡ ending modes count (terms-of 8 count numbers) bytes history
+  pub obedient : Obedient (job-of modes count numbers) (lines bytes) history
+  pub merges : List Triple
+  pub runs : RunsFrom (job-of modes count numbers) history merges (part .trials)
+  pub rows-are : part .rows ≡ flatpack modes merges
+  pub weight-is : part .weight ≡ run-weight (job-of modes count numbers) merges
   pub trials-left : part .trials ≡ trial-total (modes - length history)
+  pub kept-is : part .kept ≡ length (kept-of bytes)
+  pub new-is : part .new
+      ≡ header-behind (job-of modes count numbers) (part .kept)
+      ++ flatMap (λ step. line-of (job-of modes count numbers) (history-before merges step) (merge-of merges step))
+      (listed (λ step. step) (length history) (modes - length history))
+
+-- Demands 2 and 3: every call that is done is such a call.
+abbrev pub EveryCall : Type 0
+EveryCall =
+    (rooms : Rooms) (modes : ℕ) (numbers bytes : List ℕ) (part : Ending)
+    → resumed rooms modes numbers bytes ≡ done part → ObeyedThenGreedy modes numbers bytes part

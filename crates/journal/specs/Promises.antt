@@ -4,15 +4,20 @@ use mathlib.Core.List.{List, [], _∷_}
 use Prim.Native.Nat.{ℕ, _*_}
 use lib.ListN.{length, replicate}
 use Rattle.lists.specs.Written.{written-at}
-use Rattle.refusal.specs.Numbers.{numberOf, placeOf}
+use Rattle.refusal.specs.Numbers.{refused-numbers, done-numbers}
 use Rattle.journal.specs.declared.resuming.Answer.{Answer}
 use Rattle.journal.specs.declared.resuming.Answer.the-variants.{Done, Refused as Refuses}
-use Rattle.journal.specs.Resuming.{Outcome, done, refuses}
+use Rattle.journal.specs.Resuming.{Outcome, done, refuses, Rooms}
 
--- "Each returns its number and a place, zeros elsewhere": refusal, place, weight, trials, kept and new bytes.
-abbrev pub numbers-of : Answer → List ℕ
-numbers-of (Done numbers) = 0 ∷ (0 ∷ (numbers .weight ∷ (numbers .trials ∷ (numbers .kept ∷ (numbers .new ∷ [])))))
-numbers-of (Refuses refusal) = numberOf refusal ∷ (placeOf refusal ∷ (0 ∷ (0 ∷ (0 ∷ (0 ∷ [])))))
+-- The numbers of an answer: refusal, place, weight, trials, kept and new bytes.
+unfoldable pub numbers-of : Answer → List ℕ
+numbers-of (Done numbers) = done-numbers (numbers .weight ∷ (numbers .trials ∷ (numbers .kept ∷ (numbers .new ∷ []))))
+numbers-of (Refuses refusal) = refused-numbers 4 refusal
+
+-- "Resuming returns rows, weight, trials, kept bytes (through the last LF) and new bytes"; a refusal "its number and a place, zeros elsewhere".
+unfoldable pub told-numbers : Outcome → List ℕ
+told-numbers (done ending) = done-numbers (ending .weight ∷ (ending .trials ∷ (ending .kept ∷ (length (ending .new) ∷ []))))
+told-numbers (refuses refusal) = refused-numbers 4 refusal
 
 -- What the call returns.
 unfoldable pub returned : Outcome → Answer
@@ -20,24 +25,32 @@ returned (done ending) =
     Done (record { weight = ending .weight; trials = ending .trials; kept = ending .kept; new = length (ending .new) })
 returned (refuses refusal) = Refuses refusal
 
--- "On success work's first 8T numbers are zero"; a refusal "alters nothing".
-unfoldable pub work-then : Outcome → List ℕ → List ℕ
-work-then (done ending) work = written-at 0 (replicate (8 * ending .count) 0) work
-work-then (refuses refusal) work = work
+-- What is lent to a call: every element of work, rows and journal.
+pub record Lent : Type 0 where
+  pub work : List ℕ
+  pub rows : List ℕ
+  pub journal : List ℕ
 
--- "outputs beyond the written front stay".
-unfoldable pub rows-then : Outcome → List ℕ → List ℕ
-rows-then (done ending) rows = written-at 0 (ending .rows) rows
-rows-then (refuses refusal) rows = rows
+abbrev pub lent : List ℕ → List ℕ → List ℕ → Lent
+lent work rows journal = record { work = work; rows = rows; journal = journal }
 
--- "its front then holds the new lines".
-unfoldable pub journal-then : Outcome → List ℕ → List ℕ
-journal-then (done ending) journal = written-at 0 (ending .new) journal
-journal-then (refuses refusal) journal = journal
+-- The rooms of what is lent, to a call that takes so many modes at most.
+abbrev pub rooms-of : ℕ → Lent → Rooms
+rooms-of most given =
+    record { modes = most; work = length (given .work); rows = length (given .rows); journal = length (given .journal) }
 
--- The answer of the meaning, and every element of work, rows and journal after the call.
-pub record Answers (meant : Outcome) (work rows journal now-work now-rows now-journal : List ℕ) (r : Answer) : Type 0 where
-  pub answer : r ≡ returned meant
-  pub work-is : now-work ≡ work-then meant work
-  pub rows-is : now-rows ≡ rows-then meant rows
-  pub journal-is : now-journal ≡ journal-then meant journal
+-- "On success work's first 8T numbers are zero; outputs beyond the written front stay"; the journal's "front then holds the new lines".
+-- A refusal "alters nothing".
+unfoldable pub lent-then : Outcome → Lent → Lent
+lent-then (done ending) given = record {
+  work = written-at 0 (replicate (8 * ending .count) 0) (given .work);
+  rows = written-at 0 (ending .rows) (given .rows);
+  journal = written-at 0 (ending .new) (given .journal);
+}
+lent-then (refuses refusal) given = given
+
+-- The answer of the meaning and its numbers, and every element of what was lent after the call.
+pub record Answers (meant : Lent → Outcome) (before after : Lent) (r : Answer) : Type 0 where
+  pub answer : r ≡ returned (meant before)
+  pub numbers : numbers-of r ≡ told-numbers (meant before)
+  pub leaves : after ≡ lent-then (meant before) before

@@ -1,3 +1,5 @@
--- How the code obeys a journal and writes new lines: no promise needs it.
+-- How the code obeys a journal, finishes the run and writes new lines: no promise needs it.
+pub mod Sized
 pub mod Obeys
 pub mod NewLines
+pub mod Finishing

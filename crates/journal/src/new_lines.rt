@@ -1,39 +1,38 @@
 // What a run writes: the header if nothing was kept, and a line for each merge that was not kept.
 ghost use mathlib.Core.Path.{_≡_};
-ghost use Prim.Native.Nat.{_+_, _-_, _≤_, _<_};
+ghost use mathlib.Core.List.{List};
+ghost use Prim.Native.Nat.{ℕ, _+_, _≤_, _<_};
 ghost use lib.ListN.{length};
 ghost use Rattle.lists.specs.Written.{«written-at»};
-ghost use Rattle.merging.specs.code.State.{Whole};
-ghost use Rattle.journal.specs.code.NewLines.{«noted-line», «noted-text», «first-text», «all-noted»};
+ghost use Rattle.entities.specs.declared.Triple.{Triple as Three};
+ghost use Rattle.terms.specs.Job.{Job};
+ghost use Rattle.merging.specs.code.State.{«history-of»};
+ghost use Rattle.journal.specs.Writing.{«header-behind», «new-text»};
+ghost use Rattle.journal.specs.code.Sized.{Sized};
+ghost use Rattle.journal.specs.code.NewLines.{«noted-line», «noted-from», StepFits, StepsFit, Ended};
 use crate::writing;
-use entities::Triple;
+use merging::asked;
 use merging::run::Run;
 
 // The line of one step written at this place; the place after it.
 fn put_step(run: Run, step: usize, journal: &mut [u8], at: usize) -> usize
-    requires { ⌜ Whole 769 256 run × (step < 256) ⌝ }
-    requires { ⌜ at + length (noted-line run step) ≤ length (now journal) ⌝ }
-    ensures { λ r. ⌜ r ≡ at + length (noted-line run step) ⌝ }
-    ensures { λ r. ⌜ now (journal .exit) ≡ written-at at (noted-line run step) (now (journal .entry)) ⌝ }
+    requires { ⌜ ((job : Job) × ((own : List ℕ) × StepFits job own run step at (length (now journal)))) ⌝ }
+    ensures { λ r. ⌜ ((job : Job) (own : List ℕ) → StepFits job own run step at (length (now (journal .entry))) → (r ≡ at + length (noted-line job (history-of run) step)) × (now (journal .exit) ≡ written-at at (noted-line job (history-of run) step) (now (journal .entry)))) ⌝ }
 {
-    let triple = Triple {
-        x: run.xs[step],
-        y: run.ys[step],
-        z: run.zs[step],
-    };
-    at + writing::put_merge(&mut journal[at..], step as u16, triple, run.weights[step])
+    let triple = asked::merge_of(run, step);
+    let weight = asked::step_weight(run, step);
+    at + writing::put_merge(&mut journal[at..], step as u16, triple, weight)
 }
 
 // The lines of the steps from this one on, written behind so many bytes; how many bytes there are then.
 fn put_steps(run: Run, from: usize, journal: &mut [u8], start: usize) -> usize
-    requires { ⌜ Whole 769 256 run × (run .modes ≤ 256) × (from ≤ run .modes) ⌝ }
-    requires { ⌜ start + length (noted-text run from (run .modes - from)) ≤ length (now journal) ⌝ }
-    ensures { λ r. ⌜ r ≡ start + length (noted-text run from (run .modes - from)) ⌝ }
-    ensures { λ r. ⌜ now (journal .exit) ≡ written-at start (noted-text run from (run .modes - from)) (now (journal .entry)) ⌝ }
+    requires { ⌜ ((job : Job) × ((own : List ℕ) × StepsFit job own run from start (length (now journal)))) ⌝ }
+    ensures { λ r. ⌜ ((job : Job) (own : List ℕ) → StepsFit job own run from start (length (now (journal .entry))) → (r ≡ start + length (noted-from job (history-of run) from)) × (now (journal .exit) ≡ written-at start (noted-from job (history-of run) from) (now (journal .entry)))) ⌝ }
 {
+    let all = asked::merges(run);
     let mut at = start;
     let mut step = from;
-    while step < run.modes {
+    while step < all {
         at = put_step(run, step, journal, at);
         step += 1;
     }
@@ -42,9 +41,9 @@ fn put_steps(run: Run, from: usize, journal: &mut [u8], start: usize) -> usize
 
 // The header, if nothing was kept; how many bytes it has.
 fn put_first(modes: usize, count: usize, kept: usize, journal: &mut [u8]) -> usize
-    requires { ⌜ (modes < 65536) × (count < 65536) × (length (first-text modes count kept) ≤ length (now journal)) ⌝ }
-    ensures { λ r. ⌜ r ≡ length (first-text modes count kept) ⌝ }
-    ensures { λ r. ⌜ now (journal .exit) ≡ written-at 0 (first-text modes count kept) (now (journal .entry)) ⌝ }
+    requires { ⌜ (modes < 65536) × (count < 65536) ⌝ }
+    requires { ⌜ ((job : Job) × (Sized job modes count × (length (header-behind job kept) ≤ length (now journal)))) ⌝ }
+    ensures { λ r. ⌜ ((job : Job) → Sized job modes count → (r ≡ length (header-behind job kept)) × (now (journal .exit) ≡ written-at 0 (header-behind job kept) (now (journal .entry)))) ⌝ }
 {
     if kept != 0 {
         return 0;
@@ -53,12 +52,18 @@ fn put_first(modes: usize, count: usize, kept: usize, journal: &mut [u8]) -> usi
 }
 
 // All that a finished run writes over the front, where so many steps and bytes were kept; how many bytes that is.
-pub fn write_new(run: Run, from: usize, count: usize, kept: usize, journal: &mut [u8]) -> usize
-    requires { ⌜ Whole 769 256 run × (run .modes ≤ 256) × (from ≤ run .modes) × (count < 65536) ⌝ }
-    requires { ⌜ length (all-noted run from count kept) ≤ length (now journal) ⌝ }
-    ensures { λ r. ⌜ r ≡ length (all-noted run from count kept) ⌝ }
-    ensures { λ r. ⌜ now (journal .exit) ≡ written-at 0 (all-noted run from count kept) (now (journal .entry)) ⌝ }
+pub fn write_new(
+    run: Run,
+    modes: usize,
+    count: usize,
+    from: usize,
+    kept: usize,
+    journal: &mut [u8],
+) -> usize
+    requires { ⌜ (modes < 65536) × (count < 65536) ⌝ }
+    requires { ⌜ ((job : Job) × ((history : List Three) × (Ended job history modes count from run × (length (new-text job kept history) ≤ length (now journal))))) ⌝ }
+    ensures { λ r. ⌜ ((job : Job) (history : List Three) → Ended job history modes count from run → length (new-text job kept history) ≤ length (now (journal .entry)) → (r ≡ length (new-text job kept history)) × (now (journal .exit) ≡ written-at 0 (new-text job kept history) (now (journal .entry)))) ⌝ }
 {
-    let start = put_first(run.modes, count, kept, journal);
+    let start = put_first(modes, count, kept, journal);
     put_steps(run, from, journal, start)
 }

@@ -1,20 +1,24 @@
 // The calls `hatt` and `resume`: a journal obeyed, the run that goes on from it, and what it leaves in the lent slices.
 ghost use mathlib.Core.Path.{_≡_};
+ghost use mathlib.Core.Bool.{true};
 ghost use mathlib.Core.List.{List};
-ghost use Prim.Native.Nat.{ℕ, _+_, _*_, _≤_};
+ghost use Prim.Native.Nat.{ℕ, _≤_};
 ghost use lib.ListN.{length};
 ghost use Rattle.fields.specs.Lines.{«kept-of»};
-ghost use Rattle.terms.specs.Rows.{Held, «terms-of»};
+ghost use Rattle.terms.specs.Rows.{Held};
+ghost use Rattle.terms.specs.Job.{Job, «job-of»};
 ghost use Rattle.terms.specs.Good.{checked};
 ghost use Rattle.terms.specs.declared.checking.Checked.the-variants.{Good};
-ghost use Rattle.merging.specs.code.State.{«history-of», Holds};
+ghost use Rattle.merging.specs.code.State.{«history-of»};
 ghost use Rattle.journal.specs.Obeying.{obeyed};
-ghost use Rattle.journal.specs.Resuming.{done, ending, «with-journal», «with-terms», resumed, «hatt-run»};
-ghost use Rattle.journal.specs.Promises.{Answers};
+ghost use Rattle.journal.specs.Resuming.{done, ending, «with-journal», roomy, «with-terms», resumed, «hatt-run»};
+ghost use Rattle.journal.specs.Promises.{lent, «rooms-of», Answers};
+ghost use Rattle.journal.specs.code.Finishing.{Finishing, FromOwn};
 use crate::new_lines;
 use crate::obeying;
 use crate::obeying::Verdict;
 use fields::lines;
+use merging::asked;
 use merging::flatpack;
 use merging::run::Run;
 use merging::trials;
@@ -37,31 +41,51 @@ pub enum Answer {
     Refused(Refusal),
 }
 
-// The steps that are left, and then the rows, the new lines and the zeros; nothing can refuse any more.
+// The steps that are left, in the lent work, and then the rows, the new lines and the zeros; nothing can refuse any more.
 fn finish_run(
     run: Run,
-    own: &mut [u16],
+    modes: usize,
     count: usize,
     kept: usize,
     work: &mut [u16],
     rows: &mut [u16],
     journal: &mut [u8],
 ) -> Answer
-    requires { ⌜ ((terms : List (List ℕ)) × (Holds 769 256 terms (now own) run × (length terms ≡ count) × (count ≤ 2048))) ⌝ }
-    requires { ⌜ (8 * count ≤ length (now work)) × (4 * run .modes ≤ length (now rows)) × (16 + 21 * run .modes ≤ length (now journal)) ⌝ }
-    ensures { λ r. ⌜ ((terms : List (List ℕ)) (bytes : List ℕ) → Holds 769 256 terms (now (own .entry)) run → length terms ≡ count → kept ≡ length (kept-of bytes) → Answers (done (ending (run .modes) count terms bytes (history-of run))) (now (work .entry)) (now (rows .entry)) (now (journal .entry)) (now (work .exit)) (now (rows .exit)) (now (journal .exit)) r) ⌝ }
+    requires { ⌜ ((job : Job) × Finishing job run modes count (lent (now work) (now rows) (now journal))) ⌝ }
+    ensures { λ r. ⌜ ((job : Job) (bytes : List ℕ) → Finishing job run modes count (lent (now (work .entry)) (now (rows .entry)) (now (journal .entry))) → kept ≡ length (kept-of bytes) → Answers (λ given. done (ending job bytes (history-of run)))
+        (lent (now (work .entry)) (now (rows .entry)) (now (journal .entry))) (lent (now (work .exit)) (now (rows .exit)) (now (journal .exit))) r) ⌝ }
 {
-    let from = run.step;
-    let end = run.finished(own);
+    let from = asked::merges(run);
+    let end = run.finished(work);
     flatpack::write_flatpack(end, rows);
-    let new = new_lines::write_new(end, from, count, kept, journal);
+    let new = new_lines::write_new(end, modes, count, from, kept, journal);
     slices::clear_front(work, 8 * count);
     Answer::Done(Numbers {
-        weight: end.weight as u64,
-        trials: trials::trial_total(end.modes - from),
+        weight: asked::greedy_weight(end) as u64,
+        trials: trials::trial_total(modes - from),
         kept: kept,
         new: new,
     })
+}
+
+// The run's own rows put into the lent work, and the run finished there.
+fn finish_lent(
+    run: Run,
+    modes: usize,
+    count: usize,
+    own: &[u16],
+    kept: usize,
+    work: &mut [u16],
+    rows: &mut [u16],
+    journal: &mut [u8],
+) -> Answer
+    requires { ⌜ ((job : Job) × FromOwn job run modes count (now own) (lent (now work) (now rows) (now journal))) ⌝ }
+    ensures { λ r. ⌜ ((job : Job) (bytes : List ℕ) → FromOwn job run modes count (now (own .entry)) (lent (now (work .entry)) (now (rows .entry)) (now (journal .entry))) → kept ≡ length (kept-of bytes) → Answers (λ given. done (ending job bytes (history-of run)))
+        (lent (now (work .entry)) (now (rows .entry)) (now (journal .entry))) (lent (now (work .exit)) (now (rows .exit)) (now (journal .exit))) r) ⌝ }
+{
+    let end = 8 * count;
+    slices::put_front(&own[..end], work);
+    finish_run(run, modes, count, kept, work, rows, journal)
 }
 
 // The journal obeyed on rows of the call's own, and the run that goes on from it.
@@ -75,8 +99,9 @@ fn resume_own(
     journal: &mut [u8],
 ) -> Answer
     requires { ⌜ (1 ≤ modes) × (modes ≤ 256) × (count ≤ 2048) × Held 8 count (now own) ⌝ }
-    requires { ⌜ (8 * count ≤ length (now work)) × (4 * modes ≤ length (now rows)) × (16 + 21 * modes ≤ length (now journal)) ⌝ }
-    ensures { λ r. ⌜ Answers (with-journal modes count (terms-of 8 count (now (own .entry))) (now (read .entry)) (obeyed modes count (terms-of 8 count (now (own .entry))) (now (read .entry)))) (now (work .entry)) (now (rows .entry)) (now (journal .entry)) (now (work .exit)) (now (rows .exit)) (now (journal .exit)) r ⌝ }
+    requires { ⌜ roomy (rooms-of 256 (lent (now work) (now rows) (now journal))) modes count ≡ true ⌝ }
+    ensures { λ r. ⌜ Answers (λ given. with-journal (job-of modes count (now (own .entry))) (now (read .entry)) (obeyed (job-of modes count (now (own .entry))) (now (read .entry))))
+        (lent (now (work .entry)) (now (rows .entry)) (now (journal .entry))) (lent (now (work .exit)) (now (rows .exit)) (now (journal .exit))) r ⌝ }
 {
     let found = obeying::obey(modes, count, own, read);
     let verdict = found.verdict;
@@ -84,7 +109,7 @@ fn resume_own(
         Verdict::Refused(why) => Answer::Refused(why),
         Verdict::Fine => {
             let kept = lines::kept_bytes(read);
-            finish_run(found.run, own, count, kept, work, rows, journal)
+            finish_lent(found.run, modes, count, own, kept, work, rows, journal)
         }
     }
 }
@@ -100,8 +125,9 @@ fn resume_copy(
     journal: &mut [u8],
 ) -> Answer
     requires { ⌜ (1 ≤ modes) × (modes ≤ 256) × (checked modes (now terms) ≡ Good count) ⌝ }
-    requires { ⌜ (8 * count ≤ length (now work)) × (4 * modes ≤ length (now rows)) × (16 + 21 * modes ≤ length (now journal)) ⌝ }
-    ensures { λ r. ⌜ Answers (with-journal modes count (terms-of 8 count (now (terms .entry))) (now (read .entry)) (obeyed modes count (terms-of 8 count (now (terms .entry))) (now (read .entry)))) (now (work .entry)) (now (rows .entry)) (now (journal .entry)) (now (work .exit)) (now (rows .exit)) (now (journal .exit)) r ⌝ }
+    requires { ⌜ roomy (rooms-of 256 (lent (now work) (now rows) (now journal))) modes count ≡ true ⌝ }
+    ensures { λ r. ⌜ Answers (λ given. with-journal (job-of modes count (now (terms .entry))) (now (read .entry)) (obeyed (job-of modes count (now (terms .entry))) (now (read .entry))))
+        (lent (now (work .entry)) (now (rows .entry)) (now (journal .entry))) (lent (now (work .exit)) (now (rows .exit)) (now (journal .exit))) r ⌝ }
 {
     let mut own = checking::own_copy(terms);
     resume_own(modes, count, &mut own, read, work, rows, journal)
@@ -118,7 +144,8 @@ fn resume_good(
     journal: &mut [u8],
 ) -> Answer
     requires { ⌜ (1 ≤ modes) × (modes ≤ 256) × (checked modes (now terms) ≡ Good count) ⌝ }
-    ensures { λ r. ⌜ Answers (with-terms modes (now (terms .entry)) (now (read .entry)) (length (now (work .entry))) (length (now (rows .entry))) (length (now (journal .entry))) (Good count)) (now (work .entry)) (now (rows .entry)) (now (journal .entry)) (now (work .exit)) (now (rows .exit)) (now (journal .exit)) r ⌝ }
+    ensures { λ r. ⌜ Answers (λ given. with-terms (rooms-of 256 given) modes (now (terms .entry)) (now (read .entry)) (Good count))
+        (lent (now (work .entry)) (now (rows .entry)) (now (journal .entry))) (lent (now (work .exit)) (now (rows .exit)) (now (journal .exit))) r ⌝ }
 {
     if work.len() < 8 * count {
         return Answer::Refused(Refusal::Room);
@@ -141,7 +168,8 @@ pub fn resume(
     rows: &mut [u16],
     journal: &mut [u8],
 ) -> Answer
-    ensures { λ r. ⌜ Answers (resumed 256 modes (now (terms .entry)) (now (read .entry)) (length (now (work .entry))) (length (now (rows .entry))) (length (now (journal .entry)))) (now (work .entry)) (now (rows .entry)) (now (journal .entry)) (now (work .exit)) (now (rows .exit)) (now (journal .exit)) r ⌝ }
+    ensures { λ r. ⌜ Answers (λ given. resumed (rooms-of 256 given) modes (now (terms .entry)) (now (read .entry)))
+        (lent (now (work .entry)) (now (rows .entry)) (now (journal .entry))) (lent (now (work .exit)) (now (rows .exit)) (now (journal .exit))) r ⌝ }
 {
     if modes < 1 {
         return Answer::Refused(Refusal::Modes);
@@ -163,7 +191,8 @@ pub fn hatt(
     rows: &mut [u16],
     journal: &mut [u8],
 ) -> Answer
-    ensures { λ r. ⌜ Answers (hatt-run 256 modes (now (terms .entry)) (length (now (work .entry))) (length (now (rows .entry))) (length (now (journal .entry)))) (now (work .entry)) (now (rows .entry)) (now (journal .entry)) (now (work .exit)) (now (rows .exit)) (now (journal .exit)) r ⌝ }
+    ensures { λ r. ⌜ Answers (λ given. hatt-run (rooms-of 256 given) modes (now (terms .entry)))
+        (lent (now (work .entry)) (now (rows .entry)) (now (journal .entry))) (lent (now (work .exit)) (now (rows .exit)) (now (journal .exit))) r ⌝ }
 {
     resume(modes, terms, b"", work, rows, journal)
 }

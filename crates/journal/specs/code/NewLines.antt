@@ -1,26 +1,50 @@
--- What the code writes of a finished run: the lines of the merges that it has noted.
-use mathlib.Core.Bool.{cond}
-use mathlib.Core.List.{List, [], _++_, flatMap}
-use Prim.Native.Nat.{ℕ, _-_}
-use lib.Dec.{eqb}
-use lib.ListN.{getD}
+-- What the code writes of a finished run: the lines of the merges that it has made.
+use mathlib.Core.Path.{_≡_}
+use mathlib.Core.List.{List, flatMap}
+use Prim.Native.Nat.{ℕ, _+_, _-_, _<_, _≤_}
+use lib.ListN.{length}
 use Rattle.lists.specs.Ranges.{listed}
+use Rattle.entities.specs.declared.Triple.{Triple}
+use Rattle.terms.specs.Job.{Job}
 use Rattle.merging.specs.declared.run.Run.{Run}
-use Rattle.merging.specs.code.Recorded.{merge-at}
-use Rattle.journal.specs.LineForms.{header-text, merge-text}
+use Rattle.merging.specs.History.{merge-of, history-before}
+use Rattle.merging.specs.Run.{finished}
+use Rattle.merging.specs.code.State.{history-of}
+use Rattle.merging.specs.code.Runs.{Holds}
+use Rattle.journal.specs.Writing.{line-of}
+use Rattle.journal.specs.code.Sized.{Sized}
 
 -- The line of one step.
-unfoldable pub noted-line : Run → ℕ → List ℕ
-noted-line run step = merge-text step (merge-at (run .xs) (run .ys) (run .zs) step) (getD (run .weights) step 0)
+unfoldable pub noted-line : Job → List Triple → ℕ → List ℕ
+noted-line job history step = line-of job (history-before history step) (merge-of history step)
 
 -- The lines of so many steps from one on, one behind the other.
-unfoldable pub noted-text : Run → ℕ → ℕ → List ℕ
-noted-text run from count = flatMap (λ line. line) (listed (noted-line run) from count)
+unfoldable pub noted-text : Job → List Triple → ℕ → ℕ → List ℕ
+noted-text job history from count = flatMap (λ line. line) (listed (noted-line job history) from count)
 
--- "the header first if nothing was kept".
-unfoldable pub first-text : ℕ → ℕ → ℕ → List ℕ
-first-text modes count kept = cond (eqb kept 0) (header-text modes count) []
+-- The lines of all steps from one on.
+abbrev pub noted-from : Job → List Triple → ℕ → List ℕ
+noted-from job history from = noted-text job history from (length history - from)
 
--- All of it, from the first step that was not kept.
-unfoldable pub all-noted : Run → ℕ → ℕ → ℕ → List ℕ
-all-noted run from count kept = first-text (run .modes) count kept ++ noted-text run from (run .modes - from)
+-- A step that the run has made, and room for its line behind a place.
+pub record StepFits (job : Job) (own : List ℕ) (run : Run) (step at room : ℕ) : Type 0 where
+  pub holds : Holds job own run
+  pub made : step < length (history-of run)
+  pub small : step < 65536
+  pub fits : at + length (noted-line job (history-of run) step) ≤ room
+
+-- Room for the lines of the steps from one on, behind a place.
+pub record StepsFit (job : Job) (own : List ℕ) (run : Run) (from at room : ℕ) : Type 0 where
+  pub holds : Holds job own run
+  pub begun : from ≤ length (history-of run)
+  pub small : length (history-of run) < 65536
+  pub fits : at + length (noted-from job (history-of run) from) ≤ room
+
+-- A run that went on to its end by the greedy rule, from a history of so many merges.
+pub record Ended (job : Job) (history : List Triple) (modes count from : ℕ) (run : Run) : Type 0 where
+  pub own : List ℕ
+  pub holds : Holds job own run
+  pub sized : Sized job modes count
+  pub merges : history-of run ≡ finished job history
+  pub from-is : length history ≡ from
+  pub within : from ≤ modes

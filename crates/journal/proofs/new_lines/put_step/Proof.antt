@@ -1,31 +1,41 @@
 -- The line is written over the front of what is left.
+use mathlib.Core.Path.{_≡_, ap}
+use mathlib.Core.List.{List}
+use Prim.Native.Nat.{ℕ}
 use native.Mathlib.Omega.{arith}
 use borrow.Author.Needs.{needs}
-use lib.ListN.{length-drop}
+use lib.ListN.{length, length-drop}
 use Rattle.lists.proofs.Steps.{part-to-end}
 use Rattle.lists.proofs.Behind.{rest-written}
-use Rattle.merging.specs.code.Recorded.{merge-at}
-use Rattle.journal.specs.code.NewLines.{noted-line}
+use Rattle.terms.specs.Job.{Job}
+use Rattle.merging.specs.code.State.{history-of}
+use Rattle.journal.specs.LineForms.{merge-text}
+use Rattle.journal.specs.code.NewLines.{noted-line, StepFits}
+use Rattle.journal.proofs.NotedLines.{noted-as}
 use Rattle.journal.proofs.new_lines.put_step.Statement.{statement}
 use Rattle.journal.proofs.new_lines.put_step.Tie as tie
 
-mul-t7 : tie.Need-mul-t7
-mul-t7 c = search needs
+abbrev start-of : tie.After-step-weight → tie.Start
+start-of c = c .before .before .before
 
-element-copy-out-t10 : tie.Need-element-copy-out-t10
-element-copy-out-t10 c = search needs
+-- What the run was asked makes the step's line, whatever the job.
+line-is : (c : tie.After-step-weight) (job : Job) (own : List ℕ)
+    → StepFits job own (start-of c .args .run) (start-of c .args .step) (start-of c .args .at) (length (start-of c .args .journal .now))
+    → merge-text (start-of c .args .step) (c .before .merge-of .result) (c .step-weight .result)
+    ≡ noted-line job (history-of (start-of c .args .run)) (start-of c .args .step)
+line-is c job own fits =
+    noted-as job (history-of (start-of c .args .run)) (start-of c .args .step) _ _ (fits .made) (c .before .merge-of .ensures)
+    (c .step-weight .ensures job own (fits .holds))
 
-mul-put-merge : tie.Need-mul-put-merge
-mul-put-merge c = search needs
+merge-of-requires : tie.Need-merge-of-requires
+merge-of-requires c κs =
+    let pre = c .before .pre in
+    (pre .0, (pre .1 .0, (pre .1 .1 .holds, pre .1 .1 .made)))
 
-element-copy-out-put-merge : tie.Need-element-copy-out-put-merge
-element-copy-out-put-merge c = search needs
-
-mul-put-merge-2 : tie.Need-mul-put-merge-2
-mul-put-merge-2 c = search needs
-
-element-copy-out-put-merge-2 : tie.Need-element-copy-out-put-merge-2
-element-copy-out-put-merge-2 c = search needs
+step-weight-requires : tie.Need-step-weight-requires
+step-weight-requires c κs =
+    let pre = c .before .before .pre in
+    (pre .0, (pre .1 .0, (pre .1 .1 .holds, pre .1 .1 .made)))
 
 sub-put-merge : tie.Need-sub-put-merge
 sub-put-merge c = search needs
@@ -39,51 +49,40 @@ part-put-merge-end c = search needs
 cast-put-merge : tie.Need-cast-put-merge
 cast-put-merge c = search needs
 
-mul-put-merge-3 : tie.Need-mul-put-merge-3
-mul-put-merge-3 c = search needs
-
-element-copy-out-put-merge-3 : tie.Need-element-copy-out-put-merge-3
-element-copy-out-put-merge-3 c = search needs
-
 put-merge-requires : tie.Need-put-merge-requires
-unfolding noted-line merge-at
 put-merge-requires c κs =
-    let start = c .before .before .before .before .before .before in
+    let start = c .before .before .before .before in
+    let pre = start .pre in
     let journal = start .args .journal .now in
-    rw (part-to-end journal (start .args .at), length-drop (start .args .at) journal) (omega (arith, start .pre .1))
+    let at = start .args .at in
+    rw (part-to-end journal at, length-drop at journal, line-is (c .before) (pre .0) (pre .1 .0) (pre .1 .1)) (omega (arith, pre .1 .1 .fits))
 
 add-result : tie.Need-add-result
-unfolding noted-line merge-at
 add-result c =
-    let start = c .before .before .before .before .before .before .before .before .before in
-    omega (arith, start .pre .1, c .before .before .put-merge .ensures .0)
+    let pre = c .before .before .before .before .before .before .before .pre in
+    omega (arith, pre .1 .1 .fits, c .before .before .put-merge .ensures .0, ap length (line-is (c .before .before .before .before) (pre .0) (pre .1 .0) (pre .1 .1)))
 
 same-length : tie.Need-same-length
 same-length c = search needs
 
 returns : tie.Need-returns
-unfolding noted-line merge-at
-returns c =
-    let start = c .before .before .before .before .before .before .before .before .before in
+returns c job own fits =
+    let args = c .before .before .before .before .before .before .before .args in
     let put = c .before .before .put-merge .ensures in
-    (rw (put .0), rw (put .1) (rest-written (start .args .at) (noted-line (start .args .t1) (start .args .step)) (start .args .journal .now) (omega (arith, start .pre .1))))
+    let line = line-is (c .before .before .before .before) job own fits in
+    let written = rest-written (args .at) (noted-line job (history-of (args .run)) (args .step)) (args .journal .now) (omega (arith, fits .fits)) in
+    (rw (put .0, line), rw (put .1, line) written)
 
 pub put-step-spec : {M : Type 1} → statement M
 put-step-spec =
     tie.close
     (tie.spec
-    mul-t7
-    element-copy-out-t10
-    mul-put-merge
-    element-copy-out-put-merge
-    mul-put-merge-2
-    element-copy-out-put-merge-2
+    merge-of-requires
+    step-weight-requires
     sub-put-merge
     part-put-merge-start
     part-put-merge-end
     cast-put-merge
-    mul-put-merge-3
-    element-copy-out-put-merge-3
     put-merge-requires
     add-result
     same-length

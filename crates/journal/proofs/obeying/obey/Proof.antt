@@ -1,10 +1,12 @@
--- The first state holds the call's terms; the first line is the header, and the others are obeyed from there.
-use mathlib.Core.Path.{sym}
+-- The first state holds the call's job; the first line is the header, and the others are obeyed from there.
+use mathlib.Core.Path.{refl, sym}
 use native.Mathlib.Omega.{arith}
 use borrow.Author.Needs.{needs}
 use lib.Seq.{length-take-le}
 use Rattle.fields.proofs.LineSteps.{lines-none}
-use Rattle.terms.specs.Rows.{terms-of}
+use Rattle.terms.specs.Job.{job-of}
+use Rattle.terms.proofs.RowSteps.{length-terms}
+use Rattle.journal.specs.code.Sized.{Sized}
 use Rattle.journal.proofs.JournalObeyed.{text-begins, nothing-to-obey, header-refused, lines-behind}
 use Rattle.journal.proofs.obeying.obey.Statement.{statement}
 use Rattle.journal.proofs.obeying.obey.Tie as tie
@@ -18,15 +20,13 @@ line-end-requires c κs = search needs
 returns : tie.Need-returns
 returns c =
     let start = c .before .before .before .before .before in
-    let rows = start .args .rows .now in
-    let read = start .args .read .now in
-    let modes = start .args .modes in
-    let live = start .args .live in
-    let fresh = c .before .before .fresh in
-    let first = fresh .ensures rows (start .pre .1) in
+    let args = start .args in
+    let rows = args .rows .now in
+    let read = args .read .now in
+    let job = job-of (args .modes) (args .count) rows in
+    let first = c .before .before .fresh .ensures rows (start .pre .1) in
     let end = c .before .line-end in
-    nothing-to-obey 769 256 modes live (terms-of 8 live rows) rows read (fresh .result) (first .0) (first .1) (first .3) (first .2)
-    (lines-none read 0 (end .result) (end .ensures .0) (c .if1 .taken))
+    nothing-to-obey job rows read (c .before .before .fresh .result) (first .0) (first .1) (lines-none read 0 (end .result) (end .ensures .0) (c .if1 .taken))
 
 slice-aggregate-obey-header : tie.Need-slice-aggregate-obey-header
 slice-aggregate-obey-header c =
@@ -42,16 +42,16 @@ enum-known-why c = search needs
 returns-2 : tie.Need-returns-2
 returns-2 c =
     let start = c .before .before .before .before .before .before .before .before .before .before in
-    let rows = start .args .rows .now in
-    let read = start .args .read .now in
-    let modes = start .args .modes in
-    let live = start .args .live in
-    let fresh = c .before .before .before .before .before .before .before .fresh in
-    let first = fresh .ensures rows (start .pre .1) in
+    let args = start .args in
+    let rows = args .rows .now in
+    let read = args .read .now in
+    let job = job-of (args .modes) (args .count) rows in
+    let run = c .before .before .before .before .before .before .before .fresh .result in
+    let first = c .before .before .before .before .before .before .before .fresh .ensures rows (start .pre .1) in
     let end = c .before .before .before .before .before .before .line-end in
     let next = text-begins read (end .result) (end .ensures .0) (c .before .before .before .before .before .if1 .left) in
-    header-refused 769 256 modes live (terms-of 8 live rows) rows read (fresh .result) (first .0) (first .1) (first .3) _ _ next
-    _ (c .before .before .before .obey-header .ensures (fresh .result) (first .2)) _ (c .before .why .given .1)
+    let sized : Sized job (args .modes) (args .count) = record { modes-are = refl; count-is = length-terms 8 (args .count) rows } in
+    header-refused job rows read run (first .0) _ _ next _ (c .before .before .before .obey-header .ensures job run sized (first .1)) _ (c .before .why .given .1)
 
 enum-told : tie.Need-enum-told
 enum-told c = search needs
@@ -59,15 +59,12 @@ enum-told c = search needs
 obey-lines-requires : tie.Need-obey-lines-requires
 obey-lines-requires c κs =
     let start = c .before .before .before .before .before .before .before .before .before .before in
-    let rows = start .args .rows .now in
-    let read = start .args .read .now in
-    let modes = start .args .modes in
-    let live = start .args .live in
-    let fresh = c .before .before .before .before .before .before .before .fresh in
-    let first = fresh .ensures rows (start .pre .1) in
+    let args = start .args in
+    let rows = args .rows .now in
+    let first = c .before .before .before .before .before .before .before .fresh .ensures rows (start .pre .1) in
     let end = c .before .before .before .before .before .before .line-end in
     let more = c .before .before .before .before .before .if1 .left in
-    ((terms-of 8 live rows, first .0), (omega arith, end .ensures .1))
+    ((job-of (args .modes) (args .count) rows, (first .0, refl)), (omega arith, end .ensures .1))
 
 same-length : tie.Need-same-length
 same-length c = search needs
@@ -75,18 +72,18 @@ same-length c = search needs
 returns-3 : tie.Need-returns-3
 returns-3 c =
     let start = c .before .before .before .before .before .before .before .before .before .before .before .before .before in
-    let rows = start .args .rows .now in
-    let read = start .args .read .now in
-    let modes = start .args .modes in
-    let live = start .args .live in
-    let fresh = c .before .before .before .before .before .before .before .before .before .before .fresh in
-    let first = fresh .ensures rows (start .pre .1) in
+    let args = start .args in
+    let rows = args .rows .now in
+    let read = args .read .now in
+    let job = job-of (args .modes) (args .count) rows in
+    let run = c .before .before .before .before .before .before .before .before .before .before .fresh .result in
+    let first = c .before .before .before .before .before .before .before .before .before .before .fresh .ensures rows (start .pre .1) in
     let end = c .before .before .before .before .before .before .before .before .before .line-end in
     let next = text-begins read (end .result) (end .ensures .0) (c .before .before .before .before .before .before .before .before .if1 .left) in
+    let sized : Sized job (args .modes) (args .count) = record { modes-are = refl; count-is = length-terms 8 (args .count) rows } in
     let obeyed = c .before .before .obey-lines in
-    lines-behind 769 256 modes live (terms-of 8 live rows) rows read (fresh .result) (first .0) (first .1) (first .3) _ _ next
-    _ (c .before .before .before .before .before .before .obey-header .ensures (fresh .result) (first .2)) (c .before .before .before .before .enum-told .given .1) (obeyed .last .1 .0) (obeyed .result)
-    (obeyed .ensures (terms-of 8 live rows) (first .0))
+    lines-behind job rows read run (first .0) _ _ next _ (c .before .before .before .before .before .before .obey-header .ensures job run sized (first .1)) (c .before .before .before .before .enum-told .given .1)
+    (obeyed .last .1 .1 .0) (obeyed .result) (obeyed .ensures job (first .0) refl)
 
 pub obey-spec : {M : Type 1} → statement M
 obey-spec =

@@ -15,43 +15,43 @@ wide-requires : tie.Need-wide-requires
 wide-requires c κs = search needs
 
 returns : tie.Need-returns
-returns c run none =
+returns c job run sized none-yet =
     let start = c .before .before .before .before .before .before .before in
     let modes = start .args .modes in
-    let live = start .args .live in
+    let count = start .args .count in
     let says = sym (c .before .before .before .before .before .read-header .ensures) ∙ c .before .before .before .n .given .1 in
-    other-modes modes live run _ _ _ says (λ e. c .if1 .taken (c .before .wide .ensures .0 ∙ e))
+    other-modes job modes count sized run _ _ _ says (λ e. c .if1 .taken (c .before .wide .ensures .0 ∙ e))
 
 wide-requires-2 : tie.Need-wide-requires-2
 wide-requires-2 c κs = search needs
 
 returns-2 : tie.Need-returns-2
-returns-2 c run none =
+returns-2 c job run sized none-yet =
     let start = c .before .before .before .before .before .before .before .before .before in
     let modes = start .args .modes in
-    let live = start .args .live in
+    let count = start .args .count in
     let says = sym (c .before .before .before .before .before .before .before .read-header .ensures) ∙ c .before .before .before .before .before .n .given .1 in
-    other-terms modes live run _ _ _ says (sym (c .before .before .before .wide .ensures .0) ∙ c .before .before .if1 .left)
+    other-terms job modes count sized run _ _ _ says (sym (c .before .before .before .wide .ensures .0) ∙ c .before .before .if1 .left)
     (λ e. c .if2 .taken (c .before .wide2 .ensures .0 ∙ e))
 
 enum-told : tie.Need-enum-told
 enum-told c = search needs
 
 returns-3 : tie.Need-returns-3
-returns-3 c run none =
+returns-3 c job run sized none-yet =
     let start = c .before .before .before .before .before .before .before .before .before in
     let modes = start .args .modes in
-    let live = start .args .live in
+    let count = start .args .count in
     let says = sym (c .before .before .before .before .before .before .before .read-header .ensures) ∙ c .before .before .before .before .before .n .given .1 in
-    same-header modes live run _ _ _ says (sym (c .before .before .before .wide .ensures .0) ∙ c .before .before .if1 .left)
-    (sym (c .before .wide2 .ensures .0) ∙ c .if2 .left) none
+    same-header job modes count sized run _ _ _ says (sym (c .before .before .before .wide .ensures .0) ∙ c .before .before .if1 .left)
+    (sym (c .before .wide2 .ensures .0) ∙ c .if2 .left) none-yet
 
 returns-4 : tie.Need-returns-4
-returns-4 c run none =
+returns-4 c job run sized none-yet =
     let start = c .before .before .before .before in
     let modes = start .args .modes in
-    let live = start .args .live in
-    header-broken modes live run _ (sym (c .before .before .read-header .ensures) ∙ c .enum-told .given .1)
+    let count = start .args .count in
+    header-broken job modes count sized run _ (sym (c .before .before .read-header .ensures) ∙ c .enum-told .given .1)
 
 pub obey-header-spec : {M : Type 1} → statement M
 obey-header-spec =

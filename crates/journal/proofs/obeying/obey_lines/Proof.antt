@@ -7,22 +7,24 @@ use borrow.Author.Needs.{needs}
 use lib.ListN.{length, drop}
 use Rattle.fields.specs.Lines.{lines}
 use Rattle.fields.proofs.LineSteps.{lines-none, lines-next}
-use Rattle.merging.specs.code.State.{history-of, Holds}
+use Rattle.terms.specs.Job.{Job}
+use Rattle.merging.specs.code.State.{history-of}
+use Rattle.merging.specs.code.Runs.{Holds}
 use Rattle.journal.specs.Obeying.{went, obeyed-lines}
 use Rattle.journal.proofs.LinesObeyed.{Along, along-starts, along-ends, along-goes, along-stops}
 use Rattle.journal.proofs.obeying.obey_lines.Statement.{statement}
 use Rattle.journal.proofs.obeying.obey_lines.Tie as tie
 
 abbrev Inv-loop : tie.InvT-loop
-Inv-loop rows₀ read from run₀ line₀ at₀ rows run line at =
+Inv-loop modes rows₀ read from run₀ line₀ at₀ rows run line at =
     (length rows ≡ length rows₀)
     × (line ≤ at)
     × (at ≤ length read)
-    × ((terms : List (List ℕ)) → Holds 769 256 terms rows₀ run₀
-    → Along 769 256 terms run₀ rows₀ (obeyed-lines (run₀ .modes) terms 1 (went (history-of run₀)) (lines (drop from read))) run rows line (lines (drop at read)))
+    × ((job : Job) → Holds job rows₀ run₀ → job .modes ≡ modes
+    → Along job rows₀ (obeyed-lines job 1 (went (history-of run₀)) (lines (drop from read))) run rows line (lines (drop at read)))
 
 abbrev μ-loop : tie.MeasureT-loop
-μ-loop rows₀ read from run₀ line₀ at₀ rows run line at = length read - at
+μ-loop modes rows₀ read from run₀ line₀ at₀ rows run line at = length read - at
 
 loop-holds : tie.Need-loop-holds Inv-loop μ-loop
 loop-holds c =
@@ -31,7 +33,7 @@ loop-holds c =
       refl,
       omega arith,
       omega arith,
-      λ terms holds. along-starts 769 256 terms first (start .args .rows .now) _ holds 1 _ refl,
+      λ job holds same. along-starts job (start .args .rows .now) _ first holds 1 _ refl,
     )
 
 line-end-requires : tie.Need-line-end-requires Inv-loop μ-loop
@@ -41,16 +43,15 @@ same-length : tie.Need-same-length Inv-loop μ-loop
 same-length c = search needs
 
 returns : tie.Need-returns Inv-loop μ-loop
-returns c terms holds =
+returns c job holds same =
     let here = c .before .before in
     let start = c .before .before .before .before .before in
-    let first = start .args .first in
     let rows = start .args .rows .now in
     let read = start .args .read .now in
     let end = c .before .line-end in
     let none = lines-none read (here .loop .at) (end .result) (end .ensures .0) (c .if1 .taken) in
-    along-ends 769 256 terms first rows _ (here .loop .run) (here .loop .rows) (here .loop .line)
-    (rw none at (here .loop .inv .3 terms holds))
+    along-ends job rows _ (here .loop .run) (here .loop .rows) (here .loop .line)
+    (rw none at (here .loop .inv .3 job holds same))
 
 sub-obey-line : tie.Need-sub-obey-line Inv-loop μ-loop
 sub-obey-line c = search needs
@@ -65,7 +66,7 @@ obey-line-requires : tie.Need-obey-line-requires Inv-loop μ-loop
 obey-line-requires c κs =
     let here = c .before .before .before .before in
     let pre = c .before .before .before .before .before .before .before .pre in
-    (pre .0 .0, here .loop .inv .3 (pre .0 .0) (pre .0 .1) .so-far .holds)
+    (pre .0 .0, (here .loop .inv .3 (pre .0 .0) (pre .0 .1 .0) (pre .0 .1 .1) .so-far .holds, pre .0 .1 .1))
 
 enum-known-verdict : tie.Need-enum-known-verdict Inv-loop μ-loop
 enum-known-verdict c = search needs
@@ -74,18 +75,17 @@ same-length-2 : tie.Need-same-length-2 Inv-loop μ-loop
 same-length-2 c = search needs
 
 returns-2 : tie.Need-returns-2 Inv-loop μ-loop
-returns-2 c terms holds =
+returns-2 c job holds same =
     let here = c .before .before .before .before .before .before .before .before .before .before .before in
     let start = c .before .before .before .before .before .before .before .before .before .before .before .before .before .before in
-    let first = start .args .first in
     let rows = start .args .rows .now in
     let read = start .args .read .now in
     let end = c .before .before .before .before .before .before .before .before .before .before .line-end in
     let next = lines-next read (here .loop .at) (end .result) (end .ensures .0) (c .before .before .before .before .before .before .before .before .before .if1 .left) in
     let obeyed = c .before .before .before .before .before .before .obey-line in
-    along-stops 769 256 terms first rows _ (here .loop .run) (here .loop .rows) (here .loop .line) _ _
-    (rw next at (here .loop .inv .3 terms holds)) (obeyed .result) (obeyed .last .1 .0)
-    (obeyed .ensures terms (here .loop .inv .3 terms holds .so-far .holds)) _ (c .before .verdict .given .1)
+    along-stops job rows _ (here .loop .run) (here .loop .rows) (here .loop .line) _ _
+    (rw next at (here .loop .inv .3 job holds same)) (obeyed .result) (obeyed .last .1 .1 .0)
+    (obeyed .ensures job (here .loop .inv .3 job holds same .so-far .holds) same) _ (c .before .verdict .given .1)
 
 enum-told : tie.Need-enum-told Inv-loop μ-loop
 enum-told c = search needs
@@ -100,20 +100,19 @@ loop-again : tie.Need-loop-again Inv-loop μ-loop
 loop-again c =
     let here = c .before .before .before .before .before .before .before .before .before .before in
     let start = c .before .before .before .before .before .before .before .before .before .before .before .before .before in
-    let first = start .args .first in
     let rows = start .args .rows .now in
     let read = start .args .read .now in
     let end = c .before .before .before .before .before .before .before .before .before .line-end in
     let next = lines-next read (here .loop .at) (end .result) (end .ensures .0) (c .before .before .before .before .before .before .before .before .if1 .left) in
     let obeyed = c .before .before .before .before .before .obey-line in
     let more = c .before .before .before .before .before .before .before .before .if1 .left in (
-      obeyed .kept .1 .0 ∙ here .loop .inv .0,
+      obeyed .kept .1 .1 .0 ∙ here .loop .inv .0,
       omega arith,
       omega arith,
-      λ terms holds.
-          along-goes 769 256 terms first rows _ (here .loop .run) (here .loop .rows) (here .loop .line) _ _
-          (rw next at (here .loop .inv .3 terms holds)) (obeyed .result) (obeyed .last .1 .0)
-          (obeyed .ensures terms (here .loop .inv .3 terms holds .so-far .holds)) (c .enum-told .given .1),
+      λ job holds same.
+          along-goes job rows _ (here .loop .run) (here .loop .rows) (here .loop .line) _ _
+          (rw next at (here .loop .inv .3 job holds same)) (obeyed .result) (obeyed .last .1 .1 .0)
+          (obeyed .ensures job (here .loop .inv .3 job holds same .so-far .holds) same) (c .enum-told .given .1),
     )
 
 pub obey-lines-spec : {M : Type 1} → statement M

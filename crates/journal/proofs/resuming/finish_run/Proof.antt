@@ -1,71 +1,82 @@
 -- The run goes on to its end; its rows, its new lines and the zeros are written, and nothing refuses.
+use mathlib.Core.Path.{_≡_, refl}
 use Prim.Native.Nat.{_*_, _<_, _≤_}
 use native.Mathlib.Omega.{arith}
 use borrow.Author.Needs.{needs}
 use lib.ListN.{length}
-use Rattle.journal.specs.code.NewLines.{all-noted}
-use Rattle.journal.proofs.RunEnds.{at-the-end, new-has-room, ends}
+use Rattle.terms.specs.Job.{Job}
+use Rattle.merging.specs.code.State.{history-of}
+use Rattle.merging.proofs.Runs.{merges-within, rows-room}
+use Rattle.journal.specs.Writing.{new-text}
+use Rattle.journal.specs.Promises.{lent}
+use Rattle.journal.specs.code.Finishing.{Finishing}
+use Rattle.journal.proofs.RunEnds.{at-the-end, has-ended, new-has-room, ends}
 use Rattle.journal.proofs.resuming.finish_run.Statement.{statement}
 use Rattle.journal.proofs.resuming.finish_run.Tie as tie
 
+merges-requires : tie.Need-merges-requires
+merges-requires c κs = search needs
+
 finished-requires : tie.Need-finished-requires
-finished-requires c κs = search needs
+finished-requires c κs =
+    let pre = c .before .before .before .before .before .pre in
+    (pre .0, pre .1 .holds)
 
 write-flatpack-requires : tie.Need-write-flatpack-requires
 write-flatpack-requires c κs =
     let start = c .before .before .before .before .before .before .before .before .before in
-    let run = start .args .run in
-    let own = start .args .own .now in
-    let terms = start .pre .0 .0 in
-    let holds = start .pre .0 .1 .0 in
+    let job = start .pre .0 in
+    let given = start .pre .1 in
     let finished = c .before .before .before .finished in
-    let went = finished .ensures terms holds in
-    let room : 4 * finished .result .modes ≤ length (start .args .rows .now) = omega (arith, went .modes, start .pre .1 .1) in
-    ((terms, (_, went .holds)), (at-the-end 769 256 terms own _ run (finished .result) holds went, room))
+    let gone = finished .ensures job (given .holds) in
+    (job, (_, (gone .holds, at-the-end job (start .args .work .now) _ (start .args .run) (finished .result) (given .holds) gone, omega (arith, given .rows-room, given .sized .modes-are))))
+
+-- The new lines fit, whatever the job.
+lines-fit : (c : tie.After-write-new-arg) (job : Job)
+    → Finishing job (c .before .before .before .before .before .before .before .before .before .before .before .before .before .args .run) (c .before .before .before .before .before .before .before .before .before .before .before .before .before .args .modes) (c .before .before .before .before .before .before .before .before .before .before .before .before .before .args .count) (lent (c .before .before .before .before .before .before .before .before .before .before .before .before .before .args .work .now) (c .before .before .before .before .before .before .before .before .before .before .before .before .before .args .rows .now) (c .before .before .before .before .before .before .before .before .before .before .before .before .before .args .journal .now))
+    → length (new-text job (c .before .before .before .before .before .before .before .before .before .before .before .before .before .args .kept) (history-of (c .before .before .before .before .before .before .before .before .before .before .before .before .before .args .run))) ≤ length (c .before .before .before .before .before .before .before .before .before .before .before .before .before .args .journal .now)
+lines-fit c job given =
+    let args = c .before .before .before .before .before .before .before .before .before .before .before .before .before .args in
+    let finished = c .before .before .before .before .before .before .before .finished in
+    let gone = finished .ensures job (given .holds) in
+    let modes = given .sized .modes-are in
+    let count = given .sized .count-is in
+    let few : 3 * job .modes < 1000 = omega (arith, given .few) in
+    let light : length (job .terms) < 10000 = omega (arith, given .light) in
+    let fits = new-has-room job (args .work .now) _ (args .run) (finished .result) (given .holds) gone (args .kept) few light in
+    omega (arith, fits, given .journal-room)
 
 write-new-requires : tie.Need-write-new-requires
 write-new-requires c κs =
     let start = c .before .before .before .before .before .before .before .before .before .before .before .before .before in
-    let run = start .args .run in
-    let own = start .args .own .now in
-    let terms = start .pre .0 .0 in
-    let holds = start .pre .0 .1 .0 in
+    let job = start .pre .0 in
+    let given = start .pre .1 in
     let finished = c .before .before .before .before .before .before .before .finished in
-    let went = finished .ensures terms holds in
-    let few : 3 * run .modes < 1000 = omega (arith, holds .few) in
-    let light : length terms < 10000 = omega (arith, start .pre .0 .1 .1, start .pre .0 .1 .2) in
-    let room = new-has-room 769 256 terms own _ run (finished .result) holds went (start .args .count) (start .args .kept) few light (omega (arith, start .pre .0 .1 .2)) in
-    let all : length (all-noted (finished .result) (run .step) (start .args .count) (start .args .kept)) ≤ length (start .args .journal .now) =
-    omega (arith, room, start .pre .1 .2) in
-    ((went .holds .whole, went .holds .few, omega (arith, went .modes, holds .inside), omega (arith, start .pre .0 .1 .2)), all)
+    let gone = finished .ensures job (given .holds) in
+    let ended = has-ended job (start .args .work .now) _ (start .args .run) (finished .result) (given .holds) gone _ _ _ (given .sized) (c .before .before .before .before .before .before .before .before .before .merges .ensures) in
+    ((omega (arith, given .few), omega (arith, given .light)), (job, (_, (ended, lines-fit c job given))))
 
 mul-clear-front : tie.Need-mul-clear-front
 mul-clear-front c = search needs
 
 clear-front-requires : tie.Need-clear-front-requires
-clear-front-requires c κs = search needs
+clear-front-requires c κs =
+    let pre = c .before .before .before .before .before .before .before .before .before .before .before .before .before .before .before .before .before .pre in
+    let finished = c .before .before .before .before .before .before .before .before .before .before .before .finished in
+    let gone = finished .ensures (pre .0) (pre .1 .holds) in
+    omega (arith, rows-room (pre .0) _ (finished .result) (gone .holds), pre .1 .sized .count-is)
+
+greedy-weight-requires : tie.Need-greedy-weight-requires
+greedy-weight-requires c κs = search needs
 
 sub-trial-total : tie.Need-sub-trial-total
 sub-trial-total c =
     let start = c .before .before .before .before .before .before .before .before .before .before .before .before .before .before .before .before .before .before .before .before .before in
-    let run = start .args .run in
-    let own = start .args .own .now in
-    let terms = start .pre .0 .0 in
-    let holds = start .pre .0 .1 .0 in
-    let finished = c .before .before .before .before .before .before .before .before .before .before .before .before .before .before .before .finished in
-    let went = finished .ensures terms holds in
-    omega (arith, went .modes, holds .inside)
+    let given = start .pre .1 in
+    omega (arith, c .before .before .before .before .before .before .before .before .before .before .before .before .before .before .before .before .before .merges .ensures, merges-within (start .pre .0) _ (start .args .run) (given .holds), given .sized .modes-are)
 
 trial-total-requires : tie.Need-trial-total-requires
-trial-total-requires c κs =
-    let start = c .before .before .before .before .before .before .before .before .before .before .before .before .before .before .before .before .before .before .before .before .before in
-    let run = start .args .run in
-    let own = start .args .own .now in
-    let terms = start .pre .0 .0 in
-    let holds = start .pre .0 .1 .0 in
-    let finished = c .before .before .before .before .before .before .before .before .before .before .before .before .before .before .before .finished in
-    let went = finished .ensures terms holds in
-    omega (arith, went .modes, holds .few)
+trial-total-requires c κs = omega (arith, c .before .before .before .before .before .before .before .before .before .before .before .before .before .before .before .before .before .before .before .before .before .pre .1 .few)
 
 same-length : tie.Need-same-length
 same-length c = search needs
@@ -76,33 +87,33 @@ same-length-2 c = search needs
 same-length-3 : tie.Need-same-length-3
 same-length-3 c = search needs
 
-same-length-4 : tie.Need-same-length-4
-same-length-4 c = search needs
-
 returns : tie.Need-returns
-returns c =
-    let start = c .before .before .before .before .before .before .before .before .before .before .before .before .before .before .before .before .before .before .before .before .before .before in
-    let run = start .args .run in
-    let own = start .args .own .now in
+returns c job bytes given kept-is =
+    let args = c .before .before .before .before .before .before .before .before .before .before .before .before .before .before .before .before .before .before .before .before .before .before .args in
     let finished = c .before .before .before .before .before .before .before .before .before .before .before .before .before .before .before .before .finished in
-    let put = c .before .before .before .before .before .before .before .before .write-new .ensures in
-    λ terms bytes holds counted kept-is.
-    ends 769 256 terms own _ run (finished .result) holds (finished .ensures terms holds) (start .args .count) bytes (start .args .work .now) (start .args .rows .now) (start .args .journal .now) _ _ _
-    (start .args .kept) _ _ kept-is (c .before .before .before .before .before .before .before .before .before .before .before .before .write-flatpack .ensures) (put .0) (put .1) (c .before .before .before .before .clear-front .ensures) (c .trial-total .ensures)
+    let gone = finished .ensures job (given .holds) in
+    let from = c .before .before .before .before .before .before .before .before .before .before .before .before .before .before .before .before .before .before .merges .ensures in
+    let ended = has-ended job (args .work .now) _ (args .run) (finished .result) (given .holds) gone _ _ _ (given .sized) from in
+    ends job (args .work .now) _ (args .run) (finished .result) (given .holds) gone (args .modes) (args .count) _ (given .sized) from _ _ (args .kept) _ bytes
+    (args .rows .now) (args .journal .now) _ _ _ kept-is (c .before .greedy-weight .ensures job _ (gone .holds))
+    (c .before .before .before .before .before .before .before .before .before .before .before .before .write-flatpack .ensures job _ (gone .holds))
+    (c .before .before .before .before .before .before .before .before .write-new .ensures job _ ended (lines-fit (c .before .before .before .before .before .before .before .before .before) job given))
+    (c .before .before .before .before .clear-front .ensures) (c .trial-total .ensures)
 
 pub finish-run-spec : {M : Type 1} → statement M
 finish-run-spec =
     tie.close
     (tie.spec
+    merges-requires
     finished-requires
     write-flatpack-requires
     write-new-requires
     mul-clear-front
     clear-front-requires
+    greedy-weight-requires
     sub-trial-total
     trial-total-requires
     same-length
     same-length-2
     same-length-3
-    same-length-4
     returns)

@@ -4,6 +4,7 @@ use borrow.Author.Tests.{le-leb, lt-leb}
 use borrow.Author.Needs.{needs}
 use Rattle.terms.specs.Good.{modes-good}
 use Rattle.journal.specs.Resuming.{with-terms, resumed}
+use Rattle.journal.specs.Promises.{lent}
 use Rattle.journal.proofs.JournalAnswered.{nothing-altered}
 use Rattle.journal.proofs.resuming.resume.Statement.{statement}
 use Rattle.journal.proofs.resuming.resume.Tie as tie
@@ -13,14 +14,14 @@ unfolding resumed modes-good
 returns c =
     let start = c .before .before .before .before .before .before in
     let args = start .args in
-    rw (lt-leb _ _ (c .if1 .taken)) (nothing-altered (args .work .now) (args .rows .now) (args .journal .now) _)
+    nothing-altered _ (lent (args .work .now) (args .rows .now) (args .journal .now)) _ (rw (lt-leb _ _ (c .if1 .taken)))
 
 returns-2 : tie.Need-returns-2
 unfolding resumed modes-good
 returns-2 c =
     let start = c .before .before .before .before .before .before .before in
     let args = start .args in
-    rw (le-leb _ _ (c .before .if1 .left), lt-leb _ _ (c .if2 .taken)) (nothing-altered (args .work .now) (args .rows .now) (args .journal .now) _)
+    nothing-altered _ (lent (args .work .now) (args .rows .now) (args .journal .now)) _ (rw (le-leb _ _ (c .before .if1 .left), lt-leb _ _ (c .if2 .taken)))
 
 check-terms-requires : tie.Need-check-terms-requires
 check-terms-requires c κs = search needs
@@ -42,7 +43,7 @@ returns-3 c =
     let start = c .before .before .before .before .before .before .before .before .before .before .before in
     let args = start .args in
     let tests = c .before .before .before .before in
-    rw (le-leb _ _ (tests .before .if1 .left), le-leb _ _ (tests .if2 .left), sym (c .before .before .before .check-terms .ensures) ∙ c .before .refusal .given .1) (nothing-altered (args .work .now) (args .rows .now) (args .journal .now) _)
+    nothing-altered _ (lent (args .work .now) (args .rows .now) (args .journal .now)) _ (rw (le-leb _ _ (tests .before .if1 .left), le-leb _ _ (tests .if2 .left), sym (c .before .before .before .check-terms .ensures) ∙ c .before .refusal .given .1))
 
 same-length : tie.Need-same-length
 same-length c = search needs

@@ -8,6 +8,7 @@ use Rattle.terms.proofs.StaysGood.{accepted}
 use Rattle.terms.proofs.OwnRows.{own-terms, own-held}
 use Rattle.journal.specs.Obeying.{obeyed}
 use Rattle.journal.specs.Resuming.{with-journal}
+use Rattle.journal.specs.Promises.{lent}
 use Rattle.journal.proofs.JournalAnswered.{answers-so}
 use Rattle.journal.proofs.resuming.resume_copy.Statement.{statement}
 use Rattle.journal.proofs.resuming.resume_copy.Tie as tie
@@ -49,8 +50,8 @@ returns c =
     let good = accepted (args .modes) terms (args .count) (start .pre .0 .2) in
     let copy = c .before .before .before .before .before .before .before .before .before .before .before .before .own-copy in
     let same = own-terms 8 (args .count) terms (copy .result) (good .whole) (copy .ensures .1) in
-    answers-so (args .work .now) (args .rows .now) (args .journal .now) _ _ _ _ _ _
-    (ap (λ l. with-journal (args .modes) (args .count) l (args .read .now) (obeyed (args .modes) (args .count) l (args .read .now))) (sym same))
+    answers-so _ (lent (args .work .now) (args .rows .now) (args .journal .now)) _ _ _
+    (ap (λ l. with-journal (record { modes = args .modes; terms = l }) (args .read .now) (obeyed (record { modes = args .modes; terms = l }) (args .read .now))) (sym same))
     (c .before .before .before .before .before .before .before .resume-own .ensures)
 
 pub resume-copy-spec : {M : Type 1} → statement M

@@ -1,10 +1,15 @@
 -- Each room that is too small refuses with nothing altered; with all of them the run goes on.
+use mathlib.Core.Path.{_≡_}
+use mathlib.Core.Bool.{true}
 use native.Mathlib.Omega.{arith}
 use borrow.Author.Tests.{le-leb, lt-leb}
 use borrow.Author.Needs.{needs}
 use Rattle.terms.proofs.StaysGood.{accepted}
+use Rattle.refusal.specs.declared.Refusal.the-variants.{Room}
 use Rattle.journal.specs.Resuming.{with-terms, roomy}
-use Rattle.journal.proofs.JournalAnswered.{nothing-altered}
+use Rattle.journal.specs.Promises.{lent, rooms-of}
+use Rattle.journal.proofs.CallDone.{rooms-fit, with-room}
+use Rattle.journal.proofs.JournalAnswered.{nothing-altered, answers-so}
 use Rattle.journal.proofs.resuming.resume_good.Statement.{statement}
 use Rattle.journal.proofs.resuming.resume_good.Tie as tie
 
@@ -20,7 +25,7 @@ unfolding with-terms roomy
 returns c =
     let start = c .before .before .before .before .before .before in
     let args = start .args in
-    rw (lt-leb _ _ (c .if1 .taken)) (nothing-altered (args .work .now) (args .rows .now) (args .journal .now) _)
+    nothing-altered _ (lent (args .work .now) (args .rows .now) (args .journal .now)) Room (rw (lt-leb _ _ (c .if1 .taken)))
 
 mul-if2 : tie.Need-mul-if2
 mul-if2 c = search needs
@@ -30,7 +35,7 @@ unfolding with-terms roomy
 returns-2 c =
     let start = c .before .before .before .before .before .before .before in
     let args = start .args in
-    rw (le-leb _ _ (c .before .if1 .left), lt-leb _ _ (c .if2 .taken)) (nothing-altered (args .work .now) (args .rows .now) (args .journal .now) _)
+    nothing-altered _ (lent (args .work .now) (args .rows .now) (args .journal .now)) Room (rw (le-leb _ _ (c .before .if1 .left), lt-leb _ _ (c .if2 .taken)))
 
 mul-if3 : tie.Need-mul-if3
 mul-if3 c = search needs
@@ -43,10 +48,21 @@ unfolding with-terms roomy
 returns-3 c =
     let start = c .before .before .before .before .before .before .before .before in
     let args = start .args in
-    rw (le-leb _ _ (c .before .before .if1 .left), le-leb _ _ (c .before .if2 .left), lt-leb _ _ (c .if3 .taken)) (nothing-altered (args .work .now) (args .rows .now) (args .journal .now) _)
+    nothing-altered _ (lent (args .work .now) (args .rows .now) (args .journal .now)) Room (rw (le-leb _ _ (c .before .before .if1 .left), le-leb _ _ (c .before .if2 .left), lt-leb _ _ (c .if3 .taken)))
+
+-- The three tests passed.
+all-room : (c : tie.Else3)
+    → roomy (rooms-of 256 (lent (c .before .before .before .before .before .before .before .before .args .work .now) (c .before .before .before .before .before .before .before .before .args .rows .now) (c .before .before .before .before .before .before .before .before .args .journal .now)))
+    (c .before .before .before .before .before .before .before .before .args .modes) (c .before .before .before .before .before .before .before .before .args .count)
+    ≡ true
+all-room c =
+    rooms-fit _ _ _ (c .before .before .if1 .left) (c .before .if2 .left) (c .if3 .left)
 
 resume-copy-requires : tie.Need-resume-copy-requires
-resume-copy-requires c κs = search needs
+resume-copy-requires c κs =
+    let tests = c .before .before .before in
+    let start = tests .before .before .before .before .before .before .before .before in
+    (start .pre, all-room tests)
 
 same-length : tie.Need-same-length
 same-length c = search needs
@@ -58,10 +74,12 @@ same-length-3 : tie.Need-same-length-3
 same-length-3 c = search needs
 
 returns-4 : tie.Need-returns-4
-unfolding with-terms roomy
 returns-4 c =
     let tests = c .before .before .before .before .before .before .before .before .before .before in
-    rw (le-leb _ _ (tests .before .before .if1 .left), le-leb _ _ (tests .before .if2 .left), le-leb _ _ (tests .if3 .left))
+    let start = tests .before .before .before .before .before .before .before .before in
+    let args = start .args in
+    let given = lent (args .work .now) (args .rows .now) (args .journal .now) in
+    answers-so _ given _ _ _ (with-room (rooms-of 256 given) (args .modes) (args .terms .now) (args .read .now) (args .count) (all-room tests))
     (c .before .before .before .before .before .before .resume-copy .ensures)
 
 pub resume-good-spec : {M : Type 1} → statement M

@@ -1,17 +1,33 @@
 -- A journal that is refused leaves everything as it was; else the run goes on from what it came to.
-use mathlib.Core.Path.{ap, sym, _∙_}
-use Prim.Native.Nat.{_+_, _*_, _≤_}
-use native.Mathlib.Omega.{arith}
+use mathlib.Core.Path.{_≡_, refl}
+use mathlib.Core.Bool.{true}
+use mathlib.Core.List.{List}
+use Prim.Native.Nat.{ℕ, _≤_}
 use borrow.Author.Needs.{needs}
-use lib.ListN.{length}
-use Rattle.terms.specs.Rows.{terms-of}
+use Rattle.terms.specs.Job.{job-of}
 use Rattle.terms.proofs.RowSteps.{length-terms}
-use Rattle.merging.specs.code.State.{history-of}
-use Rattle.journal.specs.Resuming.{done, ending}
+use Rattle.merging.specs.declared.run.Run.{Run}
+use Rattle.merging.specs.code.Runs.{Holds}
 use Rattle.journal.specs.Obeying.{obeyed}
+use Rattle.journal.specs.Resuming.{roomy}
+use Rattle.journal.specs.Promises.{Lent, lent, rooms-of}
+use Rattle.journal.specs.code.Finishing.{FromOwn}
 use Rattle.journal.proofs.JournalAnswered.{nothing-altered, answers-so, journal-refused, journal-obeyed}
 use Rattle.journal.proofs.resuming.resume_own.Statement.{statement}
 use Rattle.journal.proofs.resuming.resume_own.Tie as tie
+
+-- The run that an accepted journal leads to, on the call's own rows.
+accepted : (modes count : ℕ) (own now-own : List ℕ) (run : Run) (given : Lent) → Holds (job-of modes count own) now-own run
+    → modes ≤ 256 → count ≤ 2048 → roomy (rooms-of 256 given) modes count ≡ true
+    → FromOwn (job-of modes count own) run modes count now-own given
+accepted modes count own now-own run given holds few light room =
+    record {
+      holds = holds;
+      sized = record { modes-are = refl; count-is = length-terms 8 count own };
+      few = few;
+      light = light;
+      room = room;
+    }
 
 obey-requires : tie.Need-obey-requires
 obey-requires c κs = search needs
@@ -25,33 +41,25 @@ enum-told c = search needs
 kept-bytes-requires : tie.Need-kept-bytes-requires
 kept-bytes-requires c κs = search needs
 
-finish-run-requires : tie.Need-finish-run-requires
-finish-run-requires c κs =
+finish-lent-requires : tie.Need-finish-lent-requires
+finish-lent-requires c κs =
     let start = c .before .before .before .before .before .before .before .before .before .before .before .before .before .before .before .before in
     let args = start .args in
-    let own = args .own .now in
-    let terms = terms-of 8 (args .count) own in
-    let obey = c .before .before .before .before .before .before .before .before .before .obey in
-    let same = obey .ensures .same-modes in
-    let rooms = start .pre .1 in
-    let rows : 4 * obey .result .run .modes ≤ length (args .rows .now) = omega (arith, same, rooms .1) in
-    let journal : 16 + 21 * obey .result .run .modes ≤ length (args .journal .now) = omega (arith, same, rooms .2) in
-    ((terms, (obey .ensures .holds, length-terms 8 (args .count) own, start .pre .0 .2)), (rooms .0, rows, journal))
+    let own = args .own .now in (
+      job-of (args .modes) (args .count) own,
+      accepted (args .modes) (args .count) own _ _ _ (c .before .before .before .before .before .before .before .before .before .obey .ensures .went .holds) (start .pre .0 .1) (start .pre .0 .2) (start .pre .1),
+    )
 
 same-length : tie.Need-same-length
 same-length c = search needs
 
 returns : tie.Need-returns
 returns c =
-    let start = c .before .before .before .before .before .before .before .before .before .before .before .before in
-    let args = start .args in
-    let own = args .own .now in
-    let terms = terms-of 8 (args .count) own in
+    let args = c .before .before .before .before .before .before .before .before .before .before .before .before .args in
+    let job = job-of (args .modes) (args .count) (args .own .now) in
     let obey = c .before .before .before .before .before .obey in
-    let meant = obeyed (args .modes) (args .count) terms (args .read .now) in
-    answers-so (args .work .now) (args .rows .now) (args .journal .now) _ _ _ _ _ _
-    (journal-refused (args .modes) (args .count) terms (args .read .now) meant (obey .result .verdict) (obey .result .run) (obey .ensures .comes-to) _ (c .before .verdict .given .1))
-    (nothing-altered (args .work .now) (args .rows .now) (args .journal .now) _)
+    nothing-altered _ (lent (args .work .now) (args .rows .now) (args .journal .now)) _
+    (journal-refused job (args .read .now) (obeyed job (args .read .now)) (obey .result .verdict) (obey .result .run) (obey .ensures .comes-to) _ (c .before .verdict .given .1))
 
 same-length-2 : tie.Need-same-length-2
 same-length-2 c = search needs
@@ -67,17 +75,14 @@ same-length-5 c = search needs
 
 returns-2 : tie.Need-returns-2
 returns-2 c =
-    let start = c .before .before .before .before .before .before .before .before .before .before .before .before .before .before .before .before .before .before .before .before .before .before .before .before .before in
+    let start = c .before .before .before .before .before .before .before .before .before .before .before .before .before .before .before .before .before .before .before .before .before .before .before in
     let args = start .args in
-    let own = args .own .now in
-    let terms = terms-of 8 (args .count) own in
-    let obey = c .before .before .before .before .before .before .before .before .before .before .before .before .before .before .before .before .before .before .obey in
-    let meant = obeyed (args .modes) (args .count) terms (args .read .now) in
-    let told = c .before .before .before .before .before .before .before .before .before .before .before .before .before .before .enum-told .given in
-    answers-so (args .work .now) (args .rows .now) (args .journal .now) _ _ _ _ _ _
-    (journal-obeyed (args .modes) (args .count) terms (args .read .now) meant (obey .result .verdict) (obey .result .run) (obey .ensures .comes-to) (told .1)
-    ∙ ap (λ n. done (ending n (args .count) terms (args .read .now) (history-of (obey .result .run)))) (sym (obey .ensures .same-modes)))
-    (c .before .before .before .before .before .before .before .before .finish-run .ensures terms (args .read .now) (obey .ensures .holds) (length-terms 8 (args .count) own) (c .before .before .before .before .before .before .before .before .before .before .before .before .before .kept-bytes .ensures .0))
+    let job = job-of (args .modes) (args .count) (args .own .now) in
+    let obey = c .before .before .before .before .before .before .before .before .before .before .before .before .before .before .before .before .obey in
+    let from = accepted (args .modes) (args .count) (args .own .now) _ _ _ (obey .ensures .went .holds) (start .pre .0 .1) (start .pre .0 .2) (start .pre .1) in
+    answers-so _ (lent (args .work .now) (args .rows .now) (args .journal .now)) _ _ _
+    (journal-obeyed job (args .read .now) (obeyed job (args .read .now)) (obey .result .verdict) (obey .result .run) (obey .ensures .comes-to) (c .before .before .before .before .before .before .before .before .before .before .before .before .enum-told .given .1))
+    (c .before .before .before .before .before .before .finish-lent .ensures job (args .read .now) from (c .before .before .before .before .before .before .before .before .before .before .before .kept-bytes .ensures .0))
 
 pub resume-own-spec : {M : Type 1} → statement M
 resume-own-spec =
@@ -87,7 +92,7 @@ resume-own-spec =
     enum-known-verdict
     enum-told
     kept-bytes-requires
-    finish-run-requires
+    finish-lent-requires
     same-length
     returns
     same-length-2
