@@ -8,7 +8,8 @@ use lib.ListN.{length}
 use Rattle.lists.specs.Least.{least}
 use Rattle.lists.proofs.Tests.{same-or-not}
 use Rattle.lists.proofs.Membership.{of-joined}
-use Rattle.lists.proofs.Ordered.{Ascending, map-ascends, joined-ascends}
+use Rattle.lists.specs.Ordered.{Ascending}
+use Rattle.lists.proofs.Ordered.{map-ascends, joined-ascends}
 use Rattle.lists.proofs.Narrowing.{any-ascends}
 use Rattle.lists.proofs.Least.{FirstLeast, least-of-first}
 use Rattle.entities.specs.declared.Triple.{Triple}

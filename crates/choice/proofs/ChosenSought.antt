@@ -31,35 +31,35 @@ module _ (rows : List (List ℕ)) where
       (map-flatMap of (λ node. at-node node (f node)) nodes
       ∙ ap (λ g. flatMap g nodes) (fun-ext (λ node. map-map of (λ triple. record { node = node; triple = triple }) (f node))))
 
-  least-sought : (live : ℕ) (l : List Choice) → length rows ≤ live
-      → choice-of (least standing (worst live) (map of l)) ≡ least-of (rank rows) (choice-of (worst live)) l
+  least-sought : (count : ℕ) (l : List Choice) → length rows ≤ count
+      → choice-of (least standing (worst count) (map of l)) ≡ least-of (rank rows) (choice-of (worst count)) l
   unfolding least-of least choice-of worst of weighed standing rank
-  least-sought live [] h = refl
-  least-sought live (first ∷ rest) h =
+  least-sought count [] h = refl
+  least-sought count (first ∷ rest) h =
       let light = weight-at-most (first .triple) rows in
-      ap choice-of (least-found standing of (worst live) first rest (omega arith))
+      ap choice-of (least-found standing of (worst count) first rest (omega arith))
 
-  least-weighs : (live : ℕ) (l : List Choice) → length rows ≤ live → least standing (worst live) (map of l) .«min_weight» ≤ live
-      → least standing (worst live) (map of l) .«min_weight» ≡ weight-of (least standing (worst live) (map of l) .«leaf_indices») rows
+  least-weighs : (count : ℕ) (l : List Choice) → length rows ≤ count → least standing (worst count) (map of l) .«min_weight» ≤ count
+      → least standing (worst count) (map of l) .«min_weight» ≡ weight-of (least standing (worst count) (map of l) .«leaf_indices») rows
   unfolding least worst of weighed standing
-  least-weighs live [] h k = absurd (omega arith)
-  least-weighs live (first ∷ rest) h k =
+  least-weighs count [] h k = absurd (omega arith)
+  least-weighs count (first ∷ rest) h k =
       let light = weight-at-most (first .triple) rows in
-      rw (least-found standing of (worst live) first rest (omega arith))
+      rw (least-found standing of (worst count) first rest (omega arith))
 
-  pub over-chosen : (modes : ℕ) (table : List ℕ) (heuristic round : ℕ) (assigned : List ℕ) (live : ℕ) → length rows ≤ live
-      → choice-of (sought-over modes table assigned rows (worst live) (active modes table heuristic round assigned))
+  pub over-chosen : (modes : ℕ) (table : List ℕ) (heuristic round : ℕ) (assigned : List ℕ) (count : ℕ) → length rows ≤ count
+      → choice-of (sought-over modes table assigned rows (worst count) (active modes table heuristic round assigned))
       ≡ chosen modes table heuristic round assigned rows
   unfolding sought-over chosen candidates at-node choice-of worst
-  over-chosen modes table heuristic round assigned live h =
+  over-chosen modes table heuristic round assigned count h =
       rw (weighed-all (choices-at modes table assigned) (active modes table heuristic round assigned))
-      (least-sought live (flatMap (λ node. at-node node (choices-at modes table assigned node)) (active modes table heuristic round assigned)) h)
+      (least-sought count (flatMap (λ node. at-node node (choices-at modes table assigned node)) (active modes table heuristic round assigned)) h)
 
-  pub over-weighs : (modes : ℕ) (table : List ℕ) (assigned : List ℕ) (live : ℕ) (nodes : List ℕ) → length rows ≤ live
-      → sought-over modes table assigned rows (worst live) nodes .«min_weight» ≤ live
-      → sought-over modes table assigned rows (worst live) nodes .«min_weight»
-      ≡ weight-of (sought-over modes table assigned rows (worst live) nodes .«leaf_indices») rows
+  pub over-weighs : (modes : ℕ) (table : List ℕ) (assigned : List ℕ) (count : ℕ) (nodes : List ℕ) → length rows ≤ count
+      → sought-over modes table assigned rows (worst count) nodes .«min_weight» ≤ count
+      → sought-over modes table assigned rows (worst count) nodes .«min_weight»
+      ≡ weight-of (sought-over modes table assigned rows (worst count) nodes .«leaf_indices») rows
   unfolding sought-over at-node
-  over-weighs modes table assigned live nodes h =
+  over-weighs modes table assigned count nodes h =
       rw (weighed-all (choices-at modes table assigned) nodes)
-      (least-weighs live (flatMap (λ node. at-node node (choices-at modes table assigned node)) nodes) h)
+      (least-weighs count (flatMap (λ node. at-node node (choices-at modes table assigned node)) nodes) h)

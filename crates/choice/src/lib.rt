@@ -100,25 +100,25 @@ fn better_of(node: u16, triple: Triple, weight: usize, best: Selection) -> Selec
 // The best so far against one choice, given how many of its x and y are odd in each row.
 fn best_beside<'a>(
     rows: &'a [u16],
-    live: usize,
+    count: usize,
     odd: &'a [u8],
     node: u16,
     triple: Triple,
     best: Selection,
 ) -> Selection
-    requires { ⌜ Held 8 live (now rows) ⌝ }
-    requires { ⌜ live ≤ length (now odd) ⌝ }
-    requires { ⌜ OddOf (now rows) live (triple .x) (triple .y) (now odd) ⌝ }
-    ensures { λ r. ⌜ r ≡ sought (terms-of 8 live (now (rows .entry))) node best (triple ∷ []) ⌝ }
+    requires { ⌜ Held 8 count (now rows) ⌝ }
+    requires { ⌜ count ≤ length (now odd) ⌝ }
+    requires { ⌜ OddOf (now rows) count (triple .x) (triple .y) (now odd) ⌝ }
+    ensures { λ r. ⌜ r ≡ sought (terms-of 8 count (now (rows .entry))) node best (triple ∷ []) ⌝ }
 {
-    let weight = weight::weight_beside(rows, live, odd, triple);
+    let weight = weight::weight_beside(rows, count, odd, triple);
     better_of(node, triple, weight, best)
 }
 
 // The best so far against the choice whose Z leaf takes this mode, unless it is the pair's.
 fn best_of_mode<'a>(
     rows: &'a [u16],
-    live: usize,
+    count: usize,
     odd: &'a [u8],
     modes: usize,
     node: u16,
@@ -127,11 +127,11 @@ fn best_of_mode<'a>(
     mode: u16,
     best: Selection,
 ) -> Selection
-    requires { ⌜ Held 8 live (now rows) ⌝ }
-    requires { ⌜ live ≤ length (now odd) ⌝ }
-    requires { ⌜ OddOf (now rows) live (slots .x) (slots .y) (now odd) ⌝ }
+    requires { ⌜ Held 8 count (now rows) ⌝ }
+    requires { ⌜ count ≤ length (now odd) ⌝ }
+    requires { ⌜ OddOf (now rows) count (slots .x) (slots .y) (now odd) ⌝ }
     requires { ⌜ (modes ≤ 256) × (mode < modes) × (3 * modes < slots .z) × (slots .z ≤ 3 * modes + 2) ⌝ }
-    ensures { λ r. ⌜ r ≡ sought (terms-of 8 live (now (rows .entry))) node best (with-z (slots .x) (slots .y) (map (leaf-of modes (slots .z)) (without pair (mode ∷ [])))) ⌝ }
+    ensures { λ r. ⌜ r ≡ sought (terms-of 8 count (now (rows .entry))) node best (with-z (slots .x) (slots .y) (map (leaf-of modes (slots .z)) (without pair (mode ∷ [])))) ⌝ }
 {
     if mode == pair {
         return best;
@@ -141,13 +141,13 @@ fn best_of_mode<'a>(
         y: slots.y,
         z: slots::leaf_of(modes, slots.z, mode),
     };
-    best_beside(rows, live, odd, node, triple, best)
+    best_beside(rows, count, odd, node, triple, best)
 }
 
 // The best so far against the choices whose Z leaf takes each of these modes but the pair's.
 fn best_of_modes<'a>(
     rows: &'a [u16],
-    live: usize,
+    count: usize,
     odd: &'a [u8],
     free: &'a [u16],
     modes: usize,
@@ -156,17 +156,17 @@ fn best_of_modes<'a>(
     pair: u16,
     start: Selection,
 ) -> Selection
-    requires { ⌜ Held 8 live (now rows) ⌝ }
-    requires { ⌜ live ≤ length (now odd) ⌝ }
-    requires { ⌜ OddOf (now rows) live (slots .x) (slots .y) (now odd) ⌝ }
+    requires { ⌜ Held 8 count (now rows) ⌝ }
+    requires { ⌜ count ≤ length (now odd) ⌝ }
+    requires { ⌜ OddOf (now rows) count (slots .x) (slots .y) (now odd) ⌝ }
     requires { ⌜ (modes ≤ 256) × (3 * modes < slots .z) × (slots .z ≤ 3 * modes + 2) ⌝ }
     requires { ⌜ every (λ mode. ltb mode modes) (now free) ≡ true ⌝ }
-    ensures { λ r. ⌜ r ≡ sought (terms-of 8 live (now (rows .entry))) node start (with-z (slots .x) (slots .y) (map (leaf-of modes (slots .z)) (without pair (now (free .entry))))) ⌝ }
+    ensures { λ r. ⌜ r ≡ sought (terms-of 8 count (now (rows .entry))) node start (with-z (slots .x) (slots .y) (map (leaf-of modes (slots .z)) (without pair (now (free .entry))))) ⌝ }
 {
     let mut best = start;
     let mut at = 0;
     while at < free.len() {
-        best = best_of_mode(rows, live, odd, modes, node, slots, pair, free[at], best);
+        best = best_of_mode(rows, count, odd, modes, node, slots, pair, free[at], best);
         at += 1;
     }
     best
@@ -175,7 +175,7 @@ fn best_of_modes<'a>(
 // The best so far against x and y with each number that the Z slot may stand as; where these are many, x and y are counted in the rows once.
 fn best_of_pair<'a>(
     rows: &'a [u16],
-    live: usize,
+    count: usize,
     free: &'a [u16],
     modes: usize,
     node: u16,
@@ -183,23 +183,23 @@ fn best_of_pair<'a>(
     pair: u16,
     start: Selection,
 ) -> Selection
-    requires { ⌜ Held 8 live (now rows) ⌝ }
-    requires { ⌜ (live ≤ 2048) × (modes ≤ 256) × (slots .z ≤ 3 * modes + 2) ⌝ }
+    requires { ⌜ Held 8 count (now rows) ⌝ }
+    requires { ⌜ (count ≤ 2048) × (modes ≤ 256) × (slots .z ≤ 3 * modes + 2) ⌝ }
     requires { ⌜ every (λ mode. ltb mode modes) (now free) ≡ true ⌝ }
-    ensures { λ r. ⌜ r ≡ sought (terms-of 8 live (now (rows .entry))) node start (with-z (slots .x) (slots .y) (numbers modes (slots .z) (without pair (now (free .entry))))) ⌝ }
+    ensures { λ r. ⌜ r ≡ sought (terms-of 8 count (now (rows .entry))) node start (with-z (slots .x) (slots .y) (numbers modes (slots .z) (without pair (now (free .entry))))) ⌝ }
 {
     if !slots::unfixed(modes, slots.z) {
-        return better_of(node, slots, weight::weight(rows, live, slots), start);
+        return better_of(node, slots, weight::weight(rows, count, slots), start);
     }
     let mut odd = [0u8; 2048];
-    weight::count_odd(rows, live, slots.x, slots.y, &mut odd);
-    best_of_modes(rows, live, &odd, free, modes, node, slots, pair, start)
+    weight::count_odd(rows, count, slots.x, slots.y, &mut odd);
+    best_of_modes(rows, count, &odd, free, modes, node, slots, pair, start)
 }
 
 // The best so far against the choices in which the X and Y leaves take this mode.
 fn best_of_leaves<'a>(
     rows: &'a [u16],
-    live: usize,
+    count: usize,
     free: &'a [u16],
     modes: usize,
     node: u16,
@@ -207,40 +207,40 @@ fn best_of_leaves<'a>(
     mode: u16,
     best: Selection,
 ) -> Selection
-    requires { ⌜ Held 8 live (now rows) ⌝ }
-    requires { ⌜ (live ≤ 2048) × (modes ≤ 256) × (mode < modes) ⌝ }
+    requires { ⌜ Held 8 count (now rows) ⌝ }
+    requires { ⌜ (count ≤ 2048) × (modes ≤ 256) × (mode < modes) ⌝ }
     requires { ⌜ (3 * modes < slots .x) × (slots .x ≤ 3 * modes + 2) × (3 * modes < slots .y) × (slots .y ≤ 3 * modes + 2) × (slots .z ≤ 3 * modes + 2) ⌝ }
     requires { ⌜ every (λ mode. ltb mode modes) (now free) ≡ true ⌝ }
-    ensures { λ r. ⌜ r ≡ sought (terms-of 8 live (now (rows .entry))) node best (with-z (leaf-of modes (slots .x) mode) (leaf-of modes (slots .y) mode) (numbers modes (slots .z) (without mode (now (free .entry))))) ⌝ }
+    ensures { λ r. ⌜ r ≡ sought (terms-of 8 count (now (rows .entry))) node best (with-z (leaf-of modes (slots .x) mode) (leaf-of modes (slots .y) mode) (numbers modes (slots .z) (without mode (now (free .entry))))) ⌝ }
 {
     let leaves = Triple {
         x: slots::leaf_of(modes, slots.x, mode),
         y: slots::leaf_of(modes, slots.y, mode),
         z: slots.z,
     };
-    best_of_pair(rows, live, free, modes, node, leaves, mode, best)
+    best_of_pair(rows, count, free, modes, node, leaves, mode, best)
 }
 
 // The best so far against the choices in which the X and Y leaves take each free mode in turn.
 fn best_of_pairs<'a>(
     rows: &'a [u16],
-    live: usize,
+    count: usize,
     free: &'a [u16],
     modes: usize,
     node: u16,
     slots: Triple,
     start: Selection,
 ) -> Selection
-    requires { ⌜ Held 8 live (now rows) ⌝ }
-    requires { ⌜ (live ≤ 2048) × (modes ≤ 256) ⌝ }
+    requires { ⌜ Held 8 count (now rows) ⌝ }
+    requires { ⌜ (count ≤ 2048) × (modes ≤ 256) ⌝ }
     requires { ⌜ (3 * modes < slots .x) × (slots .x ≤ 3 * modes + 2) × (3 * modes < slots .y) × (slots .y ≤ 3 * modes + 2) × (slots .z ≤ 3 * modes + 2) ⌝ }
     requires { ⌜ every (λ mode. ltb mode modes) (now free) ≡ true ⌝ }
-    ensures { λ r. ⌜ r ≡ sought (terms-of 8 live (now (rows .entry))) node start (flatMap (λ mode. with-z (leaf-of modes (slots .x) mode) (leaf-of modes (slots .y) mode) (numbers modes (slots .z) (without mode (now (free .entry))))) (now (free .entry))) ⌝ }
+    ensures { λ r. ⌜ r ≡ sought (terms-of 8 count (now (rows .entry))) node start (flatMap (λ mode. with-z (leaf-of modes (slots .x) mode) (leaf-of modes (slots .y) mode) (numbers modes (slots .z) (without mode (now (free .entry))))) (now (free .entry))) ⌝ }
 {
     let mut best = start;
     let mut at = 0;
     while at < free.len() {
-        best = best_of_leaves(rows, live, free, modes, node, slots, free[at], best);
+        best = best_of_leaves(rows, count, free, modes, node, slots, free[at], best);
         at += 1;
     }
     best
@@ -249,33 +249,33 @@ fn best_of_pairs<'a>(
 // The best so far against the choices of three slots.
 fn best_of_slots<'a>(
     rows: &'a [u16],
-    live: usize,
+    count: usize,
     free: &'a [u16],
     modes: usize,
     node: u16,
     slots: Triple,
     best: Selection,
 ) -> Selection
-    requires { ⌜ Held 8 live (now rows) ⌝ }
-    requires { ⌜ (live ≤ 2048) × (modes ≤ 256) × (slots .x ≤ 3 * modes + 2) × (slots .y ≤ 3 * modes + 2) × (slots .z ≤ 3 * modes + 2) ⌝ }
+    requires { ⌜ Held 8 count (now rows) ⌝ }
+    requires { ⌜ (count ≤ 2048) × (modes ≤ 256) × (slots .x ≤ 3 * modes + 2) × (slots .y ≤ 3 * modes + 2) × (slots .z ≤ 3 * modes + 2) ⌝ }
     requires { ⌜ every (λ mode. ltb mode modes) (now free) ≡ true ⌝ }
-    ensures { λ r. ⌜ r ≡ sought (terms-of 8 live (now (rows .entry))) node best (choices modes (now (free .entry)) (slots .x) (slots .y) (slots .z)) ⌝ }
+    ensures { λ r. ⌜ r ≡ sought (terms-of 8 count (now (rows .entry))) node best (choices modes (now (free .entry)) (slots .x) (slots .y) (slots .z)) ⌝ }
 {
     // a mode that no leaf takes, so that Z may take any
     let none = modes as u16;
     if !slots::unfixed(modes, slots.x) {
-        return best_of_pair(rows, live, free, modes, node, slots, none, best);
+        return best_of_pair(rows, count, free, modes, node, slots, none, best);
     }
     if !slots::unfixed(modes, slots.y) {
-        return best_of_pair(rows, live, free, modes, node, slots, none, best);
+        return best_of_pair(rows, count, free, modes, node, slots, none, best);
     }
-    best_of_pairs(rows, live, free, modes, node, slots, best)
+    best_of_pairs(rows, count, free, modes, node, slots, best)
 }
 
 // The best so far against the choices of a node.
 fn best_at<'a>(
     rows: &'a [u16],
-    live: usize,
+    count: usize,
     tree: &'a [u16],
     assigned: &'a [u16],
     free: &'a [u16],
@@ -283,39 +283,39 @@ fn best_at<'a>(
     node: u16,
     best: Selection,
 ) -> Selection
-    requires { ⌜ Held 8 live (now rows) ⌝ }
-    requires { ⌜ (live ≤ 2048) × (modes ≤ 256) × (length (now assigned) ≡ modes) × (length (now tree) ≡ 3 * modes) × (node < modes) ⌝ }
+    requires { ⌜ Held 8 count (now rows) ⌝ }
+    requires { ⌜ (count ≤ 2048) × (modes ≤ 256) × (length (now assigned) ≡ modes) × (length (now tree) ≡ 3 * modes) × (node < modes) ⌝ }
     requires { ⌜ now free ≡ unassigned modes (now assigned) ⌝ }
-    ensures { λ r. ⌜ r ≡ sought-over modes (now (tree .entry)) (now (assigned .entry)) (terms-of 8 live (now (rows .entry))) best (node ∷ []) ⌝ }
+    ensures { λ r. ⌜ r ≡ sought-over modes (now (tree .entry)) (now (assigned .entry)) (terms-of 8 count (now (rows .entry))) best (node ∷ []) ⌝ }
 {
     let at = slots::slots(modes, tree, assigned, entities::wide(node));
-    best_of_slots(rows, live, free, modes, node, at, best)
+    best_of_slots(rows, count, free, modes, node, at, best)
 }
 
-// The best of all choices of these nodes; no weight is above the live rows.
+// The best of all choices of these nodes; no weight is above the rows.
 pub fn select<'a>(
     rows: &'a [u16],
-    live: usize,
+    count: usize,
     tree: &'a [u16],
     assigned: &'a [u16],
     free: &'a [u16],
     active: &'a [u16],
     modes: usize,
 ) -> Selection
-    requires { ⌜ Held 8 live (now rows) ⌝ }
-    requires { ⌜ (live ≤ 2048) × (modes ≤ 256) × (length (now assigned) ≡ modes) × (length (now tree) ≡ 3 * modes) ⌝ }
+    requires { ⌜ Held 8 count (now rows) ⌝ }
+    requires { ⌜ (count ≤ 2048) × (modes ≤ 256) × (length (now assigned) ≡ modes) × (length (now tree) ≡ 3 * modes) ⌝ }
     requires { ⌜ now free ≡ unassigned modes (now assigned) ⌝ }
     requires { ⌜ every (λ node. ltb node modes) (now active) ≡ true ⌝ }
-    ensures { λ r. ⌜ r ≡ sought-over modes (now (tree .entry)) (now (assigned .entry)) (terms-of 8 live (now (rows .entry))) (worst live) (now (active .entry)) ⌝ }
+    ensures { λ r. ⌜ r ≡ sought-over modes (now (tree .entry)) (now (assigned .entry)) (terms-of 8 count (now (rows .entry))) (worst count) (now (active .entry)) ⌝ }
 {
     let mut best = Selection {
-        min_weight: live + 1,
+        min_weight: count + 1,
         min_parent: 0,
         leaf_indices: Triple { x: 0, y: 0, z: 0 },
     };
     let mut at = 0;
     while at < active.len() {
-        best = best_at(rows, live, tree, assigned, free, modes, active[at], best);
+        best = best_at(rows, count, tree, assigned, free, modes, active[at], best);
         at += 1;
     }
     best

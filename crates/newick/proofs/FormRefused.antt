@@ -1,6 +1,6 @@
 -- 19, and 1 with a place, are matters of form alone: what a call says by them it says of its text.
 use mathlib.Core.Path.{_≡_}
-use mathlib.Core.Bool.{Bool, true, false, cond}
+use mathlib.Core.Bool.{Bool, true, false, cond, not}
 use mathlib.Core.List.{List}
 use Prim.Native.Nat.{ℕ, _*_}
 use native.Mathlib.Omega.{arith}
@@ -65,12 +65,10 @@ module _ (refusal : Refusal) (form : OfForm refusal) where
       (ltb (pairs-right modes table) modes)
     where
       go : (m w c o p : Bool)
-          → cond m
-          (cond w
+          → cond (not m) (Refused Modes)
+          (cond (not w) (Refused TreeLength)
           (cond c (Refused (ChildCode (codes-good modes table)))
-          (cond o (cond p (Refused (WrongPair (pairs-right modes table))) Accepted) (Refused NotOneTree)))
-          (Refused TreeLength))
-          (Refused Modes)
+          (cond (not o) (Refused NotOneTree) (cond p (Refused (WrongPair (pairs-right modes table))) Accepted))))
           ≡ Refused refusal
           → ⊥
       go false w c o p e = form .modes cc

@@ -10,7 +10,8 @@ use lib.ListN.{length, take, drop, length-take, length-drop}
 use Rattle.lists.specs.Members.{firsts}
 use Rattle.lists.specs.Ranges.{listed}
 use Rattle.lists.proofs.Membership.{kept, of-kept, counted, counted-below}
-use Rattle.lists.proofs.Ordered.{Ascending, counted-ascends, kept-ascends}
+use Rattle.lists.specs.Ordered.{Ascending}
+use Rattle.lists.proofs.Ordered.{counted-ascends, kept-ascends}
 use Rattle.lists.proofs.Narrowing.{some-member, of-taken, of-dropped, of-first, some-first, taken-ascends, dropped-ascends, firsts-ascend}
 use Rattle.tree.specs.Table.{nodes}
 use Rattle.slots.specs.Nodes.{distance, complete, remaining, largest, farthest, narrowed, active}

@@ -28,7 +28,7 @@ use Rattle.tree.proofs.EachHosts.{host, host-pair}
 use Rattle.slots.specs.Slots.{parity-of}
 use Rattle.slots.proofs.SlotCases.{even-pair, odd-pair, even-parity, odd-parity}
 use Rattle.topphatt.specs.Answer.{answer-table}
-use Rattle.topphatt.specs.Rounds.{ended}
+use Rattle.topphatt.specs.Rounds.{Task, ended}
 use Rattle.topphatt.specs.Assignment.{AllAssigned}
 use Rattle.topphatt.proofs.RoundsGo.{all-assigned}
 use Rattle.topphatt.proofs.AnswerShape.{relabelled, node-kept, absent-kept, mode-of, mode-below, leaf-relabelled, answer-at, answer-length, pair-with, node-same, node-counts, same-shape}
@@ -205,8 +205,7 @@ module _ (modes : ℕ) (table assigned : List ℕ) (all : AllAssigned modes tabl
         })
 
 -- After all rounds.
-pub answer-accepted : (most modes : ℕ) (table : List ℕ) (heuristic : ℕ) (terms : List (List ℕ)) → tree-checked most modes table ≡ Accepted
-    → 3 * modes + 2 < 65536 → tree-checked most modes (answer-table modes (ended modes table heuristic terms .assigned) table) ≡ Accepted
-answer-accepted most modes table heuristic terms accepted few =
-    accepted-still modes table (ended modes table heuristic terms .assigned) (all-assigned most modes table accepted few heuristic terms) (omega arith)
-    most accepted
+pub answer-accepted : (most : ℕ) (task : Task) → tree-checked most (task .job .modes) (task .table) ≡ Accepted → 3 * task .job .modes + 2 < 65536
+    → tree-checked most (task .job .modes) (answer-table (task .job .modes) (ended task .assigned) (task .table)) ≡ Accepted
+answer-accepted most task accepted few =
+    accepted-still (task .job .modes) (task .table) (ended task .assigned) (all-assigned most task accepted few) (omega arith) most accepted

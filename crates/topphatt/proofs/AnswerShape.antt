@@ -22,7 +22,7 @@ use Rattle.tree.proofs.AcceptedTree.{accepted-says}
 use Rattle.slots.specs.Slots.{pair-of, parity-of, slot-of}
 use Rattle.slots.proofs.SlotCases.{slot-child, slot-empty, slot-fixed, pair-below}
 use Rattle.topphatt.specs.Answer.{answer-table}
-use Rattle.topphatt.specs.Rounds.{ended}
+use Rattle.topphatt.specs.Rounds.{Task, ended}
 use Rattle.topphatt.specs.Assignment.{AllAssigned, SameShape}
 use Rattle.topphatt.proofs.RoundsGo.{all-assigned}
 
@@ -169,8 +169,7 @@ module _ (modes : ℕ) (table assigned : List ℕ) (all : AllAssigned modes tabl
         }
 
 -- After all rounds.
-pub answer-shape : (most modes : ℕ) (table : List ℕ) (heuristic : ℕ) (terms : List (List ℕ)) → tree-checked most modes table ≡ Accepted
-    → 3 * modes + 2 < 65536 → SameShape modes table (answer-table modes (ended modes table heuristic terms .assigned) table)
-answer-shape most modes table heuristic terms accepted few =
-    same-shape modes table (ended modes table heuristic terms .assigned) (all-assigned most modes table accepted few heuristic terms) (omega arith)
-    most accepted
+pub answer-shape : (most : ℕ) (task : Task) → tree-checked most (task .job .modes) (task .table) ≡ Accepted → 3 * task .job .modes + 2 < 65536
+    → SameShape (task .job .modes) (task .table) (answer-table (task .job .modes) (ended task .assigned) (task .table))
+answer-shape most task accepted few =
+    same-shape (task .job .modes) (task .table) (ended task .assigned) (all-assigned most task accepted few) (omega arith) most accepted

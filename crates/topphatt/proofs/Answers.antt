@@ -1,40 +1,68 @@
 -- Each return is one case of the answer.
-use mathlib.Core.Path.{_≡_, refl, ap}
+use mathlib.Core.Path.{_≡_, refl, ap, _∙_}
 use mathlib.Core.List.{List}
 use Prim.Native.Nat.{ℕ, _*_, _<_, _≤_}
 use borrow.Author.Tests.{le-leb, lt-leb}
-use lib.ListN.{replicate}
+use lib.ListN.{length, drop, replicate, length-replicate}
 use Rattle.lists.specs.Written.{written-at}
+use Rattle.lists.proofs.Written.{written-front}
 use Rattle.refusal.specs.declared.Refusal.{Refusal}
 use Rattle.refusal.specs.declared.Refusal.the-variants.{Room}
-use Rattle.terms.specs.Rows.{terms-of}
+use Rattle.terms.proofs.RowSteps.{length-terms}
+use Rattle.topphatt.specs.declared.Assigned.{Assigned}
 use Rattle.topphatt.specs.declared.Assigned.the-variants.{Weight, Unassigned}
-use Rattle.topphatt.specs.Rounds.{ended}
-use Rattle.topphatt.specs.Answer.{done, refused, with-room, answer-table}
-use Rattle.topphatt.specs.Promises.{Assigns, returned, work-after, table-after}
+use Rattle.topphatt.specs.Rounds.{Task, ended}
+use Rattle.topphatt.specs.Answer.{Outcome, done, refused, answer-table, Asked, task-of, Rooms, done-by, with-room}
+use Rattle.topphatt.specs.Promises.{numbers-of, told-numbers, returned, Lent, lent, lent-then, Assigns}
 
-module _ (modes : ℕ) (table : List ℕ) (heuristic : ℕ) (numbers : List ℕ) (work room count : ℕ) where
-  pub room-work : work < 8 * count → with-room modes table heuristic numbers work room count ≡ refused Room
+-- Whatever is lent, a room that is too small refuses, and else the answer is that of the rounds.
+module _ (rooms : Rooms) (call : Asked) (count : ℕ) where
+  pub room-work : rooms .work < 8 * count → with-room rooms (task-of call count) ≡ refused Room
   unfolding with-room
-  room-work h = rw (lt-leb (8 * count) work h)
+  room-work h = rw (length-terms 8 count (call .numbers), lt-leb (8 * count) (rooms .work) h)
 
-  pub room-table : 8 * count ≤ work → room < 3 * modes → with-room modes table heuristic numbers work room count ≡ refused Room
+  pub room-table : 8 * count ≤ rooms .work → rooms .table < 3 * call .modes → with-room rooms (task-of call count) ≡ refused Room
   unfolding with-room
-  room-table h k = rw (le-leb (8 * count) work h, lt-leb (3 * modes) room k)
+  room-table h k =
+      rw (length-terms 8 count (call .numbers), le-leb (8 * count) (rooms .work) h, lt-leb (3 * call .modes) (rooms .table) k)
 
-  pub room-done : 8 * count ≤ work → 3 * modes ≤ room
-      → with-room modes table heuristic numbers work room count
-      ≡ done count (ended modes table heuristic (terms-of 8 count numbers) .weight)
-      (answer-table modes (ended modes table heuristic (terms-of 8 count numbers) .assigned) table)
+  pub room-done : 8 * count ≤ rooms .work → 3 * call .modes ≤ rooms .table → with-room rooms (task-of call count) ≡ done-by (task-of call count)
   unfolding with-room
-  room-done h k = rw (le-leb (8 * count) work h, le-leb (3 * modes) room k)
+  room-done h k =
+      rw (length-terms 8 count (call .numbers), le-leb (8 * count) (rooms .work) h, le-leb (3 * call .modes) (rooms .table) k)
 
-pub refused-so : (refusal : Refusal) (work table : List ℕ) → Assigns (refused refusal) work table work table (Unassigned refusal)
-unfolding returned work-after table-after
-refused-so refusal work table = record { answer = refl; work-is = refl; table-is = refl }
+-- The numbers of an answer are those of its meaning.
+numbers-so : (outcome : Outcome) → numbers-of (returned outcome) ≡ told-numbers outcome
+unfolding numbers-of told-numbers returned
+numbers-so (done count weight codes) = refl
+numbers-so (refused refusal) = refl
 
-pub done-so : (count weight : ℕ) (codes work table now-work now-table : List ℕ) (r : ℕ) → r ≡ weight
-    → now-work ≡ written-at 0 (replicate (8 * count) 0) work → now-table ≡ written-at 0 codes table
-    → Assigns (done count weight codes) work table now-work now-table (Weight r)
-unfolding returned work-after table-after
-done-so count weight codes work table now-work now-table r e f g = record { answer = ap Weight e; work-is = f; table-is = g }
+module _ (meant : Lent → Outcome) (before : Lent) where
+  assigns : (after : Lent) (r : Assigned) → r ≡ returned (meant before) → after ≡ lent-then (meant before) before → Assigns meant before after r
+  assigns after r e l = record { answer = e; numbers = ap numbers-of e ∙ numbers-so (meant before); leaves = l }
+
+  -- A refusal leaves what is lent as it is.
+  pub refused-so : (refusal : Refusal) → meant before ≡ refused refusal → Assigns meant before before (Unassigned refusal)
+  unfolding returned lent-then
+  refused-so refusal e = assigns before (Unassigned refusal) (rw e) (rw e)
+
+  -- What is promised of one meaning is promised of any that says the same here.
+  pub assigns-so : (other : Lent → Outcome) (after : Lent) (r : Assigned) → meant before ≡ other before
+      → Assigns meant before after r → Assigns other before after r
+  assigns-so other after r e a = record {
+    answer = a .answer ∙ ap returned e;
+    numbers = a .numbers ∙ ap told-numbers e;
+    leaves = a .leaves ∙ ap (λ outcome. lent-then outcome before) e;
+  }
+
+-- The rounds were made in the front of work, which is zeros then, and the table was written.
+pub done-so : (task : Task) (count : ℕ) (work worked table now-work now-table : List ℕ) (r : ℕ) → length (task .job .terms) ≡ count
+    → r ≡ ended task .weight → drop (8 * count) worked ≡ drop (8 * count) work → now-work ≡ written-at 0 (replicate (8 * count) 0) worked
+    → now-table ≡ written-at 0 (answer-table (task .job .modes) (ended task .assigned) (task .table)) table
+    → Assigns (λ given. done-by task) (lent work table) (lent now-work now-table) (Weight r)
+unfolding done-by returned lent-then
+done-so task count work worked table now-work now-table r counted weighed rest cleared written =
+    let zeros : List ℕ = replicate (8 * count) 0 in
+    let front : drop (length zeros) worked ≡ drop (length zeros) work = rw (length-replicate {A = ℕ} (8 * count) 0) rest in
+    assigns (λ given. done-by task) (lent work table) (lent now-work now-table) (Weight r) (ap Weight weighed)
+    (rw counted (λ i. record { work = (cleared ∙ written-front zeros worked work front) i; table = written i }))

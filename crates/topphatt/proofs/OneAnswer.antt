@@ -4,9 +4,8 @@ use mathlib.Core.List.{List}
 use Prim.Native.Nat.{ℕ}
 use Rattle.topphatt.specs.declared.Assigned.{Assigned}
 use Rattle.topphatt.specs.Answer.{Outcome}
-use Rattle.topphatt.specs.Promises.{Assigns}
+use Rattle.topphatt.specs.Promises.{Lent, Assigns}
 
-pub one-answer : (meant : Outcome) (work table work1 table1 work2 table2 : List ℕ) (r s : Assigned) → Assigns meant work table work1 table1 r
-    → Assigns meant work table work2 table2 s → (r ≡ s) × (work1 ≡ work2) × (table1 ≡ table2)
-one-answer meant work table work1 table1 work2 table2 r s one two =
-    (one .answer ∙ sym (two .answer), one .work-is ∙ sym (two .work-is), one .table-is ∙ sym (two .table-is))
+pub one-answer : (meant : Lent → Outcome) (before one other : Lent) (r s : Assigned) → Assigns meant before one r → Assigns meant before other s
+    → (r ≡ s) × (one ≡ other)
+one-answer meant before one other r s first second = (first .answer ∙ sym (second .answer), first .leaves ∙ sym (second .leaves))

@@ -1,5 +1,5 @@
 -- One round more, and where the rounds end.
-use mathlib.Core.Path.{_≡_, refl}
+use mathlib.Core.Path.{_≡_, refl, ap, fun-ext}
 use mathlib.Core.Bool.{true, false}
 use mathlib.Core.List.{List}
 use Prim.Native.Nat.{ℕ, suc, _+_, _-_, _*_, _<_, _≤_}
@@ -7,47 +7,59 @@ use native.Mathlib.Nat.{sub-zero}
 use native.Mathlib.Omega.{arith}
 use lib.Dec.{eqb}
 use lib.ListN.{length, replicate}
+use Rattle.lists.specs.Least.{least-of}
 use Rattle.terms.specs.Rows.{terms-of}
 use Rattle.terms.specs.Weight.{weight-of}
-use Rattle.terms.specs.Reduction.{reduction}
+use Rattle.terms.specs.Reduction.{reduction, live}
+use Rattle.terms.proofs.AsTold.{live-weight}
 use Rattle.choice.specs.Choices.{unassigned}
-use Rattle.choice.specs.Choice.{Choice, chosen}
+use Rattle.choice.specs.Choice.{Choice, candidates, packed, rank, chosen}
 use Rattle.topphatt.specs.declared.rounds.Progress.{Progress}
-use Rattle.topphatt.specs.Rounds.{Rounds, before, fixed-by, after, next, rounds, ended}
-use Rattle.topphatt.specs.code.Going.{state-of}
+use Rattle.topphatt.specs.Rounds.{Rounds, Task, before, fixed-by, after, choice-in, next, rounds, ended}
+use Rattle.topphatt.specs.code.Going.{task-with, state-of}
 
-module _ (modes : ℕ) (table : List ℕ) (heuristic : ℕ) where
-  pub stepped : (rows assigned : List ℕ) (progress : Progress) (now-rows now-assigned : List ℕ) (r : Progress) (choice : Choice)
-      → choice ≡ chosen modes table heuristic (progress .round) assigned (terms-of 8 (progress .live) rows)
-      → r .round ≡ suc (progress .round)
-      → now-assigned ≡ fixed-by modes table choice assigned
-      → terms-of 8 (r .live) now-rows ≡ reduction (choice .triple) (2 * modes + 1 + choice .node) (terms-of 8 (progress .live) rows)
-      → r .weight ≡ progress .weight + weight-of (choice .triple) (terms-of 8 (progress .live) rows)
-      → state-of now-rows now-assigned r ≡ next modes table heuristic (state-of rows assigned progress)
-  unfolding state-of next after
-  stepped rows assigned progress now-rows now-assigned r choice right turn fixing reducing weighing =
-      rw (← right, turn, fixing, reducing, weighing)
+pub stepped : (task : Task) (rows assigned : List ℕ) (progress : Progress) (now-rows now-assigned : List ℕ) (r : Progress) (choice : Choice)
+    → choice ≡ choice-in task (state-of rows assigned progress)
+    → r .round ≡ suc (progress .round)
+    → now-assigned ≡ fixed-by (task .job .modes) (task .table) choice assigned
+    → terms-of 8 (r .count) now-rows ≡ reduction (choice .triple) (2 * task .job .modes + 1 + choice .node) (terms-of 8 (progress .count) rows)
+    → r .weight ≡ progress .weight + weight-of (choice .triple) (terms-of 8 (progress .count) rows)
+    → state-of now-rows now-assigned r ≡ next task (state-of rows assigned progress)
+unfolding state-of next after
+stepped task rows assigned progress now-rows now-assigned r choice right turn fixing reducing weighing =
+    rw (← right, turn, fixing, reducing, weighing)
 
+module _ (task : Task) where
   module _ (state : Rounds) (at : ℕ) where
-    pub rounds-on : at < modes → eqb (length (unassigned modes (state .assigned))) 0 ≡ false
-        → rounds modes table heuristic (modes - at) state ≡ rounds modes table heuristic (modes - suc at) (next modes table heuristic state)
+    pub rounds-on : at < task .job .modes → eqb (length (unassigned (task .job .modes) (state .assigned))) 0 ≡ false
+        → rounds task (task .job .modes - at) state ≡ rounds task (task .job .modes - suc at) (next task state)
     unfolding rounds
-    rounds-on h e = let more : modes - at ≡ suc (modes - suc at) = omega arith in rw more (rw e)
+    rounds-on h e = let more : task .job .modes - at ≡ suc (task .job .modes - suc at) = omega arith in rw more (rw e)
 
-    pub rounds-stop : at < modes → eqb (length (unassigned modes (state .assigned))) 0 ≡ true → rounds modes table heuristic (modes - at) state ≡ state
+    pub rounds-stop : at < task .job .modes → eqb (length (unassigned (task .job .modes) (state .assigned))) 0 ≡ true
+        → rounds task (task .job .modes - at) state ≡ state
     unfolding rounds
-    rounds-stop h e = let more : modes - at ≡ suc (modes - suc at) = omega arith in rw more (rw e)
+    rounds-stop h e = let more : task .job .modes - at ≡ suc (task .job .modes - suc at) = omega arith in rw more (rw e)
 
-    pub rounds-end : modes ≤ at → rounds modes table heuristic (modes - at) state ≡ state
+    pub rounds-end : task .job .modes ≤ at → rounds task (task .job .modes - at) state ≡ state
     unfolding rounds
-    rounds-end h = let none : modes - at ≡ 0 = omega arith in rw none
+    rounds-end h = let none : task .job .modes - at ≡ 0 = omega arith in rw none
 
-  pub rounds-start : (live : ℕ) (rows assigned : List ℕ) → assigned ≡ replicate modes modes
-      → rounds modes table heuristic (modes - 0) (state-of rows assigned (record { round = 0; live = live; weight = 0 }))
-      ≡ ended modes table heuristic (terms-of 8 live rows)
-  unfolding ended before state-of
-  rounds-start live rows assigned e = rw (sub-zero, e)
+pub rounds-start : (modes : ℕ) (table : List ℕ) (heuristic count : ℕ) (rows assigned : List ℕ) → assigned ≡ replicate modes modes
+    → rounds (task-with modes table heuristic (terms-of 8 count rows)) (modes - 0) (state-of rows assigned (record { round = 0; count = count; weight = 0 }))
+    ≡ ended (task-with modes table heuristic (terms-of 8 count rows))
+unfolding ended before state-of
+rounds-start modes table heuristic count rows assigned e = rw (sub-zero, e)
 
 pub state-assigned : (rows assigned : List ℕ) (progress : Progress) → state-of rows assigned progress .assigned ≡ assigned
 unfolding state-of
 state-assigned rows assigned progress = refl
+
+-- A choice among the rows that are there is the choice among all: a row that is gone weighs nothing.
+pub chosen-live : (modes : ℕ) (table : List ℕ) (heuristic round : ℕ) (assigned : List ℕ) (rows : List (List ℕ))
+    → chosen modes table heuristic round assigned (live rows) ≡ chosen modes table heuristic round assigned rows
+unfolding chosen rank
+chosen-live modes table heuristic round assigned rows =
+    let none : Choice = record { node = 0; triple = record { x = 0; y = 0; z = 0 } } in
+    ap (λ measure. least-of measure none (candidates modes table heuristic round assigned))
+    (fun-ext (λ choice. ap (λ weight. weight * 281474976710656 + (281474976710655 - packed (choice .triple))) (live-weight (choice .triple) rows)))

@@ -10,15 +10,15 @@ use lib.ListN.{length, getD, replicate, length-replicate, getD-replicate, List·
 use Rattle.lists.specs.Counting.{occurrences}
 use Rattle.lists.proofs.Occurring.{occurs-at}
 use Rattle.lists.proofs.Pigeonholes.{counted-with}
+use Rattle.terms.specs.Job.{Job}
 use Rattle.tree.specs.declared.TreeChecked.the-variants.{Accepted}
 use Rattle.tree.specs.Table.{child}
 use Rattle.tree.specs.Check.{tree-checked}
 use Rattle.slots.specs.Slots.{pair-of, slot, unfixed}
 use Rattle.slots.proofs.SlotCases.{Without, unfixed-without, pair-below}
 use Rattle.choice.specs.Choices.{unassigned}
-use Rattle.choice.specs.Choice.{chosen}
 use Rattle.choice.proofs.ChosenRight.{of-candidates, chosen-first, chosen-right}
-use Rattle.topphatt.specs.Rounds.{Rounds, before, after, next, rounds, ended}
+use Rattle.topphatt.specs.Rounds.{Rounds, Task, before, after, choice-in, next, rounds, ended}
 use Rattle.topphatt.specs.Assignment.{Fair, RoundGoes, UnderWay, AllAssigned}
 use Rattle.topphatt.proofs.FairCounts.{fair-before, as-many, each-assigned}
 use Rattle.topphatt.proofs.SomeChoice.{some-choice}
@@ -61,72 +61,85 @@ every-pair modes table assigned fair none =
         let w = slot-unfixed modes table assigned node edge q in
         absurd (omega (arith, w .none, inside (pair-of modes (child table node edge)) (pair-below modes assigned (child table node edge) (w .low) (w .high))))
 
-pub under-way-before : (modes : ℕ) (terms : List (List ℕ)) → UnderWay modes (before modes terms)
-unfolding before
-under-way-before modes terms = record { fair = fair-before modes; fresh = λ e k. go k (ltb k modes) refl }
+none-given : (modes k : ℕ) → modes ≤ getD (replicate modes modes) k modes
+none-given modes k = go (ltb k modes) refl
   where
-    go : (k : ℕ) (b : Bool) → ltb k modes ≡ b → modes ≤ getD (replicate modes modes) k modes
-    go k true q = omega (arith, getD-replicate modes k modes modes (ltb-true k modes q))
-    go k false q =
+    go : (b : Bool) → ltb k modes ≡ b → modes ≤ getD (replicate modes modes) k modes
+    go true q = omega (arith, getD-replicate modes k modes modes (ltb-true k modes q))
+    go false q =
         let high = ltb-false k modes q in
         let out : length (replicate modes modes) ≤ k = omega (arith, length-replicate modes modes) in
         omega (arith, List·getD-eq-default (replicate modes modes) modes out)
 
-module _ (most modes : ℕ) (table : List ℕ) (accepted : tree-checked most modes table ≡ Accepted) (few : 3 * modes + 2 < 65536) (heuristic : ℕ) where
+pub under-way-before : (job : Job) → UnderWay (job .modes) (before job)
+unfolding before
+under-way-before job = record { fair = fair-before (job .modes); fresh = λ e k. none-given (job .modes) k }
+
+module _ (most : ℕ) (task : Task) (accepted : tree-checked most (task .job .modes) (task .table) ≡ Accepted)
+    (few : 3 * task .job .modes + 2 < 65536) where
+  abbrev modes : ℕ
+  modes = task .job .modes
+
+  abbrev table : List ℕ
+  table = task .table
+
+  abbrev heuristic : ℕ
+  heuristic = task .heuristic
+
   module _ (state : Rounds) (way : UnderWay modes state) (left : 0 < length (unassigned modes (state .assigned))) where
     fresh-now : eqb (state .round) 0 ≡ true → (k : ℕ) → modes ≤ getD (state .assigned) k modes
     fresh-now e = way .fresh (eqb-true (state .round) 0 e)
 
-    pub round-goes : RoundGoes modes table heuristic state (next modes table heuristic state) (chosen modes table heuristic (state .round) (state .assigned) (state .rows))
-    unfolding next after
+    pub round-goes : RoundGoes task state (choice-in task state)
+    unfolding after
     round-goes =
         let some = some-choice most modes table accepted (omega arith) heuristic (state .round) (state .assigned) fresh-now (way .fair) left in
         let found = chosen-first modes table heuristic (state .round) (state .assigned) (state .rows) some .member in
         let gives = choice-gives most modes table accepted (omega arith) heuristic (state .round) (state .assigned) fresh-now (way .fair)
-        (chosen modes table heuristic (state .round) (state .assigned) (state .rows)) found in
+        (choice-in task state) found in
         record {
           some-choice = some;
           right = chosen-right modes table heuristic (state .round) (state .assigned) (state .rows) few some;
           together =
               slots-together most modes table accepted (omega arith) heuristic (state .round) (state .assigned) fresh-now (way .fair) _
               (of-candidates modes table heuristic (state .round) (state .assigned) found .0);
-          goes-on = refl;
           gives = gives;
           done =
               chosen-complete most modes table accepted (omega arith) heuristic (state .round) (state .assigned) fresh-now (way .fair)
-              (chosen modes table heuristic (state .round) (state .assigned) (state .rows)) found;
+              (choice-in task state) found;
           leave = complete-leave modes table (state .assigned) _ gives (state .round);
         }
 
-    counts : next modes table heuristic state .round ≡ suc (state .round)
+    counts : next task state .round ≡ suc (state .round)
     unfolding next after
     counts = refl
 
-    pub under-way-next : UnderWay modes (next modes table heuristic state)
+    pub under-way-next : UnderWay modes (next task state)
+    unfolding next
     under-way-next = record { fair = round-goes .gives .fair; fresh = λ e. absurd (omega (arith, counts)) }
 
   -- As many rounds as pairs without a mode are enough.
   pub rounds-end : (more : ℕ) (state : Rounds) → UnderWay modes state → occurrences modes (state .assigned) ≤ more
-      → Fair modes (rounds modes table heuristic more state .assigned) × (occurrences modes (rounds modes table heuristic more state .assigned) ≡ 0)
-  unfolding rounds
+      → Fair modes (rounds task more state .assigned) × (occurrences modes (rounds task more state .assigned) ≡ 0)
+  unfolding rounds next
   rounds-end zero state way enough = (way .fair, omega arith)
   rounds-end (suc more) state way enough =
-      go (eqb (length (unassigned modes (state .assigned))) 0) refl (rounds-end more (next modes table heuristic state))
+      go (eqb (length (unassigned modes (state .assigned))) 0) refl (rounds-end more (next task state))
     where
       go : (b : Bool) → eqb (length (unassigned modes (state .assigned))) 0 ≡ b
-          → (UnderWay modes (next modes table heuristic state) → occurrences modes (next modes table heuristic state .assigned) ≤ more
-          → Fair modes (rounds modes table heuristic more (next modes table heuristic state) .assigned)
-          × (occurrences modes (rounds modes table heuristic more (next modes table heuristic state) .assigned) ≡ 0))
-          → Fair modes (rounds modes table heuristic (suc more) state .assigned) × (occurrences modes (rounds modes table heuristic (suc more) state .assigned) ≡ 0)
+          → (UnderWay modes (next task state) → occurrences modes (next task state .assigned) ≤ more
+          → Fair modes (rounds task more (next task state) .assigned)
+          × (occurrences modes (rounds task more (next task state) .assigned) ≡ 0))
+          → Fair modes (rounds task (suc more) state .assigned) × (occurrences modes (rounds task (suc more) state .assigned) ≡ 0)
       go true q on = rw q (way .fair, omega (arith, as-many modes (state .assigned) (way .fair), eqb-true (length (unassigned modes (state .assigned))) 0 q))
       go false q on =
           let some = eqb-false (length (unassigned modes (state .assigned))) 0 q in
           let left : 0 < length (unassigned modes (state .assigned)) = omega arith in
           rw q (on (under-way-next state way left) (omega (arith, round-goes state way left .gives .fewer)))
 
-  pub all-assigned : (terms : List (List ℕ)) → AllAssigned modes table (ended modes table heuristic terms .assigned)
+  pub all-assigned : AllAssigned modes table (ended task .assigned)
   unfolding ended
-  all-assigned terms =
-      let start = under-way-before modes terms in
-      let done = rounds-end modes (before modes terms) start (pairs-at-most modes (before modes terms .assigned) (start .fair)) in
-      every-pair modes table (rounds modes table heuristic modes (before modes terms) .assigned) (done .0) (done .1)
+  all-assigned =
+      let start = under-way-before (task .job) in
+      let done = rounds-end modes (before (task .job)) start (pairs-at-most modes (before (task .job) .assigned) (start .fair)) in
+      every-pair modes table (rounds task modes (before (task .job)) .assigned) (done .0) (done .1)

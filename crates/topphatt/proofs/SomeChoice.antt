@@ -11,7 +11,8 @@ use lib.Dec.{eqb, ltb}
 use lib.ListN.{length, getD}
 use Rattle.lists.proofs.Tests.{same-or-not}
 use Rattle.lists.proofs.Membership.{kept, joined}
-use Rattle.lists.proofs.Ordered.{Ascending, counted-ascends, kept-ascends}
+use Rattle.lists.specs.Ordered.{Ascending}
+use Rattle.lists.proofs.Ordered.{counted-ascends, kept-ascends}
 use Rattle.lists.proofs.Narrowing.{some-member, member-of-some}
 use Rattle.entities.specs.Codes.{absent}
 use Rattle.tree.specs.declared.TreeChecked.the-variants.{Accepted}

@@ -1,12 +1,13 @@
 -- "The answer is the table and the sum of chosen weights"; "assign continues 17, 2, 3, 4, 5".
-use mathlib.Core.Bool.{cond, _&&_}
+use mathlib.Core.Bool.{cond, not, _&&_}
 use mathlib.Core.List.{List, map}
 use Prim.Native.Nat.{ℕ, _*_}
 use lib.Dec.{leb}
+use lib.ListN.{length}
 use Rattle.refusal.specs.declared.Refusal.{Refusal}
 use Rattle.refusal.specs.declared.Refusal.the-variants.{Room, Heuristic}
 use Rattle.entities.specs.Codes.{code}
-use Rattle.terms.specs.Rows.{terms-of}
+use Rattle.terms.specs.Job.{job-of}
 use Rattle.terms.specs.Good.{checked}
 use Rattle.terms.specs.declared.checking.Checked.{Checked}
 use Rattle.terms.specs.declared.checking.Checked.the-variants.{Good, Refused as BadTerms}
@@ -14,7 +15,7 @@ use Rattle.tree.specs.Check.{tree-checked}
 use Rattle.tree.specs.declared.TreeChecked.{TreeChecked}
 use Rattle.tree.specs.declared.TreeChecked.the-variants.{Accepted, Refused as BadTree}
 use Rattle.slots.specs.Slots.{slot-of}
-use Rattle.topphatt.specs.Rounds.{ended}
+use Rattle.topphatt.specs.Rounds.{Task, ended}
 
 -- The codes of the slots, where the given tree has its own.
 unfoldable pub answer-table : ℕ → List ℕ → List ℕ → List ℕ
@@ -25,26 +26,48 @@ pub data Outcome : Type 0 where
   done : ℕ → ℕ → List ℕ → Outcome
   refused : Refusal → Outcome
 
+-- What an assignment is asked for: the modes, the tree, the heuristic and the terms' numbers.
+pub record Asked : Type 0 where
+  pub modes : ℕ
+  pub tree : List ℕ
+  pub heuristic : ℕ
+  pub numbers : List ℕ
+
+abbrev pub asked : ℕ → List ℕ → ℕ → List ℕ → Asked
+asked modes tree heuristic numbers = record { modes = modes; tree = tree; heuristic = heuristic; numbers = numbers }
+
+-- What is to be done, where the terms are so many good rows.
+abbrev pub task-of : Asked → ℕ → Task
+task-of call count =
+    record { job = job-of (call .modes) count (call .numbers); table = call .tree; heuristic = call .heuristic }
+
+-- What a call has room for: the most modes, and how many numbers are lent for work and table.
+pub record Rooms : Type 0 where
+  pub modes : ℕ
+  pub work : ℕ
+  pub table : ℕ
+
+-- What is done: the rounds, and their answer.
+unfoldable pub done-by : Task → Outcome
+done-by task =
+    done (length (task .job .terms)) (ended task .weight) (answer-table (task .job .modes) (ended task .assigned) (task .table))
+
 -- 5: "any buffer below its room": "work 8T numbers; … assignment tables 3n".
-unfoldable pub with-room : ℕ → List ℕ → ℕ → List ℕ → ℕ → ℕ → ℕ → Outcome
-with-room modes table heuristic numbers work room count =
-    let end = ended modes table heuristic (terms-of 8 count numbers) in
-    cond (leb (8 * count) work && leb (3 * modes) room)
-    (done count (end .weight) (answer-table modes (end .assigned) table))
-    (refused Room)
+unfoldable pub with-room : Rooms → Task → Outcome
+with-room rooms task =
+    cond (not (leb (8 * length (task .job .terms)) (rooms .work) && leb (3 * task .job .modes) (rooms .table))) (refused Room) (done-by task)
 
 -- 2, 3, 4 of the terms.
-unfoldable pub with-terms : ℕ → List ℕ → ℕ → List ℕ → ℕ → ℕ → Checked → Outcome
-with-terms modes table heuristic numbers work room (Good count) = with-room modes table heuristic numbers work room count
-with-terms modes table heuristic numbers work room (BadTerms refusal) = refused refusal
+unfoldable pub with-terms : Rooms → Asked → Checked → Outcome
+with-terms rooms call (Good count) = with-room rooms (task-of call count)
+with-terms rooms call (BadTerms refusal) = refused refusal
 
 -- 1 and 13 to 16 of the tree, then 17: "heuristic not 0, 1, 2".
-unfoldable pub with-tree : ℕ → List ℕ → ℕ → List ℕ → ℕ → ℕ → TreeChecked → Outcome
-with-tree modes table heuristic numbers work room Accepted =
-    cond (leb heuristic 2) (with-terms modes table heuristic numbers work room (checked modes numbers)) (refused Heuristic)
-with-tree modes table heuristic numbers work room (BadTree refusal) = refused refusal
+unfoldable pub with-tree : Rooms → Asked → TreeChecked → Outcome
+with-tree rooms call Accepted =
+    cond (not (leb (call .heuristic) 2)) (refused Heuristic) (with-terms rooms call (checked (call .modes) (call .numbers)))
+with-tree rooms call (BadTree refusal) = refused refusal
 
--- The meaning of `assign`: the modes at most, the modes, the tree, the heuristic, the terms' numbers, and the lengths of work and table.
-unfoldable pub outcome : ℕ → ℕ → List ℕ → ℕ → List ℕ → ℕ → ℕ → Outcome
-outcome most modes table heuristic numbers work room =
-    with-tree modes table heuristic numbers work room (tree-checked most modes table)
+-- The meaning of `assign`.
+unfoldable pub outcome : Rooms → Asked → Outcome
+outcome rooms call = with-tree rooms call (tree-checked (rooms .modes) (call .modes) (call .tree))

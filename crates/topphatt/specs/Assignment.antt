@@ -13,7 +13,7 @@ use Rattle.slots.specs.Slots.{slot, unfixed}
 use Rattle.slots.specs.Nodes.{complete, remaining}
 use Rattle.choice.specs.Choices.{unassigned}
 use Rattle.choice.specs.Choice.{Choice, candidates, Chosen}
-use Rattle.topphatt.specs.Rounds.{Rounds, before, after}
+use Rattle.topphatt.specs.Rounds.{Rounds, Task, before, after}
 use Rattle.topphatt.specs.Answer.{answer-table}
 
 -- Each pair has a mode or none, which is n; no two pairs have the same mode.
@@ -28,29 +28,34 @@ pub record Given (modes : ℕ) (assigned now : List ℕ) : Type 0 where
   pub fewer : occurrences modes now < occurrences modes assigned
   pub stays : (k : ℕ) → getD assigned k modes < modes → getD now k modes ≡ getD assigned k modes
 
+-- The choice of a round, as a reader states it.
+abbrev pub ChosenIn : Task → Rounds → Choice → Type 0
+ChosenIn task state choice =
+    Chosen (task .job .modes) (task .table) (task .heuristic) (state .round) (state .assigned) (state .rows) choice
+
 -- A round has a choice, and takes the one that document 01 describes; of its node's X and Y slots both are unfixed or neither is; it gives
 -- modes to pairs; its node is then complete, and the complete nodes leave the round list.
-pub record RoundGoes (modes : ℕ) (table : List ℕ) (heuristic : ℕ) (state now : Rounds) (choice : Choice) : Type 0 where
-  pub some-choice : 0 < length (candidates modes table heuristic (state .round) (state .assigned))
-  pub right : Chosen modes table heuristic (state .round) (state .assigned) (state .rows) choice
-  pub together : unfixed modes (slot modes table (state .assigned) (choice .node) 0) ≡ unfixed modes (slot modes table (state .assigned) (choice .node) 1)
-  pub goes-on : now ≡ after modes table choice state
-  pub gives : Given modes (state .assigned) (now .assigned)
-  pub done : complete modes table (now .assigned) (choice .node) ≡ true
-  pub leave : remaining modes table (now .round) (now .assigned)
-      ≡ keep (λ node. not (complete modes table (now .assigned) node)) (remaining modes table (state .round) (state .assigned))
+pub record RoundGoes (task : Task) (state : Rounds) (choice : Choice) : Type 0 where
+  pub some-choice : 0 < length (candidates (task .job .modes) (task .table) (task .heuristic) (state .round) (state .assigned))
+  pub right : ChosenIn task state choice
+  pub together : unfixed (task .job .modes) (slot (task .job .modes) (task .table) (state .assigned) (choice .node) 0)
+      ≡ unfixed (task .job .modes) (slot (task .job .modes) (task .table) (state .assigned) (choice .node) 1)
+  pub gives : Given (task .job .modes) (state .assigned) (after task choice state .assigned)
+  pub done : complete (task .job .modes) (task .table) (after task choice state .assigned) (choice .node) ≡ true
+  pub leave : remaining (task .job .modes) (task .table) (after task choice state .round) (after task choice state .assigned)
+      ≡ keep (λ node. not (complete (task .job .modes) (task .table) (after task choice state .assigned) node))
+      (remaining (task .job .modes) (task .table) (state .round) (state .assigned))
 
 -- What holds before the first round and after each: the modes are fairly given, and in round 0 none is.
 pub record UnderWay (modes : ℕ) (state : Rounds) : Type 0 where
   pub fair : Fair modes (state .assigned)
   pub fresh : state .round ≡ 0 → (k : ℕ) → modes ≤ getD (state .assigned) k modes
 
--- The rounds from one state to another, as document 01 tells them: while a mode is unassigned, a round with the choice that it describes.
-pub data Went (modes : ℕ) (table : List ℕ) (heuristic : ℕ) : Rounds → Rounds → Type 0 where
-  no-more : {state end : Rounds} → length (unassigned modes (state .assigned)) ≡ 0 → end ≡ state → Went modes table heuristic state end
-  one-more : {state end : Rounds} → 0 < length (unassigned modes (state .assigned)) → (choice : Choice)
-      → Chosen modes table heuristic (state .round) (state .assigned) (state .rows) choice
-      → Went modes table heuristic (after modes table choice state) end → Went modes table heuristic state end
+-- The rounds from one state to another, as document 01 tells them: while a mode is unassigned, a round that goes as it describes.
+pub data Went (task : Task) : Rounds → Rounds → Type 0 where
+  no-more : {state end : Rounds} → length (unassigned (task .job .modes) (state .assigned)) ≡ 0 → end ≡ state → Went task state end
+  one-more : {state end : Rounds} → 0 < length (unassigned (task .job .modes) (state .assigned)) → (choice : Choice)
+      → RoundGoes task state choice → Went task (after task choice state) end → Went task state end
 
 -- No mode is unassigned: every pair has a mode, each mode is one pair's, and no slot is unfixed.
 pub record AllAssigned (modes : ℕ) (table assigned : List ℕ) : Type 0 where
@@ -68,11 +73,11 @@ pub record SameShape (modes : ℕ) (table answer : List ℕ) : Type 0 where
   pub leaf-once : (code : ℕ) → modes ≤ code → code < 3 * modes → occurrences code answer ≡ 1
 
 -- What a call that is done has computed: the sum of the chosen weights of the rounds that document 01 tells, and their tree, which is accepted.
-pub record AnswerRight (most modes : ℕ) (table : List ℕ) (heuristic : ℕ) (terms : List (List ℕ)) (weight : ℕ) (answer : List ℕ) : Type 0 where
+pub record AnswerRight (most : ℕ) (task : Task) (weight : ℕ) (answer : List ℕ) : Type 0 where
   pub end : Rounds
-  pub went : Went modes table heuristic (before modes terms) end
+  pub went : Went task (before (task .job)) end
   pub weight-is : weight ≡ end .weight
-  pub answer-is : answer ≡ answer-table modes (end .assigned) table
-  pub all : AllAssigned modes table (end .assigned)
-  pub shape : SameShape modes table answer
-  pub accepted : tree-checked most modes answer ≡ Accepted
+  pub answer-is : answer ≡ answer-table (task .job .modes) (end .assigned) (task .table)
+  pub all : AllAssigned (task .job .modes) (task .table) (end .assigned)
+  pub shape : SameShape (task .job .modes) (task .table) answer
+  pub accepted : tree-checked most (task .job .modes) answer ≡ Accepted

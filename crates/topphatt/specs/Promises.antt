@@ -2,34 +2,50 @@
 use mathlib.Core.Path.{_≡_}
 use mathlib.Core.List.{List, [], _∷_}
 use Prim.Native.Nat.{ℕ, _*_}
-use lib.ListN.{replicate}
+use lib.ListN.{length, replicate}
 use Rattle.lists.specs.Written.{written-at}
-use Rattle.refusal.specs.Numbers.{numberOf, placeOf}
+use Rattle.refusal.specs.Numbers.{refused-numbers, done-numbers}
 use Rattle.topphatt.specs.declared.Assigned.{Assigned}
 use Rattle.topphatt.specs.declared.Assigned.the-variants.{Weight, Unassigned}
-use Rattle.topphatt.specs.Answer.{Outcome, done, refused}
+use Rattle.topphatt.specs.Answer.{Outcome, done, refused, Rooms}
 
--- "Each returns its number and a place, zeros elsewhere": refusal, place, weight.
-abbrev pub numbers-of : Assigned → List ℕ
-numbers-of (Weight weight) = 0 ∷ (0 ∷ (weight ∷ []))
-numbers-of (Unassigned refusal) = numberOf refusal ∷ (placeOf refusal ∷ (0 ∷ []))
+-- The numbers of an answer: refusal, place, weight.
+unfoldable pub numbers-of : Assigned → List ℕ
+numbers-of (Weight weight) = done-numbers (weight ∷ [])
+numbers-of (Unassigned refusal) = refused-numbers 1 refusal
+
+-- "The answer is … the sum of chosen weights"; a refusal "its number and a place, zeros elsewhere".
+unfoldable pub told-numbers : Outcome → List ℕ
+told-numbers (done count weight codes) = done-numbers (weight ∷ [])
+told-numbers (refused refusal) = refused-numbers 1 refusal
 
 -- What the call returns.
 unfoldable pub returned : Outcome → Assigned
 returned (done count weight table) = Weight weight
 returned (refused refusal) = Unassigned refusal
 
--- "On success work's first 8T numbers are zero"; a refusal alters nothing.
-unfoldable pub work-after : Outcome → List ℕ → List ℕ
-work-after (done count weight table) work = written-at 0 (replicate (8 * count) 0) work
-work-after (refused refusal) work = work
+-- What is lent to a call: every number of work and table.
+pub record Lent : Type 0 where
+  pub work : List ℕ
+  pub table : List ℕ
 
--- "outputs beyond the written front stay".
-unfoldable pub table-after : Outcome → List ℕ → List ℕ
-table-after (done count weight codes) table = written-at 0 codes table
-table-after (refused refusal) table = table
+abbrev pub lent : List ℕ → List ℕ → Lent
+lent work table = record { work = work; table = table }
 
-pub record Assigns (meant : Outcome) (work table now-work now-table : List ℕ) (r : Assigned) : Type 0 where
-  pub answer : r ≡ returned meant
-  pub work-is : now-work ≡ work-after meant work
-  pub table-is : now-table ≡ table-after meant table
+-- The rooms of what is lent, to a call that takes so many modes at most.
+abbrev pub rooms-of : ℕ → Lent → Rooms
+rooms-of most given = record { modes = most; work = length (given .work); table = length (given .table) }
+
+-- "On success work's first 8T numbers are zero; outputs beyond the written front stay." A refusal "alters nothing".
+unfoldable pub lent-then : Outcome → Lent → Lent
+lent-then (done count weight codes) given = record {
+  work = written-at 0 (replicate (8 * count) 0) (given .work);
+  table = written-at 0 codes (given .table);
+}
+lent-then (refused refusal) given = given
+
+-- The answer of the meaning and its numbers, and every number of what was lent after the call.
+pub record Assigns (meant : Lent → Outcome) (before after : Lent) (r : Assigned) : Type 0 where
+  pub answer : r ≡ returned (meant before)
+  pub numbers : numbers-of r ≡ told-numbers (meant before)
+  pub leaves : after ≡ lent-then (meant before) before

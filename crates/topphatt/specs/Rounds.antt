@@ -5,6 +5,7 @@ use Prim.Native.Nat.{ℕ, zero, suc, _+_, _/_}
 use lib.Dec.{eqb}
 use lib.ListN.{length, set, replicate}
 use Rattle.entities.specs.Parents.{parent-number}
+use Rattle.terms.specs.Job.{Job}
 use Rattle.terms.specs.Weight.{weight-of}
 use Rattle.terms.specs.Reduction.{reduction}
 use Rattle.tree.specs.Table.{child}
@@ -19,9 +20,15 @@ pub record Rounds : Type 0 where
   pub rows : List (List ℕ)
   pub weight : ℕ
 
+-- What is to be done: the job, the tree's table and the heuristic.
+pub record Task : Type 0 where
+  pub job : Job
+  pub table : List ℕ
+  pub heuristic : ℕ
+
 -- Before the first round no pair has a mode.
-unfoldable pub before : ℕ → List (List ℕ) → Rounds
-before modes terms = record { round = 0; assigned = replicate modes modes; rows = terms; weight = 0 }
+unfoldable pub before : Job → Rounds
+before job = record { round = 0; assigned = replicate (job .modes) (job .modes); rows = job .terms; weight = 0 }
 
 -- A leaf that isn't fixed yet is fixed as this number, and its partner with it: their pair gets the number's mode.
 unfoldable pub fixed : ℕ → List ℕ → ℕ → ℕ → ℕ → List ℕ → List ℕ
@@ -38,25 +45,29 @@ fixed-by modes table choice assigned =
     (fixed modes table (choice .node) 0 (choice .triple .x) assigned))
 
 -- A round with this choice.
-unfoldable pub after : ℕ → List ℕ → Choice → Rounds → Rounds
-after modes table choice state = record {
+unfoldable pub after : Task → Choice → Rounds → Rounds
+after task choice state = record {
   round = suc (state .round);
-  assigned = fixed-by modes table choice (state .assigned);
-  rows = reduction (choice .triple) (parent-number modes (choice .node)) (state .rows);
+  assigned = fixed-by (task .job .modes) (task .table) choice (state .assigned);
+  rows = reduction (choice .triple) (parent-number (task .job .modes) (choice .node)) (state .rows);
   weight = state .weight + weight-of (choice .triple) (state .rows);
 }
 
+-- The choice of a round.
+abbrev pub choice-in : Task → Rounds → Choice
+choice-in task state =
+    chosen (task .job .modes) (task .table) (task .heuristic) (state .round) (state .assigned) (state .rows)
+
 -- One round.
-unfoldable pub next : ℕ → List ℕ → ℕ → Rounds → Rounds
-next modes table heuristic state =
-    after modes table (chosen modes table heuristic (state .round) (state .assigned) (state .rows)) state
+unfoldable pub next : Task → Rounds → Rounds
+next task state = after task (choice-in task state) state
 
 -- Rounds, so many at most, "when no mode is unassigned" no more.
-unfoldable pub rounds : ℕ → List ℕ → ℕ → ℕ → Rounds → Rounds
-rounds modes table heuristic zero state = state
-rounds modes table heuristic (suc more) state =
-    cond (eqb (length (unassigned modes (state .assigned))) 0) state (rounds modes table heuristic more (next modes table heuristic state))
+unfoldable pub rounds : Task → ℕ → Rounds → Rounds
+rounds task zero state = state
+rounds task (suc more) state =
+    cond (eqb (length (unassigned (task .job .modes) (state .assigned))) 0) state (rounds task more (next task state))
 
 -- All rounds: each gives a mode to one pair at least, so there are no more than modes.
-unfoldable pub ended : ℕ → List ℕ → ℕ → List (List ℕ) → Rounds
-ended modes table heuristic terms = rounds modes table heuristic modes (before modes terms)
+unfoldable pub ended : Task → Rounds
+ended task = rounds task (task .job .modes) (before (task .job))

@@ -9,9 +9,9 @@ ghost use Rattle.terms.specs.Good.{checked};
 ghost use Rattle.slots.specs.Slots.{«slot-of»};
 ghost use Rattle.slots.specs.code.Promises.{Distances};
 ghost use Rattle.topphatt.specs.Rounds.{ended};
-ghost use Rattle.topphatt.specs.Answer.{«answer-table», outcome, «with-terms», «with-room»};
-ghost use Rattle.topphatt.specs.Promises.{Assigns};
-ghost use Rattle.topphatt.specs.code.Going.{Tabled};
+ghost use Rattle.topphatt.specs.Answer.{«answer-table», asked, «task-of», «done-by», «with-room», «with-terms», outcome};
+ghost use Rattle.topphatt.specs.Promises.{lent, «rooms-of», Assigns};
+ghost use Rattle.topphatt.specs.code.Going.{«task-with», Tabled};
 use entities::codes;
 use refusal::Refusal;
 use slots::nodes;
@@ -56,16 +56,16 @@ fn assign_pairs<'a>(
     distances: &'a [usize],
     heuristic: usize,
     rows: &mut [u16],
-    live: usize,
+    count: usize,
     assigned: &mut [u16],
     table: &mut [u16],
 ) -> usize
-    requires { ⌜ (1 ≤ modes) × (modes ≤ 256) × (live ≤ 2048) × (length (now tree) ≡ 3 * modes) × (now assigned ≡ replicate modes modes) × (3 * modes ≤ length (now table)) ⌝ }
+    requires { ⌜ (1 ≤ modes) × (modes ≤ 256) × (count ≤ 2048) × (length (now tree) ≡ 3 * modes) × (now assigned ≡ replicate modes modes) × (3 * modes ≤ length (now table)) ⌝ }
     requires { ⌜ Distances modes (now tree) (now distances) ⌝ }
-    requires { ⌜ Held 8 live (now rows) ⌝ }
-    ensures { λ r. ⌜ Tabled modes (now (tree .entry)) (ended modes (now (tree .entry)) heuristic (terms-of 8 live (now (rows .entry)))) (now (table .entry)) (now (table .exit)) r ⌝ }
+    requires { ⌜ Held 8 count (now rows) ⌝ }
+    ensures { λ r. ⌜ Tabled modes count (now (tree .entry)) (ended (task-with modes (now (tree .entry)) heuristic (terms-of 8 count (now (rows .entry))))) (now (rows .entry)) (now (table .entry)) (now (rows .exit)) (now (table .exit)) r ⌝ }
 {
-    let weight = rounds::topphatt(modes, tree, distances, heuristic, rows, live, assigned);
+    let weight = rounds::topphatt(modes, tree, distances, heuristic, rows, count, assigned);
     write_table(modes, tree, assigned, table);
     weight
 }
@@ -76,12 +76,12 @@ fn assign_rows(
     tree: &[u16],
     heuristic: usize,
     rows: &mut [u16],
-    live: usize,
+    count: usize,
     table: &mut [u16],
 ) -> usize
-    requires { ⌜ (1 ≤ modes) × (modes ≤ 256) × (live ≤ 2048) × (length (now tree) ≡ 3 * modes) × (3 * modes ≤ length (now table)) ⌝ }
-    requires { ⌜ Held 8 live (now rows) ⌝ }
-    ensures { λ r. ⌜ Tabled modes (now (tree .entry)) (ended modes (now (tree .entry)) heuristic (terms-of 8 live (now (rows .entry)))) (now (table .entry)) (now (table .exit)) r ⌝ }
+    requires { ⌜ (1 ≤ modes) × (modes ≤ 256) × (count ≤ 2048) × (length (now tree) ≡ 3 * modes) × (3 * modes ≤ length (now table)) ⌝ }
+    requires { ⌜ Held 8 count (now rows) ⌝ }
+    ensures { λ r. ⌜ Tabled modes count (now (tree .entry)) (ended (task-with modes (now (tree .entry)) heuristic (terms-of 8 count (now (rows .entry))))) (now (rows .entry)) (now (table .entry)) (now (rows .exit)) (now (table .exit)) r ⌝ }
 {
     let mut distances = [0usize; 256];
     nodes::fill_distances(modes, tree, &mut distances);
@@ -92,30 +92,34 @@ fn assign_rows(
         &distances,
         heuristic,
         rows,
-        live,
+        count,
         &mut assigned[..modes],
         table,
     )
 }
 
-// The same over a copy of the terms that is the call's own.
-fn assign_terms(
+// The answer where nothing can refuse any more: the rows are worked on in the work that is lent, which is zeros then.
+fn assign_in(
     modes: usize,
     tree: &[u16],
     heuristic: usize,
     terms: &[u16],
-    live: usize,
+    count: usize,
+    work: &mut [u16],
     table: &mut [u16],
-) -> usize
-    requires { ⌜ (1 ≤ modes) × (modes ≤ 256) × (live ≤ 2048) × (length (now tree) ≡ 3 * modes) × (3 * modes ≤ length (now table)) ⌝ }
-    requires { ⌜ (length (now terms) ≡ 8 * live) × Held 8 live (now terms) ⌝ }
-    ensures { λ r. ⌜ Tabled modes (now (tree .entry)) (ended modes (now (tree .entry)) heuristic (terms-of 8 live (now (terms .entry)))) (now (table .entry)) (now (table .exit)) r ⌝ }
+) -> Assigned
+    requires { ⌜ (1 ≤ modes) × (modes ≤ 256) × (count ≤ 2048) × (length (now tree) ≡ 3 * modes) ⌝ }
+    requires { ⌜ (length (now terms) ≡ 8 * count) × Held 8 count (now terms) ⌝ }
+    requires { ⌜ (8 * count ≤ length (now work)) × (3 * modes ≤ length (now table)) ⌝ }
+    ensures { λ r. ⌜ Assigns (λ given. done-by (task-with modes (now (tree .entry)) heuristic (terms-of 8 count (now (terms .entry))))) (lent (now (work .entry)) (now (table .entry))) (lent (now (work .exit)) (now (table .exit))) r ⌝ }
 {
-    let mut rows = checking::own_copy(terms);
-    assign_rows(modes, tree, heuristic, &mut rows, live, table)
+    slices::put_front(terms, work);
+    let weight = assign_rows(modes, tree, heuristic, work, count, table);
+    slices::clear_front(work, 8 * count);
+    Assigned::Weight(weight as u64)
 }
 
-// The answer where all is good: the table written, work cleared.
+// The answer where all is good but perhaps the rooms.
 fn assign_good(
     modes: usize,
     tree: &[u16],
@@ -127,18 +131,15 @@ fn assign_good(
 ) -> Assigned
     requires { ⌜ (1 ≤ modes) × (modes ≤ 256) × (count ≤ 2048) × (length (now tree) ≡ 3 * modes) ⌝ }
     requires { ⌜ (length (now terms) ≡ 8 * count) × Held 8 count (now terms) ⌝ }
-    ensures { λ r. ⌜ Assigns (with-room modes (now (tree .entry)) heuristic (now (terms .entry)) (length (now (work .entry))) (length (now (table .entry))) count) (now (work .entry)) (now (table .entry)) (now (work .exit)) (now (table .exit)) r ⌝ }
+    ensures { λ r. ⌜ Assigns (λ given. with-room (rooms-of 256 given) (task-of (asked modes (now (tree .entry)) heuristic (now (terms .entry))) count)) (lent (now (work .entry)) (now (table .entry))) (lent (now (work .exit)) (now (table .exit))) r ⌝ }
 {
-    let end = 8 * count;
-    if work.len() < end {
+    if work.len() < 8 * count {
         return Assigned::Unassigned(Refusal::Room);
     }
     if table.len() < 3 * modes {
         return Assigned::Unassigned(Refusal::Room);
     }
-    let weight = assign_terms(modes, tree, heuristic, terms, count, table);
-    slices::clear_front(work, end);
-    Assigned::Weight(weight as u64)
+    assign_in(modes, tree, heuristic, terms, count, work, table)
 }
 
 // The answer where the tree and the heuristic are good.
@@ -151,7 +152,7 @@ fn assign_accepted(
     table: &mut [u16],
 ) -> Assigned
     requires { ⌜ (1 ≤ modes) × (modes ≤ 256) × (length (now tree) ≡ 3 * modes) ⌝ }
-    ensures { λ r. ⌜ Assigns (with-terms modes (now (tree .entry)) heuristic (now (terms .entry)) (length (now (work .entry))) (length (now (table .entry))) (checked modes (now (terms .entry)))) (now (work .entry)) (now (table .entry)) (now (work .exit)) (now (table .exit)) r ⌝ }
+    ensures { λ r. ⌜ Assigns (λ given. with-terms (rooms-of 256 given) (asked modes (now (tree .entry)) heuristic (now (terms .entry))) (checked modes (now (terms .entry)))) (lent (now (work .entry)) (now (table .entry))) (lent (now (work .exit)) (now (table .exit))) r ⌝ }
 {
     match checking::check_terms(modes, terms) {
         Checked::Refused(refusal) => Assigned::Unassigned(refusal),
@@ -168,7 +169,7 @@ pub fn assign(
     work: &mut [u16],
     table: &mut [u16],
 ) -> Assigned
-    ensures { λ r. ⌜ Assigns (outcome 256 modes (now (tree .entry)) heuristic (now (terms .entry)) (length (now (work .entry))) (length (now (table .entry)))) (now (work .entry)) (now (table .entry)) (now (work .exit)) (now (table .exit)) r ⌝ }
+    ensures { λ r. ⌜ Assigns (λ given. outcome (rooms-of 256 given) (asked modes (now (tree .entry)) heuristic (now (terms .entry)))) (lent (now (work .entry)) (now (table .entry))) (lent (now (work .exit)) (now (table .exit))) r ⌝ }
 {
     match tree::check_tree(modes, tree) {
         TreeChecked::Refused(refusal) => Assigned::Unassigned(refusal),

@@ -9,18 +9,20 @@ ghost use Rattle.slots.specs.code.Promises.{Distances};
 ghost use Rattle.choice.specs.Choices.{unassigned};
 ghost use Rattle.choice.specs.code.Seeking.{«choice-of»};
 ghost use Rattle.topphatt.specs.Rounds.{fixed, ended};
-ghost use Rattle.topphatt.specs.code.Going.{Chose, Fixed, Going, RoundMade, Ended};
+ghost use Rattle.topphatt.specs.code.Going.{«task-with», Chose, Fixed, Going, RoundMade, Ended};
 use choice::Selection;
 use entities::parents;
 use slots::nodes;
+use terms::live_rows;
 use terms::reduction;
 use terms::weight;
 use tree::table;
 
-// What the rounds have come to, beside the pairs' modes and the rows: how many there were, the live rows, and the sum of chosen weights.
+// What the rounds have come to, beside the pairs' modes and the rows: how many there were, how many rows there are, and the sum of
+// chosen weights.
 pub struct Progress {
     pub round: usize,
-    pub live: usize,
+    pub count: usize,
     pub weight: usize,
 }
 
@@ -64,7 +66,7 @@ fn choose<'a>(
     let mut free = [0u16; 256];
     let unassigned = choice::fill_unassigned(modes, assigned, &mut free);
     let mut active = [0u16; 256];
-    let count = nodes::fill_active(
+    let nodes = nodes::fill_active(
         modes,
         tree,
         distances,
@@ -75,29 +77,29 @@ fn choose<'a>(
     );
     choice::select(
         rows,
-        progress.live,
+        progress.count,
         tree,
         assigned,
         &free[..unassigned],
-        &active[..count],
+        &active[..nodes],
         modes,
     )
 }
 
 // The weight of the choice of a round; where there was no choice, which never is, that of three zeros.
-fn chosen_weight(rows: &[u16], live: usize, selection: Selection) -> usize
-    requires { ⌜ Held 8 live (now rows) ⌝ }
-    requires { ⌜ (selection .«min_weight» ≤ live → selection .«min_weight» ≡ weight-of (selection .«leaf_indices») (terms-of 8 live (now rows))) ⌝ }
-    ensures { λ r. ⌜ (r ≡ weight-of (selection .«leaf_indices») (terms-of 8 live (now (rows .entry)))) × (r ≤ live) ⌝ }
+fn chosen_weight(rows: &[u16], count: usize, selection: Selection) -> usize
+    requires { ⌜ Held 8 count (now rows) ⌝ }
+    requires { ⌜ (selection .«min_weight» ≤ count → selection .«min_weight» ≡ weight-of (selection .«leaf_indices») (terms-of 8 count (now rows))) ⌝ }
+    ensures { λ r. ⌜ (r ≡ weight-of (selection .«leaf_indices») (terms-of 8 count (now (rows .entry)))) × (r ≤ count) ⌝ }
 {
-    // no weight is above the live rows
-    if live < selection.min_weight {
-        return weight::weight(rows, live, selection.leaf_indices);
+    // no weight is above the rows
+    if count < selection.min_weight {
+        return weight::weight(rows, count, selection.leaf_indices);
     }
     selection.min_weight
 }
 
-// One round.
+// One round; its choice is sought in the rows that are there, gathered once.
 fn round<'a>(
     modes: usize,
     tree: &'a [u16],
@@ -111,14 +113,21 @@ fn round<'a>(
     requires { ⌜ progress .round < modes ⌝ }
     ensures { λ r. ⌜ RoundMade 256 modes (now (tree .entry)) (now (distances .entry)) heuristic (now (rows .entry)) (now (assigned .entry)) progress (now (rows .exit)) (now (assigned .exit)) r ⌝ }
 {
-    let selection = choose(modes, tree, distances, heuristic, rows, assigned, progress);
-    let weight = chosen_weight(rows, progress.live, selection);
+    let mut live = [0u16; 16384];
+    let kept = live_rows::put_live(rows, progress.count, &mut live);
+    let among = Progress {
+        round: progress.round,
+        count: kept,
+        weight: progress.weight,
+    };
+    let selection = choose(modes, tree, distances, heuristic, &live, assigned, among);
+    let weight = chosen_weight(&live, kept, selection);
     fix_all(modes, tree, selection, assigned);
     let parent = parents::parent_number(modes, entities::wide(selection.min_parent));
-    let live = reduction::reduce_hamiltonian(rows, progress.live, parent, selection.leaf_indices);
+    reduction::reduce_hamiltonian(rows, progress.count, parent, selection.leaf_indices);
     Progress {
         round: progress.round + 1,
-        live: live,
+        count: progress.count,
         weight: progress.weight + weight,
     }
 }
@@ -139,17 +148,17 @@ pub fn topphatt<'a>(
     distances: &'a [usize],
     heuristic: usize,
     rows: &mut [u16],
-    live: usize,
+    count: usize,
     assigned: &mut [u16],
 ) -> usize
-    requires { ⌜ (1 ≤ modes) × (modes ≤ 256) × (live ≤ 2048) × (length (now tree) ≡ 3 * modes) × (now assigned ≡ replicate modes modes) ⌝ }
+    requires { ⌜ (1 ≤ modes) × (modes ≤ 256) × (count ≤ 2048) × (length (now tree) ≡ 3 * modes) × (now assigned ≡ replicate modes modes) ⌝ }
     requires { ⌜ Distances modes (now tree) (now distances) ⌝ }
-    requires { ⌜ Held 8 live (now rows) ⌝ }
-    ensures { λ r. ⌜ Ended modes (ended modes (now (tree .entry)) heuristic (terms-of 8 live (now (rows .entry)))) (now (assigned .exit)) r ⌝ }
+    requires { ⌜ Held 8 count (now rows) ⌝ }
+    ensures { λ r. ⌜ Ended modes count (ended (task-with modes (now (tree .entry)) heuristic (terms-of 8 count (now (rows .entry))))) (now (rows .entry)) (now (rows .exit)) (now (assigned .exit)) r ⌝ }
 {
     let mut progress = Progress {
         round: 0,
-        live: live,
+        count: count,
         weight: 0,
     };
     while progress.round < modes {

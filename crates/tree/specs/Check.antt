@@ -1,5 +1,5 @@
 -- "The tree check and tree weight start 1, 13, 14, 15, 16".
-use mathlib.Core.Bool.{cond, _||_}
+use mathlib.Core.Bool.{cond, not, _||_}
 use mathlib.Core.List.{List}
 use Prim.Native.Nat.{ℕ, _*_}
 use lib.Dec.{eqb, ltb}
@@ -17,14 +17,12 @@ use Rattle.tree.specs.Pairs.{pairs-right}
 unfoldable pub codes-good : ℕ → List ℕ → ℕ
 codes-good modes table = leading (λ code. ltb code (3 * modes) || eqb code absent) table
 
--- The check, in the order of its refusals.
+-- The check: 1, 13, 14, 15 and 16, in this order.
 unfoldable pub tree-checked : ℕ → ℕ → List ℕ → TreeChecked
 tree-checked most modes table =
-    cond (modes-good most modes)
-    (cond (eqb (length table) (3 * modes))
+    cond (not (modes-good most modes)) (Refused Modes)
+    (cond (not (eqb (length table) (3 * modes))) (Refused TreeLength)
     (cond (ltb (codes-good modes table) (length table)) (Refused (ChildCode (codes-good modes table)))
-    (cond (one-tree modes table)
-    (cond (ltb (pairs-right modes table) modes) (Refused (WrongPair (pairs-right modes table))) Accepted)
-    (Refused NotOneTree)))
-    (Refused TreeLength))
-    (Refused Modes)
+    (cond (not (one-tree modes table)) (Refused NotOneTree)
+    (cond (ltb (pairs-right modes table) modes) (Refused (WrongPair (pairs-right modes table)))
+    Accepted))))

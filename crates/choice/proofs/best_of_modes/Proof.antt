@@ -16,12 +16,12 @@ use Rattle.choice.proofs.best_of_modes.Statement.{statement}
 use Rattle.choice.proofs.best_of_modes.Tie as tie
 
 abbrev Inv-loop : tie.InvT-loop
-Inv-loop rows live odd free modes node slots pair best₀ at₀ best at = (at ≤ length free)
-    × (sought (terms-of 8 live rows) node best₀ (with-z (slots .x) (slots .y) (map (leaf-of modes (slots .z)) (without pair free)))
-    ≡ sought (terms-of 8 live rows) node best (with-z (slots .x) (slots .y) (map (leaf-of modes (slots .z)) (without pair (drop at free)))))
+Inv-loop rows count odd free modes node slots pair best₀ at₀ best at = (at ≤ length free)
+    × (sought (terms-of 8 count rows) node best₀ (with-z (slots .x) (slots .y) (map (leaf-of modes (slots .z)) (without pair free)))
+    ≡ sought (terms-of 8 count rows) node best (with-z (slots .x) (slots .y) (map (leaf-of modes (slots .z)) (without pair (drop at free)))))
 
 abbrev μ-loop : tie.MeasureT-loop
-μ-loop rows live odd free modes node slots pair best₀ at₀ best at = length free - at
+μ-loop rows count odd free modes node slots pair best₀ at₀ best at = length free - at
 
 loop-holds : tie.Need-loop-holds Inv-loop μ-loop
 loop-holds c = search needs
@@ -51,8 +51,8 @@ loop-again c =
     let args = here .before .before .before .before .args in (
       omega arith,
       here .loop .inv .1
-          ∙ modes-step (terms-of 8 (args .live) (args .rows .now)) (args .node) (args .modes) (args .slots .x) (args .slots .y) (args .slots .z) (args .pair) (here .loop .best) (args .free .now) (here .loop .at) (omega arith)
-          ∙ ap (λ b. sought (terms-of 8 (args .live) (args .rows .now)) (args .node) b (with-z (args .slots .x) (args .slots .y) (map (leaf-of (args .modes) (args .slots .z)) (without (args .pair) (drop (here .loop .at + 1) (args .free .now)))))) (sym (c .best-of-mode .ensures)),
+          ∙ modes-step (terms-of 8 (args .count) (args .rows .now)) (args .node) (args .modes) (args .slots .x) (args .slots .y) (args .slots .z) (args .pair) (here .loop .best) (args .free .now) (here .loop .at) (omega arith)
+          ∙ ap (λ b. sought (terms-of 8 (args .count) (args .rows .now)) (args .node) b (with-z (args .slots .x) (args .slots .y) (map (leaf-of (args .modes) (args .slots .z)) (without (args .pair) (drop (here .loop .at + 1) (args .free .now)))))) (sym (c .best-of-mode .ensures)),
     )
 
 returns : tie.Need-returns Inv-loop μ-loop

@@ -17,12 +17,12 @@ use Rattle.choice.proofs.best_of_pairs.Statement.{statement}
 use Rattle.choice.proofs.best_of_pairs.Tie as tie
 
 abbrev Inv-loop : tie.InvT-loop
-Inv-loop rows live free modes node slots best₀ at₀ best at = (at ≤ length free)
-    × (sought (terms-of 8 live rows) node best₀ (flatMap (λ mode. with-z (leaf-of modes (slots .x) mode) (leaf-of modes (slots .y) mode) (numbers modes (slots .z) (without mode free))) free)
-    ≡ sought (terms-of 8 live rows) node best (flatMap (λ mode. with-z (leaf-of modes (slots .x) mode) (leaf-of modes (slots .y) mode) (numbers modes (slots .z) (without mode free))) (drop at free)))
+Inv-loop rows count free modes node slots best₀ at₀ best at = (at ≤ length free)
+    × (sought (terms-of 8 count rows) node best₀ (flatMap (λ mode. with-z (leaf-of modes (slots .x) mode) (leaf-of modes (slots .y) mode) (numbers modes (slots .z) (without mode free))) free)
+    ≡ sought (terms-of 8 count rows) node best (flatMap (λ mode. with-z (leaf-of modes (slots .x) mode) (leaf-of modes (slots .y) mode) (numbers modes (slots .z) (without mode free))) (drop at free)))
 
 abbrev μ-loop : tie.MeasureT-loop
-μ-loop rows live free modes node slots best₀ at₀ best at = length free - at
+μ-loop rows count free modes node slots best₀ at₀ best at = length free - at
 
 loop-holds : tie.Need-loop-holds Inv-loop μ-loop
 loop-holds c = search needs
@@ -50,7 +50,7 @@ loop-again : tie.Need-loop-again Inv-loop μ-loop
 loop-again c =
     let here = c .before .before .before in
     let args = here .before .before .before .args in
-    let rows = terms-of 8 (args .live) (args .rows .now) in
+    let rows = terms-of 8 (args .count) (args .rows .now) in
     let free = args .free .now in
     let of : ℕ → List Triple = λ mode. with-z (leaf-of (args .modes) (args .slots .x) mode) (leaf-of (args .modes) (args .slots .y) mode) (numbers (args .modes) (args .slots .z) (without mode free)) in (
       omega arith,

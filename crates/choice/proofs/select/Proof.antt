@@ -12,11 +12,11 @@ use Rattle.choice.proofs.select.Statement.{statement}
 use Rattle.choice.proofs.select.Tie as tie
 
 abbrev Inv-loop : tie.InvT-loop
-Inv-loop rows live tree assigned free active modes best₀ at₀ best at = (at ≤ length active)
-    × (sought-over modes tree assigned (terms-of 8 live rows) (worst live) active ≡ sought-over modes tree assigned (terms-of 8 live rows) best (drop at active))
+Inv-loop rows count tree assigned free active modes best₀ at₀ best at = (at ≤ length active)
+    × (sought-over modes tree assigned (terms-of 8 count rows) (worst count) active ≡ sought-over modes tree assigned (terms-of 8 count rows) best (drop at active))
 
 abbrev μ-loop : tie.MeasureT-loop
-μ-loop rows live tree assigned free active modes best₀ at₀ best at = length active - at
+μ-loop rows count tree assigned free active modes best₀ at₀ best at = length active - at
 
 add-t10 : tie.Need-add-t10 Inv-loop μ-loop
 add-t10 c = search needs
@@ -48,7 +48,7 @@ loop-again : tie.Need-loop-again Inv-loop μ-loop
 loop-again c =
     let here = c .before .before .before in
     let args = here .before .before .before .before .before .before .args in
-    let rows = terms-of 8 (args .live) (args .rows .now) in (
+    let rows = terms-of 8 (args .count) (args .rows .now) in (
       omega arith,
       here .loop .inv .1
           ∙ over-step (args .modes) (args .tree .now) (args .assigned .now) rows (here .loop .best) (args .active .now) (here .loop .at) (omega arith)

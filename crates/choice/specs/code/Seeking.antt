@@ -19,7 +19,7 @@ standing selection =
 
 -- Before the first choice: above every weight, since a row weighs at most 1.
 unfoldable pub worst : ℕ → Selection
-worst live = record { «min_weight» = live + 1; «min_parent» = 0; «leaf_indices» = record { x = 0; y = 0; z = 0 } }
+worst count = record { «min_weight» = count + 1; «min_parent» = 0; «leaf_indices» = record { x = 0; y = 0; z = 0 } }
 
 -- The best so far against choices of a node, one after the other.
 unfoldable pub sought : List (List ℕ) → ℕ → Selection → List Triple → Selection

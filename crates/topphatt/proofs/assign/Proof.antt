@@ -1,5 +1,5 @@
 -- By what the check of the tree answered, then the heuristic.
-use mathlib.Core.Path.{sym, _∙_}
+use mathlib.Core.Path.{refl, sym, _∙_}
 use borrow.Author.Tests.{le-leb, lt-leb}
 use borrow.Author.Needs.{needs}
 use Rattle.tree.proofs.AcceptedParts.{accepted-parts}
@@ -19,7 +19,7 @@ enum-told c = search needs
 
 returns : tie.Need-returns
 unfolding outcome with-tree
-returns c = rw (sym (c .before .before .before .check-tree .ensures) ∙ c .before .enum-told .given .1) (rw (lt-leb _ 2 (c .if1 .taken)) (refused-so _ _ _))
+returns c = rw (sym (c .before .before .before .check-tree .ensures) ∙ c .before .enum-told .given .1) (rw (lt-leb _ 2 (c .if1 .taken)) (refused-so _ _ _ refl))
 
 assign-accepted-requires : tie.Need-assign-accepted-requires
 assign-accepted-requires c κs =
@@ -29,7 +29,7 @@ assign-accepted-requires c κs =
 
 returns-2 : tie.Need-returns-2
 unfolding outcome with-tree
-returns-2 c = rw (sym (c .before .before .before .check-tree .ensures) ∙ c .before .refusal .given .1) (refused-so _ _ _)
+returns-2 c = rw (sym (c .before .before .before .check-tree .ensures) ∙ c .before .refusal .given .1) (refused-so _ _ _ refl)
 
 same-length : tie.Need-same-length
 same-length c = search needs

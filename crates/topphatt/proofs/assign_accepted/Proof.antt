@@ -1,5 +1,5 @@
 -- By what the check of the terms answered.
-use mathlib.Core.Path.{sym, _∙_}
+use mathlib.Core.Path.{refl, sym, _∙_}
 use borrow.Author.Needs.{needs}
 use Rattle.terms.proofs.StaysGood.{accepted}
 use Rattle.topphatt.specs.Answer.{with-terms}
@@ -25,7 +25,7 @@ assign-good-requires c κs =
 
 returns : tie.Need-returns
 unfolding with-terms
-returns c = rw (sym (c .before .before .before .check-terms .ensures) ∙ c .before .refusal .given .1) (refused-so _ _ _)
+returns c = rw (sym (c .before .before .before .check-terms .ensures) ∙ c .before .refusal .given .1) (refused-so _ _ _ refl)
 
 same-length : tie.Need-same-length
 same-length c = search needs

@@ -1,17 +1,21 @@
--- Too little room is refused; else the table is written and work cleared.
+-- Too little room is refused; else nothing can refuse any more.
+use mathlib.Core.Path.{sym}
 use borrow.Author.Needs.{needs}
-use lib.ListN.{length}
-use Rattle.topphatt.proofs.Answers.{room-work, room-table, room-done, refused-so, done-so}
+use Rattle.topphatt.specs.Answer.{asked, task-of, done-by, with-room}
+use Rattle.topphatt.specs.Promises.{lent, rooms-of}
+use Rattle.topphatt.proofs.Answers.{room-work, room-table, room-done, refused-so, assigns-so}
 use Rattle.topphatt.proofs.assign_good.Statement.{statement}
 use Rattle.topphatt.proofs.assign_good.Tie as tie
 
-mul-end : tie.Need-mul-end
-mul-end c = search needs
+mul-if1 : tie.Need-mul-if1
+mul-if1 c = search needs
 
 returns : tie.Need-returns
 returns c =
     let args = c .before .before .before .before .before .args in
-    rw (room-work (args .modes) (args .tree .now) (args .heuristic) (args .terms .now) (length (args .work .now)) (length (args .table .now)) (args .count) (c .if1 .taken)) (refused-so _ _ _)
+    let call = asked (args .modes) (args .tree .now) (args .heuristic) (args .terms .now) in
+    let given = lent (args .work .now) (args .table .now) in
+    refused-so _ given _ (room-work (rooms-of 256 given) call (args .count) (c .if1 .taken))
 
 mul-if2 : tie.Need-mul-if2
 mul-if2 c = search needs
@@ -19,13 +23,12 @@ mul-if2 c = search needs
 returns-2 : tie.Need-returns-2
 returns-2 c =
     let args = c .before .before .before .before .before .before .args in
-    rw (room-table (args .modes) (args .tree .now) (args .heuristic) (args .terms .now) (length (args .work .now)) (length (args .table .now)) (args .count) (c .before .if1 .left) (c .if2 .taken)) (refused-so _ _ _)
+    let call = asked (args .modes) (args .tree .now) (args .heuristic) (args .terms .now) in
+    let given = lent (args .work .now) (args .table .now) in
+    refused-so _ given _ (room-table (rooms-of 256 given) call (args .count) (c .before .if1 .left) (c .if2 .taken))
 
-assign-terms-requires : tie.Need-assign-terms-requires
-assign-terms-requires c κs = search needs
-
-clear-front-requires : tie.Need-clear-front-requires
-clear-front-requires c κs = search needs
+assign-in-requires : tie.Need-assign-in-requires
+assign-in-requires c κs = search needs
 
 same-length : tie.Need-same-length
 same-length c = search needs
@@ -35,23 +38,23 @@ same-length-2 c = search needs
 
 returns-3 : tie.Need-returns-3
 returns-3 c =
-    let args = c .before .before .before .before .before .before .before .before .before .before .before .before .before .before .args in
-    let h = c .before .before .before .before .before .before .before .before .before .if1 .left in
-    let k = c .before .before .before .before .before .before .before .before .if2 .left in
-    let tabled = c .before .before .before .before .before .before .assign-terms .ensures in
-    rw (room-done (args .modes) (args .tree .now) (args .heuristic) (args .terms .now) (length (args .work .now)) (length (args .table .now)) (args .count) h k)
-    (done-so _ _ _ _ _ _ _ _ (tabled .weight-is) (c .before .before .clear-front .ensures) (tabled .table-is))
+    let tests = c .before .before .before .before .before .before .before in
+    let args = tests .before .before .before .before .before .before .args in
+    let call = asked (args .modes) (args .tree .now) (args .heuristic) (args .terms .now) in
+    let given = lent (args .work .now) (args .table .now) in
+    assigns-so (λ l. done-by (task-of call (args .count))) given (λ l. with-room (rooms-of 256 l) (task-of call (args .count))) _ _
+    (sym (room-done (rooms-of 256 given) call (args .count) (tests .before .if1 .left) (tests .if2 .left)))
+    (c .before .before .before .before .assign-in .ensures)
 
 pub assign-good-spec : {M : Type 1} → statement M
 assign-good-spec =
     tie.close
     (tie.spec
-    mul-end
+    mul-if1
     returns
     mul-if2
     returns-2
-    assign-terms-requires
-    clear-front-requires
+    assign-in-requires
     same-length
     same-length-2
     returns-3)

@@ -21,7 +21,7 @@ same-length-3 c = search needs
 returns : tie.Need-returns
 returns c =
     let ended = c .before .before .before .before .before .before .before .before .before .topphatt .ensures in
-    record { weight-is = ended .weight-is; table-is = rw (ended .assigned-is) at (c .before .before .write-table .ensures) }
+    record { weight-is = ended .weight-is; table-is = rw (ended .assigned-is) at (c .before .before .write-table .ensures); rest = ended .rest }
 
 pub assign-pairs-spec : {M : Type 1} → statement M
 assign-pairs-spec =

@@ -79,16 +79,16 @@ unfolding choice-of
 returns c =
     let start = c .before .before .before .before .before .before .before .before .before .before .before .before .before in
     let args = start .args in
-    let rows = terms-of 8 (args .progress .live) (args .rows .now) in
-    let size = length-terms 8 (args .progress .live) (args .rows .now) in
+    let rows = terms-of 8 (args .progress .count) (args .rows .now) in
+    let size = length-terms 8 (args .progress .count) (args .rows .now) in
     let nodes = c .before .before .before .before .fill-active in
     let right : choice-of (c .select .result) ≡ chosen (args .modes) (args .tree .now) (args .heuristic) (args .progress .round) (args .assigned .now) rows =
     ap choice-of (rw (nodes .ensures .1) at (c .select .ensures))
-    ∙ over-chosen rows (args .modes) (args .tree .now) (args .heuristic) (args .progress .round) (args .assigned .now) (args .progress .live) (omega arith) in
+    ∙ over-chosen rows (args .modes) (args .tree .now) (args .heuristic) (args .progress .round) (args .assigned .now) (args .progress .count) (omega arith) in
     record {
       right = right;
       within = rw (ap (λ choice. choice .node) right) (chosen-below (args .modes) (args .tree .now) (args .heuristic) (args .progress .round) (args .assigned .now) rows (start .pre .some));
-      weighs = rw (c .select .ensures) (over-weighs rows (args .modes) (args .tree .now) (args .assigned .now) (args .progress .live) _ (omega arith));
+      weighs = rw (c .select .ensures) (over-weighs rows (args .modes) (args .tree .now) (args .assigned .now) (args .progress .count) _ (omega arith));
     }
 
 pub choose-spec : {M : Type 1} → statement M

@@ -1,17 +1,47 @@
--- The choice, its weight, its leaves fixed, the rows reduced.
-use mathlib.Core.Path.{_∙_, ap}
-use Prim.Native.Nat.{_+_, _*_}
+-- The choice among the rows that are there, its weight, its leaves fixed, the rows reduced.
+use mathlib.Core.Path.{_≡_, refl, _∙_, ap}
+use Prim.Native.Nat.{_+_, _*_, _≤_}
 use native.Mathlib.Omega.{arith}
 use borrow.Author.Needs.{needs}
-use Rattle.terms.specs.Reduction.{reduction}
 use Rattle.terms.specs.Rows.{terms-of}
+use Rattle.terms.specs.Weight.{weight-of}
+use Rattle.terms.specs.Reduction.{reduction}
+use Rattle.terms.proofs.AsTold.{live-weight}
+use Rattle.choice.specs.Choice.{chosen}
 use Rattle.choice.specs.code.Seeking.{choice-of}
-use Rattle.topphatt.proofs.RoundSteps.{stepped}
+use Rattle.topphatt.specs.code.Going.{task-with, state-of}
+use Rattle.topphatt.proofs.RoundSteps.{stepped, chosen-live}
 use Rattle.topphatt.proofs.rounds.round.Statement.{statement}
 use Rattle.topphatt.proofs.rounds.round.Tie as tie
 
+slice-aggregate-put-live : tie.Need-slice-aggregate-put-live
+slice-aggregate-put-live c = search needs
+
+put-live-requires : tie.Need-put-live-requires
+put-live-requires c κs =
+    let start = c .before .before .before .before .before .before in
+    (start .pre .0 .held, omega (arith, start .pre .0 .fits))
+
+slice-aggregate-choose : tie.Need-slice-aggregate-choose
+slice-aggregate-choose c = search needs
+
 choose-requires : tie.Need-choose-requires
-choose-requires c κs = search needs
+choose-requires c κs =
+    let pre = c .before .before .before .before .before .before .before .before .before .before .pre .0 in
+    let there = c .before .before .before .put-live .ensures in
+    record {
+      some = pre .some;
+      few = pre .few;
+      whole = pre .whole;
+      far = pre .far;
+      pairs = pre .pairs;
+      fits = omega (arith, there .at-most, pre .fits);
+      held = there .held;
+      light = pre .light;
+    }
+
+slice-aggregate-chosen-weight : tie.Need-slice-aggregate-chosen-weight
+slice-aggregate-chosen-weight c = search needs
 
 chosen-weight-requires : tie.Need-chosen-weight-requires
 chosen-weight-requires c κs = search needs
@@ -26,20 +56,21 @@ parent-number-requires : tie.Need-parent-number-requires
 parent-number-requires c κs = search needs
 
 reduce-hamiltonian-requires : tie.Need-reduce-hamiltonian-requires
-reduce-hamiltonian-requires c κs = search needs
+reduce-hamiltonian-requires c κs = c .before .before .before .before .before .before .before .before .before .before .before .before .before .before .before .before .before .before .before .before .pre .0 .held
 
-add-t21 : tie.Need-add-t21
-add-t21 c = search needs
-
-add-t24 : tie.Need-add-t24
-add-t24 c =
-    let start = c .before .before .before .before .before .before .before .before .before .before .before .before .before .before .before .before .before .before .before .before .before in
-    let light = start .pre .0 .light in
-    let fits = start .pre .0 .fits in
+add-t27 : tie.Need-add-t27
+add-t27 c =
+    let start = c .before .before .before .before .before .before .before .before .before .before .before .before .before .before .before .before .before .before .before .before .before .before .before .before in
     let few = start .pre .0 .few in
     let turn = start .pre .1 in
-    let less = c .before .before .before .before .before .before .before .before .before .before .before .before .chosen-weight .ensures .1 in
     omega arith
+
+add-t30 : tie.Need-add-t30
+add-t30 c =
+    let start = c .before .before .before .before .before .before .before .before .before .before .before .before .before .before .before .before .before .before .before .before .before .before .before .before .before in
+    let pre = start .pre .0 in
+    let less = c .before .before .before .before .before .before .before .before .before .before .before .before .chosen-weight .ensures .1 in
+    omega (arith, pre .light, pre .fits, pre .few, start .pre .1, less, c .before .before .before .before .before .before .before .before .before .before .before .before .before .before .before .before .before .before .put-live .ensures .at-most)
 
 same-length : tie.Need-same-length
 same-length c = search needs
@@ -48,51 +79,62 @@ same-length-2 : tie.Need-same-length-2
 same-length-2 c = search needs
 
 returns : tie.Need-returns
-unfolding choice-of
+unfolding choice-of state-of
 returns c =
-    let start = c .before .before .before .before .before .before .before .before .before .before .before .before .before .before .before .before .before .before .before .before .before in
+    let start = c .before .before .before .before .before .before .before .before .before .before .before .before .before .before .before .before .before .before .before .before .before .before .before .before .before in
     let pre = start .pre .0 in
     let args = start .args in
+    let there = c .before .before .before .before .before .before .before .before .before .before .before .before .before .before .before .before .before .before .put-live .ensures in
     let chose = c .before .before .before .before .before .before .before .before .before .before .before .before .before .before .choose in
     let light = c .before .before .before .before .before .before .before .before .before .before .before .before .chosen-weight .ensures in
     let fixing = c .before .before .before .before .before .before .before .before .before .before .fix-all .ensures in
     let node = c .before .before .before .before .before .before .before .wide .ensures .0 in
     let parent = c .before .before .before .before .before .before .parent-number .ensures in
     let reduced = c .before .before .before .before .reduce-hamiltonian .ensures in
-    let terms = terms-of 8 (args .progress .live) (args .rows .now) in
-    let fewer = reduced .at-most in
-    let weighed = pre .light in
-    let fits = pre .fits in
+    let terms = terms-of 8 (args .progress .count) (args .rows .now) in
+    let triple = chose .result .«leaf_indices» in
+    let right : choice-of (chose .result) ≡ chosen (args .modes) (args .tree .now) (args .heuristic) (args .progress .round) (args .assigned .now) terms =
+    chose .ensures .right
+    ∙ ap (chosen (args .modes) (args .tree .now) (args .heuristic) (args .progress .round) (args .assigned .now)) (there .terms)
+    ∙ chosen-live (args .modes) (args .tree .now) (args .heuristic) (args .progress .round) (args .assigned .now) terms in
+    let weighs = light .0 ∙ ap (weight-of triple) (there .terms) ∙ live-weight triple terms in
     record {
       on = omega arith;
-      right = stepped (args .modes) (args .tree .now) (args .heuristic) (args .rows .now) (args .assigned .now) (args .progress) _ _ _ (choice-of (chose .result))
-          (chose .ensures .right) (omega arith) (fixing .right)
-          (reduced .terms ∙ ap (λ p. reduction (chose .result .«leaf_indices») p terms) (parent ∙ ap (λ n. 2 * args .modes + 1 + n) node))
-          (ap (λ w. args .progress .weight + w) (light .0));
+      same-count = refl;
+      right = λ first.
+          stepped (task-with (args .modes) (args .tree .now) (args .heuristic) first) (args .rows .now) (args .assigned .now) (args .progress) _ _ _
+          (choice-of (chose .result)) right (omega arith) (fixing .right)
+          (reduced .terms ∙ ap (λ p. reduction triple p terms) (parent ∙ ap (λ n. 2 * args .modes + 1 + n) node))
+          (ap (λ w. args .progress .weight + w) weighs);
       going = record {
         some = pre .some;
         few = pre .few;
         whole = pre .whole;
         far = pre .far;
         pairs = fixing .pairs;
-        fits = omega arith;
+        fits = pre .fits;
         held = reduced .held;
-        light = omega (arith, light .1);
+        light = omega (arith, pre .light, light .1, there .at-most, pre .fits);
       };
+      rest = reduced .rest;
     }
 
 pub round-spec : {M : Type 1} → statement M
 round-spec =
     tie.close
     (tie.spec
+    slice-aggregate-put-live
+    put-live-requires
+    slice-aggregate-choose
     choose-requires
+    slice-aggregate-chosen-weight
     chosen-weight-requires
     fix-all-requires
     wide-requires
     parent-number-requires
     reduce-hamiltonian-requires
-    add-t21
-    add-t24
+    add-t27
+    add-t30
     same-length
     same-length-2
     returns)

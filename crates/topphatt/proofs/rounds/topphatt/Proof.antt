@@ -1,25 +1,34 @@
 -- The rounds that are left end where all do.
-use mathlib.Core.Path.{_≡_, sym, _∙_, ap}
-use Prim.Native.Nat.{_-_, _≤_}
+use mathlib.Core.Path.{_≡_, refl, sym, _∙_, ap}
+use mathlib.Core.List.{List}
+use Prim.Native.Nat.{ℕ, _-_, _*_, _≤_}
 use native.Mathlib.Omega.{arith}
 use borrow.Author.Needs.{needs}
-use lib.ListN.{length, length-replicate}
+use lib.ListN.{length, drop, length-replicate}
 use Rattle.terms.specs.Rows.{terms-of}
-use Rattle.topphatt.specs.code.Going.{Going, state-of}
-use Rattle.topphatt.specs.Rounds.{rounds, ended}
+use Rattle.topphatt.specs.code.Going.{task-with, Going, state-of}
+use Rattle.topphatt.specs.Rounds.{Task, rounds, ended}
 use Rattle.topphatt.proofs.RoundSteps.{state-assigned, rounds-start, rounds-on, rounds-stop, rounds-end}
 use Rattle.topphatt.proofs.rounds.topphatt.Statement.{statement}
 use Rattle.topphatt.proofs.rounds.topphatt.Tie as tie
 
+-- What is to be done, over the terms that stand in the rows at first.
+abbrev task-at : ℕ → List ℕ → ℕ → ℕ → List ℕ → Task
+task-at modes tree heuristic count rows = task-with modes tree heuristic (terms-of 8 count rows)
+
 abbrev Inv-loop : tie.InvT-loop
-Inv-loop modes tree distances heuristic rows₀ live assigned₀ progress₀ rows assigned progress = Going 256 modes tree distances rows assigned progress
+Inv-loop modes tree distances heuristic rows₀ count assigned₀ progress₀ rows assigned progress =
+    Going 256 modes tree distances rows assigned progress
     × (progress .round ≤ modes)
     × (length rows ≡ length rows₀)
     × (length assigned ≡ length assigned₀)
-    × (rounds modes tree heuristic (modes - progress .round) (state-of rows assigned progress) ≡ ended modes tree heuristic (terms-of 8 live rows₀))
+    × (rounds (task-at modes tree heuristic count rows₀) (modes - progress .round) (state-of rows assigned progress)
+    ≡ ended (task-at modes tree heuristic count rows₀))
+    × (progress .count ≡ count)
+    × (drop (8 * count) rows ≡ drop (8 * count) rows₀)
 
 abbrev μ-loop : tie.MeasureT-loop
-μ-loop modes tree distances heuristic rows₀ live assigned₀ progress₀ rows assigned progress = modes - progress .round
+μ-loop modes tree distances heuristic rows₀ count assigned₀ progress₀ rows assigned progress = modes - progress .round
 
 loop-holds : tie.Need-loop-holds Inv-loop μ-loop
 loop-holds c =
@@ -38,7 +47,9 @@ loop-holds c =
       omega arith,
       omega arith,
       omega arith,
-      rounds-start (start .args .modes) (start .args .tree .now) (start .args .heuristic) (start .args .live) (start .args .rows .now) (start .args .assigned .now) (pre .4),
+      rounds-start (start .args .modes) (start .args .tree .now) (start .args .heuristic) (start .args .count) (start .args .rows .now) (start .args .assigned .now) (pre .4),
+      refl,
+      refl,
     )
 
 is-finished-requires : tie.Need-is-finished-requires Inv-loop μ-loop
@@ -56,8 +67,9 @@ returns c =
     let here = c .before .before .before .before .before in
     let args = here .before .before .before .before .before .args in
     let state = state-of (here .loop .rows) (here .loop .assigned) (here .loop .progress) in
-    let e = sym (rounds-stop (args .modes) (args .tree .now) (args .heuristic) state (here .loop .progress .round) (c .before .before .before .if1 .taken) (sym (c .before .is-finished .ensures) ∙ c .if2 .taken)) ∙ here .loop .inv .4 in
-    record { weight-is = ap (λ s. s .weight) e; assigned-is = ap (λ s. s .assigned) e; pairs = here .loop .inv .0 .pairs }
+    let task = task-at (args .modes) (args .tree .now) (args .heuristic) (args .count) (args .rows .now) in
+    let e = sym (rounds-stop task state (here .loop .progress .round) (c .before .before .before .if1 .taken) (sym (c .before .is-finished .ensures) ∙ c .if2 .taken)) ∙ here .loop .inv .4 in
+    record { weight-is = ap (λ s. s .weight) e; assigned-is = ap (λ s. s .assigned) e; pairs = here .loop .inv .0 .pairs; rest = here .loop .inv .6 }
 
 round-requires : tie.Need-round-requires Inv-loop μ-loop
 round-requires c κs = (c .before .before .before .before .before .before .before .loop .inv .0, c .before .before .before .before .before .if1 .taken)
@@ -77,12 +89,16 @@ loop-again c =
     let h = c .before .before .before .before .before .before .before .before .before .before .if1 .taken in
     let on = went .on in
     let unfinished = c .before .before .before .before .before .before .before .before .is-finished .ensures in
-    let state = state-of (here .loop .rows) (here .loop .assigned) (here .loop .progress) in (
+    let state = state-of (here .loop .rows) (here .loop .assigned) (here .loop .progress) in
+    let task = task-at (args .modes) (args .tree .now) (args .heuristic) (args .count) (args .rows .now) in (
       went .going,
       omega arith,
       called .kept .1 .1 .1 .1 .0 ∙ here .loop .inv .2,
       called .kept .1 .1 .1 .1 .1 .0 ∙ here .loop .inv .3,
-      rw (went .right, went .on) (sym (rounds-on (args .modes) (args .tree .now) (args .heuristic) state (here .loop .progress .round) h (rw (state-assigned (here .loop .rows) (here .loop .assigned) (here .loop .progress)) (sym unfinished ∙ c .before .before .before .before .before .before .before .if2 .left))) ∙ here .loop .inv .4),
+      rw (went .right (terms-of 8 (args .count) (args .rows .now)), went .on)
+          (sym (rounds-on task state (here .loop .progress .round) h (rw (state-assigned (here .loop .rows) (here .loop .assigned) (here .loop .progress)) (sym unfinished ∙ c .before .before .before .before .before .before .before .if2 .left))) ∙ here .loop .inv .4),
+      went .same-count ∙ here .loop .inv .5,
+      rw (here .loop .inv .5) at (went .rest) ∙ here .loop .inv .6,
     )
 
 same-length-3 : tie.Need-same-length-3 Inv-loop μ-loop
@@ -97,8 +113,9 @@ returns-2 c =
     let here = c .before .before in
     let args = here .before .before .before .before .before .args in
     let state = state-of (here .loop .rows) (here .loop .assigned) (here .loop .progress) in
-    let e = sym (rounds-end (args .modes) (args .tree .now) (args .heuristic) state (here .loop .progress .round) (c .if1 .left)) ∙ here .loop .inv .4 in
-    record { weight-is = ap (λ s. s .weight) e; assigned-is = ap (λ s. s .assigned) e; pairs = here .loop .inv .0 .pairs }
+    let task = task-at (args .modes) (args .tree .now) (args .heuristic) (args .count) (args .rows .now) in
+    let e = sym (rounds-end task state (here .loop .progress .round) (c .if1 .left)) ∙ here .loop .inv .4 in
+    record { weight-is = ap (λ s. s .weight) e; assigned-is = ap (λ s. s .assigned) e; pairs = here .loop .inv .0 .pairs; rest = here .loop .inv .6 }
 
 pub topphatt-spec : {M : Type 1} → statement M
 topphatt-spec =
