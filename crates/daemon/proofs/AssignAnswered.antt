@@ -1,7 +1,7 @@
 -- Assigning called from C answers what the assignment comes to: nothing is written where it refuses, and all that is known where it is done.
-use mathlib.Core.Path.{_≡_, ap, _∙_, sym}
+use mathlib.Core.Path.{_≡_, refl, ap, _∙_, sym}
 use mathlib.Core.List.{List}
-use Prim.Native.Nat.{ℕ, _+_, _*_, _≤_}
+use Prim.Native.Nat.{ℕ, _+_, _*_, _<_, _≤_}
 use native.Mathlib.Omega.{arith}
 use borrow.Author.Tests.{leb-true}
 use lib.Dec.{leb}
@@ -15,14 +15,14 @@ use Rattle.refusal.specs.Numbers.{numberOf, placeOf}
 use Rattle.tree.proofs.AcceptedParts.{accepted-parts}
 use Rattle.topphatt.specs.declared.Assigned.{Assigned}
 use Rattle.topphatt.specs.declared.Assigned.the-variants.{Weight, Unassigned}
-use Rattle.topphatt.specs.Answer.{Outcome, done, refused, outcome}
-use Rattle.topphatt.specs.Promises.{returned, table-after}
+use Rattle.topphatt.specs.Answer.{Outcome, done, refused, Asked, asked, Rooms, outcome}
+use Rattle.topphatt.specs.Promises.{returned, Lent, lent, rooms-of, lent-then}
 use Rattle.topphatt.proofs.AssignDone.{assign-done}
 use Rattle.topphatt.proofs.OutcomeRight.{outcome-right}
 use Rattle.daemon.specs.Bytes.{two-bytes, eight-bytes}
-use Rattle.daemon.specs.Calls.{room-of, assign-called, term-numbers}
+use Rattle.daemon.specs.Calls.{room-of, LentTable, lent-table, table-rooms-in, assign-called, term-numbers}
 use Rattle.daemon.specs.code.Reading.{TermsRead, TreeRead}
-use Rattle.daemon.specs.Promises.{AssignCalled, assign-result-of, table-bytes-then, weight-then}
+use Rattle.daemon.specs.Promises.{AssignCalled, assign-result-of, table-then}
 use Rattle.daemon.proofs.CallAnswered.{room-fits}
 
 -- What the answer says of the meaning.
@@ -50,55 +50,59 @@ pub record TableFits (modes room : ℕ) (codes : List ℕ) : Type 0 where
   pub has-room : 3 * modes ≤ room
   pub exact : length codes ≡ 3 * modes
 
-pub table-fits : (modes : ℕ) (table : List ℕ) (heuristic : ℕ) (numbers : List ℕ) (work room count weight : ℕ) (codes : List ℕ)
-    → outcome 256 modes table heuristic numbers work room ≡ done count weight codes → TableFits modes room codes
-table-fits modes table heuristic numbers work room count weight codes says =
-    let known = assign-done 256 modes table heuristic numbers work room count weight codes says in
-    let right = outcome-right 256 modes table heuristic (omega arith) numbers work room count weight codes says in
-    let parts = accepted-parts 256 modes codes (right .accepted) in
+pub table-fits : (rooms : Rooms) (call : Asked) (count weight : ℕ) (codes : List ℕ) → 3 * rooms .modes + 2 < 65536
+    → outcome rooms call ≡ done count weight codes → TableFits (call .modes) (rooms .table) codes
+table-fits rooms call count weight codes few says =
+    let known = assign-done rooms call count weight codes says in
+    let right = outcome-right rooms call count weight codes few says in
+    let parts = accepted-parts (rooms .modes) (call .modes) codes (right .accepted) in
     record {
       some-modes = parts .some;
-      has-room = leb-true (3 * modes) room (both (leb (8 * count) work) (leb (3 * modes) room) (known .rooms-are) .1);
+      has-room = leb-true (3 * call .modes) (rooms .table) (both (leb (8 * count) (rooms .work)) (leb (3 * call .modes) (rooms .table)) (known .rooms-are) .1);
       exact = parts .whole;
     }
 
-module _ (meant : Outcome) (table answer : List ℕ) where
+module _ (meant : Outcome) (given : LentTable) where
   pub assign-refused : (why : Refusal) (r : ℕ) → meant ≡ refused why → r ≡ numberOf why * 65536 + placeOf why
-      → AssignCalled meant table answer table answer r
-  unfolding assign-result-of table-bytes-then weight-then
-  assign-refused why r e f = record { result = rw e f; table-is = rw e; answer-is = rw e }
+      → AssignCalled (λ l. meant) given given r
+  unfolding assign-result-of table-then
+  assign-refused why r e f = record { result = rw e f; leaves = rw e }
 
-  pub assign-written : (modes weight : ℕ) (own now-own now-table now-answer : List ℕ) (finish : Finished meant weight)
-      → TableFits modes (length own) (finish .codes) → now-own ≡ table-after meant own
-      → now-table ≡ written-at 0 (two-bytes (take (3 * modes) now-own)) table → now-answer ≡ written-at 0 (eight-bytes weight) answer
-      → AssignCalled meant table answer now-table now-answer 0
-  unfolding assign-result-of table-bytes-then weight-then table-after
-  assign-written modes weight own now-own now-table now-answer finish fit own-is table-is answer-is =
+  pub assign-written : (modes weight : ℕ) (before after : Lent) (now-table now-answer : List ℕ) (finish : Finished meant weight)
+      → TableFits modes (length (before .table)) (finish .codes) → after ≡ lent-then meant before
+      → now-table ≡ written-at 0 (two-bytes (take (3 * modes) (after .table))) (given .table)
+      → now-answer ≡ written-at 0 (eight-bytes weight) (given .answer)
+      → AssignCalled (λ l. meant) given (lent-table now-table now-answer) 0
+  unfolding assign-result-of table-then lent-then
+  assign-written modes weight before after now-table now-answer finish fit own-is table-is answer-is =
       let codes = finish .codes in
       let e = finish .is in
-      let written : now-own ≡ written-at 0 codes own = rw e at own-is in
-      let front : take (3 * modes) now-own ≡ codes =
-      ap (take (3 * modes)) written ∙ ap (λ n. take n (written-at 0 codes own)) (sym (fit .exact))
-      ∙ part-written 0 codes own (omega (arith, fit .exact, fit .has-room)) in
+      let written : after .table ≡ written-at 0 codes (before .table) = ap (λ l. l .table) (rw e at own-is) in
+      let front : take (3 * modes) (after .table) ≡ codes =
+      ap (take (3 * modes)) written ∙ ap (λ n. take n (written-at 0 codes (before .table))) (sym (fit .exact))
+      ∙ part-written 0 codes (before .table) (omega (arith, fit .exact, fit .has-room)) in
       record {
         result = rw e;
-        table-is = rw e (table-is ∙ ap (λ l. written-at 0 (two-bytes l) table) front);
-        answer-is = rw e answer-is;
+        leaves = rw e (λ i. record { table = (table-is ∙ ap (λ l. written-at 0 (two-bytes l) (given .table)) front) i; answer = answer-is i });
       }
 
-pub assign-so : (meant same : Outcome) (table answer now-table now-answer : List ℕ) (r : ℕ) → meant ≡ same
-    → AssignCalled same table answer now-table now-answer r → AssignCalled meant table answer now-table now-answer r
-assign-so meant same table answer now-table now-answer r e called = rw e called
+pub assign-so : (meant same : LentTable → Outcome) (before after : LentTable) (r : ℕ) → meant before ≡ same before
+    → AssignCalled same before after r → AssignCalled meant before after r
+assign-so meant same before after r e called = record { result = rw e (called .result); leaves = rw e (called .leaves) }
 
 -- The parts that the call lends to assigning mean what it was given.
-pub assign-lent-means : (modes : ℕ) (tree codes : List ℕ) (nodes heuristic : ℕ) (terms numbers own : List ℕ) (count room work table answer : ℕ)
-    → TreeRead 256 modes tree codes nodes → TermsRead terms numbers count → room ≡ room-of 1 (length own) table answer
-    → assign-called 256 work (length own) modes tree heuristic terms table answer
-    ≡ outcome 256 modes (take nodes codes) heuristic (take count numbers) work (length (take room own))
-unfolding assign-called
-assign-lent-means modes tree codes nodes heuristic terms numbers own count room work table answer tree-read terms-read e =
+pub assign-lent-means : (modes : ℕ) (tree codes : List ℕ) (nodes heuristic : ℕ) (terms numbers work own : List ℕ) (count room : ℕ) (given : LentTable)
+    → TreeRead 256 modes tree codes nodes → TermsRead terms numbers count
+    → room ≡ room-of 1 (length own) (length (given .table)) (length (given .answer))
+    → assign-called (rooms-of 256 (lent work own)) modes tree heuristic terms given
+    ≡ outcome (rooms-of 256 (lent work (take room own))) (asked modes (take nodes codes) heuristic (take count numbers))
+unfolding assign-called table-rooms-in
+assign-lent-means modes tree codes nodes heuristic terms numbers work own count room given tree-read terms-read e =
+    let table = length (given .table) in
+    let answer = length (given .answer) in
     let fits = room-fits 1 (length own) table answer in
     let l : length (take room own) ≡ room-of 1 (length own) table answer = length-take-le room own (omega (arith, e, fits .in-own)) ∙ e in
-    sym (tree-read .same heuristic (term-numbers terms) work (room-of 1 (length own) table answer))
-    ∙ sym (terms-read .assigned-same 256 modes (take nodes codes) heuristic work (room-of 1 (length own) table answer))
-    ∙ ap (λ n. outcome 256 modes (take nodes codes) heuristic (take count numbers) work n) (sym l)
+    let rooms : Rooms = record { modes = 256; work = length work; table = room-of 1 (length own) table answer } in
+    sym (tree-read .same rooms refl heuristic (term-numbers terms))
+    ∙ sym (terms-read .assigned-same rooms modes (take nodes codes) heuristic)
+    ∙ ap (λ n. outcome (record { modes = 256; work = length work; table = n }) (asked modes (take nodes codes) heuristic (take count numbers))) (sym l)

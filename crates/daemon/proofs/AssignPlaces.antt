@@ -1,6 +1,6 @@
 -- The place of a refused assignment is below 65536.
 use mathlib.Core.Path.{_≡_}
-use mathlib.Core.Bool.{Bool, true, false, cond, _&&_}
+use mathlib.Core.Bool.{_&&_}
 use mathlib.Core.List.{List}
 use Prim.Native.Nat.{ℕ, _*_, _≤_}
 use native.Mathlib.Omega.{arith}
@@ -11,7 +11,6 @@ use Rattle.lists.proofs.Tests.{both, whichever}
 use Rattle.refusal.specs.declared.Refusal.{Refusal}
 use Rattle.refusal.specs.declared.Refusal.the-variants.{Modes, TreeLength, ChildCode, NotOneTree, WrongPair, Heuristic, Room}
 use Rattle.refusal.specs.Numbers.{placeOf}
-use Rattle.terms.specs.Rows.{terms-of}
 use Rattle.terms.specs.Good.{modes-good, checked}
 use Rattle.terms.specs.declared.checking.Checked.{Checked}
 use Rattle.terms.specs.declared.checking.Checked.the-variants.{Good, Refused as BadTerms}
@@ -20,9 +19,8 @@ use Rattle.tree.specs.Pairs.{pairs-right}
 use Rattle.tree.specs.Check.{codes-good, tree-checked}
 use Rattle.tree.specs.declared.TreeChecked.{TreeChecked}
 use Rattle.tree.specs.declared.TreeChecked.the-variants.{Accepted, Refused as BadTree}
-use Rattle.topphatt.specs.Rounds.{ended}
-use Rattle.topphatt.specs.Answer.{Outcome, answer-table, done, refused, with-room, with-terms, with-tree, outcome}
-use Rattle.daemon.proofs.RefusalPlaces.{bad-place, bad-row-place}
+use Rattle.topphatt.specs.Answer.{Outcome, done, refused, Asked, task-of, Rooms, done-by, with-room, with-terms, with-tree, outcome}
+use Rattle.daemon.proofs.RefusalPlaces.{unless, bad-place, bad-row-place}
 
 -- The place that a check of a tree and an assignment name, 0 where they name none.
 unfoldable tree-place : TreeChecked → ℕ
@@ -33,46 +31,40 @@ unfoldable assign-place : Outcome → ℕ
 assign-place (done count weight codes) = 0
 assign-place (refused refusal) = placeOf refusal
 
-tree-small : (modes : ℕ) (table : List ℕ) → tree-place (tree-checked 256 modes table) ≤ 768
+tree-small : (most modes : ℕ) (tree : List ℕ) → tree-place (tree-checked most modes tree) ≤ 3 * most
 unfolding tree-checked modes-good tree-place
-tree-small modes table =
-    whichever tree-place 768 (modes-good 256 modes) _ (BadTree Modes)
+tree-small most modes tree =
+    unless tree-place (3 * most) (modes-good most modes) (BadTree Modes) _ (omega arith)
     (λ m.
-    let few = leb-true modes 256 (both (leb 1 modes) (leb modes 256) m .1) in
-    whichever tree-place 768 (eqb (length table) (3 * modes)) _ (BadTree TreeLength)
+    let few = leb-true modes most (both (leb 1 modes) (leb modes most) m .1) in
+    unless tree-place (3 * most) (eqb (length tree) (3 * modes)) (BadTree TreeLength) _ (omega arith)
     (λ l.
-    let long = eqb-true (length table) (3 * modes) l in
-    whichever tree-place 768 (ltb (codes-good modes table) (length table)) (BadTree (ChildCode (codes-good modes table))) _
-    (λ g. omega (arith, ltb-true (codes-good modes table) (length table) g))
-    (whichever tree-place 768 (one-tree modes table) _ (BadTree NotOneTree)
+    let long = eqb-true (length tree) (3 * modes) l in
+    whichever tree-place (3 * most) (ltb (codes-good modes tree) (length tree)) (BadTree (ChildCode (codes-good modes tree))) _
+    (λ g. omega (arith, ltb-true (codes-good modes tree) (length tree) g))
+    (unless tree-place (3 * most) (one-tree modes tree) (BadTree NotOneTree) _ (omega arith)
     (λ o.
-    whichever tree-place 768 (ltb (pairs-right modes table) modes) (BadTree (WrongPair (pairs-right modes table))) Accepted
-    (λ p. omega (arith, ltb-true (pairs-right modes table) modes p))
-    (omega arith))
-    (omega arith)))
-    (omega arith))
-    (omega arith)
+    whichever tree-place (3 * most) (ltb (pairs-right modes tree) modes) (BadTree (WrongPair (pairs-right modes tree))) Accepted
+    (λ p. omega (arith, ltb-true (pairs-right modes tree) modes p))
+    (omega arith)))))
 
-room-small : (test : Bool) (count weight : ℕ) (codes : List ℕ) → assign-place (cond test (done count weight codes) (refused Room)) ≤ 65535
-unfolding assign-place
-room-small true count weight codes = omega arith
-room-small false count weight codes = omega arith
-
-module _ (modes : ℕ) (table : List ℕ) (heuristic : ℕ) (numbers : List ℕ) (work room : ℕ) where
-  terms-small : (found : Checked) → bad-place found ≤ 2048 → assign-place (with-terms modes table heuristic numbers work room found) ≤ 65535
-  unfolding with-terms with-room assign-place bad-place
+module _ (rooms : Rooms) (small : rooms .modes ≤ 256) (call : Asked) where
+  terms-small : (found : Checked) → bad-place found ≤ 2048 → assign-place (with-terms rooms call found) ≤ 65535
+  unfolding with-terms with-room done-by assign-place bad-place
   terms-small (Good count) h =
-      let end = ended modes table heuristic (terms-of 8 count numbers) in
-      room-small (leb (8 * count) work && leb (3 * modes) room) count (end .weight) (answer-table modes (end .assigned) table)
+      let task = task-of call count in
+      unless assign-place 65535 (leb (8 * length (task .job .terms)) (rooms .work) && leb (3 * task .job .modes) (rooms .table)) (refused Room)
+      (done-by task) (omega arith) (λ f. omega arith)
   terms-small (BadTerms refusal) h = omega (arith, h)
 
-  rest-small : (found : TreeChecked) → tree-place found ≤ 768 → assign-place (with-tree modes table heuristic numbers work room found) ≤ 65535
+  rest-small : (found : TreeChecked) → tree-place found ≤ 3 * rooms .modes → assign-place (with-tree rooms call found) ≤ 65535
   unfolding with-tree tree-place assign-place
   rest-small Accepted h =
-      whichever assign-place 65535 (leb heuristic 2) _ (refused Heuristic) (λ good. terms-small (checked modes numbers) (bad-row-place modes numbers)) (omega arith)
-  rest-small (BadTree refusal) h = omega (arith, h)
+      unless assign-place 65535 (leb (call .heuristic) 2) (refused Heuristic) _ (omega arith)
+      (λ good. terms-small (checked (call .modes) (call .numbers)) (bad-row-place (call .modes) (call .numbers)))
+  rest-small (BadTree refusal) h = omega (arith, h, small)
 
-  pub assign-refused-place : (refusal : Refusal) → outcome 256 modes table heuristic numbers work room ≡ refused refusal → placeOf refusal ≤ 65535
+  pub assign-refused-place : (refusal : Refusal) → outcome rooms call ≡ refused refusal → placeOf refusal ≤ 65535
   unfolding outcome assign-place
   assign-refused-place refusal e =
-      rw e at (rest-small (tree-checked 256 modes table) (tree-small modes table))
+      rw e at (rest-small (tree-checked (rooms .modes) (call .modes) (call .tree)) (tree-small (rooms .modes) (call .modes) (call .tree)))

@@ -15,16 +15,16 @@ use Rattle.refusal.specs.Numbers.{numberOf, placeOf}
 use Rattle.journal.specs.declared.resuming.Numbers.{Numbers}
 use Rattle.journal.specs.declared.resuming.Answer.{Answer}
 use Rattle.journal.specs.declared.resuming.Answer.the-variants.{Done, Refused}
-use Rattle.journal.specs.Resuming.{Ending, Outcome, done, refuses, resumed}
-use Rattle.journal.specs.Promises.{returned, rows-then, journal-then}
-use Rattle.journal.proofs.RowsFit.{RowsFit}
+use Rattle.journal.specs.Resuming.{Ending, Outcome, done, refuses, Rooms, resumed}
+use Rattle.journal.specs.Promises.{lent as run-lent, rooms-of, returned, lent-then as run-lent-then, Answers}
+use Rattle.journal.proofs.RowsFit.{RowsFit, rows-fit}
 use Rattle.daemon.specs.Bytes.{two-bytes, eight-bytes}
-use Rattle.daemon.specs.Calls.{room-of, resume-called}
+use Rattle.daemon.specs.Calls.{room-of, Lent, lent, rooms-in, resume-called}
 use Rattle.daemon.specs.code.Reading.{TermsRead}
-use Rattle.daemon.specs.Promises.{Called, result-of, answer-bytes, rows-bytes-then, answer-then}
+use Rattle.daemon.specs.Promises.{Called, result-of, answer-bytes, lent-then}
 
 -- What the answer says of the meaning.
-pub refused-meant : (meant : Outcome) (why : Refusal) (r : Answer) → r ≡ returned meant → r ≡ Refused why → meant ≡ refuses why
+refused-meant : (meant : Outcome) (why : Refusal) (r : Answer) → r ≡ returned meant → r ≡ Refused why → meant ≡ refuses why
 unfolding returned
 refused-meant (done part) why r e f = let z : _≡_ {A = ℕ} 0 1 = cc in absurd (omega arith)
 refused-meant (refuses refusal) why r e f = cc
@@ -38,41 +38,66 @@ pub record Finished (meant : Outcome) (numbers : Numbers) : Type 0 where
   pub kept : numbers .kept ≡ part .kept
   pub new : numbers .new ≡ length (part .new)
 
-pub done-meant : (meant : Outcome) (numbers : Numbers) (r : Answer) → r ≡ returned meant → r ≡ Done numbers → Finished meant numbers
+done-meant : (meant : Outcome) (numbers : Numbers) (r : Answer) → r ≡ returned meant → r ≡ Done numbers → Finished meant numbers
 unfolding returned
 done-meant (done part) numbers r e f = record { part = part; is = refl; weight = cc; trials = cc; kept = cc; new = cc }
 done-meant (refuses refusal) numbers r e f = let z : _≡_ {A = ℕ} 0 1 = cc in absurd (omega arith)
 
-module _ (meant : Outcome) (rows journal answer now-journal : List ℕ) (journal-is : now-journal ≡ journal-then meant journal) where
-  pub called-refused : (why : Refusal) (r : ℕ) → meant ≡ refuses why → r ≡ numberOf why * 65536 + placeOf why
-      → Called meant rows journal answer rows now-journal answer r
-  unfolding result-of rows-bytes-then answer-then
-  called-refused why r e f = record { result = rw e f; rows-are = rw e; journal-is = journal-is; answer-is = rw e }
+-- What is known once resuming has answered, in work and rows of the call's own.
+module _ (modes : ℕ) (terms read work own rows journal answer now-work now-own now-journal : List ℕ) (r : Answer)
+    (answers : Answers (λ given. resumed (rooms-of 256 given) modes terms read) (run-lent work own journal) (run-lent now-work now-own now-journal) r) where
+  abbrev rooms : Rooms
+  rooms = rooms-of 256 (run-lent work own journal)
 
-  pub called-done : (numbers : Numbers) (modes : ℕ) (own now-own now-rows now-answer : List ℕ) (finish : Finished meant numbers)
-      → RowsFit 256 modes (length own) (finish .part) → now-own ≡ rows-then meant own
-      → now-rows ≡ written-at 0 (two-bytes (take (4 * modes) now-own)) rows
-      → now-answer ≡ written-at 0 (eight-bytes (numbers .weight) ++ (eight-bytes (numbers .trials) ++ (eight-bytes (numbers .kept) ++ eight-bytes (numbers .new)))) answer
-      → Called meant rows journal answer now-rows now-journal now-answer 0
-  unfolding result-of rows-bytes-then answer-then answer-bytes rows-then
-  called-done numbers modes own now-own now-rows now-answer finish fit own-is rows-is answer-is =
-      let part = finish .part in
-      let e = finish .is in
-      let exact = fit .exact in
-      let written : now-own ≡ written-at 0 (part .rows) own = rw e at own-is in
-      let front : take (4 * modes) now-own ≡ part .rows =
-      ap (λ l. take (4 * modes) l) written ∙ ap (λ n. take n (written-at 0 (part .rows) own)) (sym exact)
-      ∙ part-written 0 (part .rows) own (omega (arith, exact, fit .room)) in
-      record {
-        result = rw e;
-        rows-are = rw e (rows-is ∙ ap (λ l. written-at 0 (two-bytes l) rows) front);
-        journal-is = journal-is;
-        answer-is = rw e (rw (← finish .weight, ← finish .trials, ← finish .kept, ← finish .new) answer-is);
-      }
+  abbrev meant : Lent → Outcome
+  meant given = resumed (rooms-of 256 (run-lent work own (given .journal))) modes terms read
 
-pub called-so : (meant same : Outcome) (rows journal answer now-rows now-journal now-answer : List ℕ) (r : ℕ) → meant ≡ same
-    → Called same rows journal answer now-rows now-journal now-answer r → Called meant rows journal answer now-rows now-journal now-answer r
-called-so meant same rows journal answer now-rows now-journal now-answer r e called = rw e called
+  pub why-refused : (why : Refusal) → r ≡ Refused why → resumed rooms modes terms read ≡ refuses why
+  why-refused why e = refused-meant (resumed rooms modes terms read) why r (answers .answer) e
+
+  pub called-refused : (why : Refusal) (result : ℕ) → r ≡ Refused why → result ≡ numberOf why * 65536 + placeOf why
+      → Called meant (lent rows journal answer) (lent rows now-journal answer) result
+  unfolding result-of run-lent-then lent-then
+  called-refused why result e f =
+      let is = why-refused why e in
+      let same : now-journal ≡ journal = ap (λ l. l .journal) (rw is at (answers .leaves)) in
+      record { result = rw is f; leaves = rw (is, same) }
+
+  pub finish : (numbers : Numbers) → r ≡ Done numbers → Finished (resumed rooms modes terms read) numbers
+  finish numbers e = done-meant (resumed rooms modes terms read) numbers r (answers .answer) e
+
+  module _ (numbers : Numbers) (e : r ≡ Done numbers) where
+    pub fit : RowsFit rooms modes (finish numbers e .part)
+    fit = rows-fit rooms modes terms read (finish numbers e .part) (omega arith) (finish numbers e .is)
+
+    pub called-done : (now-rows now-answer : List ℕ) → now-rows ≡ written-at 0 (two-bytes (take (4 * modes) now-own)) rows
+        → now-answer ≡ written-at 0 (eight-bytes (numbers .weight) ++ (eight-bytes (numbers .trials) ++ (eight-bytes (numbers .kept) ++ eight-bytes (numbers .new)))) answer
+        → Called meant (lent rows journal answer) (lent now-rows now-journal now-answer) 0
+    unfolding result-of run-lent-then lent-then answer-bytes
+    called-done now-rows now-answer rows-is answer-is =
+        let done-so = finish numbers e in
+        let part = done-so .part in
+        let is = done-so .is in
+        let exact = fit .exact in
+        let left = rw is at (answers .leaves) in
+        let written : now-own ≡ written-at 0 (part .rows) own = ap (λ l. l .rows) left in
+        let front : take (4 * modes) now-own ≡ part .rows =
+        ap (λ l. take (4 * modes) l) written ∙ ap (λ n. take n (written-at 0 (part .rows) own)) (sym exact)
+        ∙ part-written 0 (part .rows) own (omega (arith, exact, fit .room)) in
+        record {
+          result = rw is;
+          leaves =
+              rw is
+              (same-lent (rows-is ∙ ap (λ l. written-at 0 (two-bytes l) rows) front) (ap (λ l. l .journal) left)
+              (rw (← done-so .weight, ← done-so .trials, ← done-so .kept, ← done-so .new) answer-is));
+        }
+      where
+        same-lent : {a b c d e f : List ℕ} → a ≡ b → c ≡ d → e ≡ f → lent a c e ≡ lent b d f
+        same-lent p q r = rw (p, q, r)
+
+pub called-so : (meant same : Lent → Outcome) (before after : Lent) (r : ℕ) → meant before ≡ same before
+    → Called same before after r → Called meant before after r
+called-so meant same before after r e called = record { result = rw e (called .result); leaves = rw e (called .leaves) }
 
 -- The room fits into the call's own and into the lent bytes, and where there is any the answer's numbers fit.
 pub record RoomFits (numbers own bytes answer room : ℕ) : Type 0 where
@@ -89,13 +114,13 @@ room-fits numbers own bytes answer = go (leb (8 * numbers) answer) refl
     go false e = record { in-own = omega arith; in-bytes = omega arith; answered = λ some. absurd (omega arith) }
 
 -- The parts that the call lends to resuming mean what it was given.
-pub lent-means : (modes : ℕ) (terms read numbers own : List ℕ) (count room work rows journal answer : ℕ) → TermsRead terms numbers count
-    → room ≡ room-of 4 (length own) rows answer
-    → resume-called 256 work (length own) modes terms read rows journal answer
-    ≡ resumed 256 modes (take count numbers) read work (length (take room own)) journal
-unfolding resume-called
-lent-means modes terms read numbers own count room work rows journal answer reads e =
-    let fits = room-fits 4 (length own) rows answer in
-    let l : length (take room own) ≡ room-of 4 (length own) rows answer = length-take-le room own (omega (arith, e, fits .in-own)) ∙ e in
-    sym (reads .same 256 modes read work (room-of 4 (length own) rows answer) journal)
-    ∙ ap (λ n. resumed 256 modes (take count numbers) read work n journal) (sym l)
+pub lent-means : (modes : ℕ) (terms read numbers work own : List ℕ) (count room : ℕ) (given : Lent) → TermsRead terms numbers count
+    → room ≡ room-of 4 (length own) (length (given .rows)) (length (given .answer))
+    → resume-called (record { modes = 256; work = length work; rows = length own }) modes terms read given
+    ≡ resumed (rooms-of 256 (run-lent work (take room own) (given .journal))) modes (take count numbers) read
+unfolding resume-called rooms-in
+lent-means modes terms read numbers work own count room given reads e =
+    let fits = room-fits 4 (length own) (length (given .rows)) (length (given .answer)) in
+    let l : length (take room own) ≡ room-of 4 (length own) (length (given .rows)) (length (given .answer)) =
+    length-take-le room own (omega (arith, e, fits .in-own)) ∙ e in
+    rw (← l) (sym (reads .same (rooms-of 256 (run-lent work (take room own) (given .journal))) modes read))

@@ -1,6 +1,6 @@
 -- A refusal's number is 1 to 19, and the place of a refused call is below 65536: the one number that the call returns says both.
 use mathlib.Core.Path.{_≡_, refl}
-use mathlib.Core.Bool.{Bool, true, false, cond, _&&_}
+use mathlib.Core.Bool.{Bool, true, false, cond, not, _&&_}
 use mathlib.Core.List.{List, [], _∷_}
 use Prim.Native.Nat.{ℕ, suc, _+_, _*_, _/_, _%_, _<_, _≤_}
 use native.Mathlib.Omega.{arith}
@@ -34,7 +34,7 @@ use Rattle.refusal.specs.declared.Refusal.the-variants.{
 use Rattle.refusal.specs.Numbers.{numberOf, placeOf}
 use Rattle.entities.specs.declared.Triple.{Triple}
 use Rattle.fields.specs.Lines.{lines}
-use Rattle.terms.specs.Rows.{terms-of}
+use Rattle.terms.specs.Job.{Job, job-of}
 use Rattle.terms.specs.Good.{modes-good, good-rows, checked}
 use Rattle.terms.specs.declared.checking.Checked.{Checked}
 use Rattle.terms.specs.declared.checking.Checked.the-variants.{Good, Refused as BadTerms}
@@ -44,21 +44,24 @@ use Rattle.journal.specs.declared.header.Header.{Header}
 use Rattle.journal.specs.declared.header.Header.the-variants.{Is as HeaderIs, Broken as HeaderBroken}
 use Rattle.journal.specs.declared.merge_line.Merge.{Merge}
 use Rattle.journal.specs.declared.merge_line.Merge.the-variants.{Is as MergeIs, Broken as MergeBroken}
+use Rattle.journal.specs.declared.judging.Judged.{Judged}
+use Rattle.journal.specs.declared.judging.Judged.the-variants.{Obey, Refused as Unfit}
 use Rattle.journal.specs.LineForms.{header-of, merge-of-line}
 use Rattle.journal.specs.Obeying.{
   Obeyed,
   went,
   refused,
-  obeyed-merge,
-  obeyed-form,
-  obeyed-line,
+  judged-merge,
+  judged-form,
+  judged-line,
+  obeyed-as,
   obeyed-next,
   obeyed-lines,
   obeyed-header,
   obeyed-texts,
   obeyed,
 }
-use Rattle.journal.specs.Resuming.{Outcome, done, refuses, with-journal, roomy, with-terms, resumed}
+use Rattle.journal.specs.Resuming.{Outcome, done, refuses, with-journal, Rooms, roomy, with-terms, resumed}
 
 pub number-small : (refusal : Refusal) → (1 ≤ numberOf refusal) × (numberOf refusal ≤ 19)
 number-small Modes = omega arith
@@ -92,56 +95,74 @@ unfoldable place-in : Obeyed → ℕ
 place-in (went history) = 0
 place-in (refused refusal) = placeOf refusal
 
-module _ (modes : ℕ) (terms : List (List ℕ)) where
-  either : (line : ℕ) (test : Bool) (on off : Obeyed) → (test ≡ true → Reached modes line on) → Reached modes line off → Reached modes line (cond test on off)
-  either line true on off f g = f refl
-  either line false on off f g = g
+-- A line that is refused is refused at its own place.
+abbrev Told : ℕ → Judged → Type 0
+Told line (Obey said) = Unit
+Told line (Unfit refusal) = placeOf refusal ≤ line
 
-  form-reached : (history : List Triple) (line : ℕ) (said : Merge) → line ≡ length history + 1 → length history < modes
-      → Reached modes (suc line) (obeyed-form modes terms history line said)
-  unfolding obeyed-form obeyed-merge
-  form-reached history line (MergeIs said) e h =
-      either (suc line) (eqb (said .step) (length history)) _ (refused (StepNotNext line))
-      (λ f. either (suc line) (three-open modes history (said .triple)) _ (refused (ChildNotOpen line))
-      (λ f. either (suc line) (paired modes history (said .triple)) _ (refused (NotLawful line))
-      (λ f. either (suc line) (eqb (said .weight) (weight-in modes terms history (said .triple))) (went (said .triple ∷ history)) (refused (WeightUntrue line))
-      (λ f. (omega arith, omega arith))
-      (omega arith))
-      (omega arith))
-      (omega arith))
-      (omega arith)
-  form-reached history line MergeBroken e h = omega arith
+told-either : (line : ℕ) (test : Bool) (on off : Judged) → Told line on → Told line off → Told line (cond test on off)
+told-either line true on off f g = f
+told-either line false on off f g = g
 
-  next-reached : (line : ℕ) (bytes : List ℕ) (so-far : Obeyed) → Reached modes line so-far → Reached modes (suc line) (obeyed-next modes terms line bytes so-far)
-  unfolding obeyed-next obeyed-line
-  next-reached line bytes (went history) r =
-      either (suc line) (ltb (length history) modes) _ (refused (LineAfterLast line))
-      (λ f. form-reached history line (merge-of-line bytes) (r .0) (ltb-true (length history) modes f))
-      (omega arith)
+module _ (job : Job) where
+  form-told : (history : List Triple) (line : ℕ) (said : Merge) → Told line (judged-form job history line said)
+  unfolding judged-form judged-merge
+  form-told history line (MergeIs said) =
+      told-either line (not (eqb (said .step) (length history))) (Unfit (StepNotNext line)) _ (omega arith)
+      (told-either line (not (three-open (job .modes) history (said .triple))) (Unfit (ChildNotOpen line)) _ (omega arith)
+      (told-either line (not (paired (job .modes) history (said .triple))) (Unfit (NotLawful line)) _ (omega arith)
+      (told-either line (not (eqb (said .weight) (weight-in job history (said .triple)))) (Unfit (WeightUntrue line)) (Obey said) (omega arith) tt)))
+  form-told history line MergeBroken = omega arith
+
+  as-reached : (history : List Triple) (line : ℕ) (judged : Judged) → Told line judged → line ≡ length history + 1 → length history < job .modes
+      → Reached (job .modes) (suc line) (obeyed-as history judged)
+  unfolding obeyed-as
+  as-reached history line (Obey said) told e h = (omega arith, omega arith)
+  as-reached history line (Unfit refusal) told e h = omega (arith, told)
+
+  next-reached : (line : ℕ) (bytes : List ℕ) (so-far : Obeyed) → Reached (job .modes) line so-far
+      → Reached (job .modes) (suc line) (obeyed-next job line bytes so-far)
+  unfolding obeyed-next obeyed-as judged-line
+  next-reached line bytes (went history) r = go (ltb (length history) (job .modes)) refl
+    where
+      go : (test : Bool) → ltb (length history) (job .modes) ≡ test
+          → Reached (job .modes) (suc line) (obeyed-as history (cond (not test) (Unfit (LineAfterLast line)) (judged-form job history line (merge-of-line bytes))))
+      go true f =
+          as-reached history line (judged-form job history line (merge-of-line bytes)) (form-told history line (merge-of-line bytes)) (r .0)
+          (ltb-true (length history) (job .modes) f)
+      go false f = omega arith
   next-reached line bytes (refused refusal) r = r
 
-  lines-reached : (texts : List (List ℕ)) (line : ℕ) (so-far : Obeyed) → Reached modes line so-far
-      → place-in (obeyed-lines modes terms line so-far texts) ≤ modes + 1
+  lines-reached : (texts : List (List ℕ)) (line : ℕ) (so-far : Obeyed) → Reached (job .modes) line so-far
+      → place-in (obeyed-lines job line so-far texts) ≤ job .modes + 1
   unfolding obeyed-lines place-in
   lines-reached [] line (went history) r = omega arith
   lines-reached [] line (refused refusal) r = r
-  lines-reached (text ∷ rest) line so-far r =
-      lines-reached rest (suc line) (obeyed-next modes terms line text so-far) (next-reached line text so-far r)
+  lines-reached (text ∷ rest) line so-far r = lines-reached rest (suc line) (obeyed-next job line text so-far) (next-reached line text so-far r)
 
-  module _ (count : ℕ) where
-    header-reached : (said : Header) → Reached modes 1 (obeyed-header modes count said)
-    unfolding obeyed-header
-    header-reached (HeaderIs n t) = either 1 (eqb n modes && eqb t count) (went []) (refused OtherHeader) (λ f. (refl, omega arith)) (omega arith)
-    header-reached HeaderBroken = omega arith
+  header-reached : (said : Header) → Reached (job .modes) 1 (obeyed-header job said)
+  unfolding obeyed-header
+  header-reached (HeaderIs n t) = go (eqb n (job .modes) && eqb t (length (job .terms)))
+    where
+      go : (test : Bool) → Reached (job .modes) 1 (cond (not test) (refused OtherHeader) (went []))
+      go true = (refl, omega arith)
+      go false = omega arith
+  header-reached HeaderBroken = omega arith
 
-    texts-reached : (texts : List (List ℕ)) → place-in (obeyed-texts modes count terms texts) ≤ modes + 1
-    unfolding obeyed-texts place-in
-    texts-reached [] = omega arith
-    texts-reached (first ∷ rest) = lines-reached rest 1 (obeyed-header modes count (header-of first)) (header-reached (header-of first))
+  texts-reached : (texts : List (List ℕ)) → place-in (obeyed-texts job texts) ≤ job .modes + 1
+  unfolding obeyed-texts place-in
+  texts-reached [] = omega arith
+  texts-reached (first ∷ rest) = lines-reached rest 1 (obeyed-header job (header-of first)) (header-reached (header-of first))
 
-    journal-reached : (bytes : List ℕ) → place-in (obeyed modes count terms bytes) ≤ modes + 1
-    unfolding obeyed
-    journal-reached bytes = texts-reached (lines bytes)
+  journal-reached : (bytes : List ℕ) → place-in (obeyed job bytes) ≤ job .modes + 1
+  unfolding obeyed
+  journal-reached bytes = texts-reached (lines bytes)
+
+-- A refusal where a test fails, and else what follows.
+pub unless : {A : Type 0} (measure : A → ℕ) (most : ℕ) (test : Bool) (off on : A) → measure off ≤ most → (test ≡ true → measure on ≤ most)
+    → measure (cond (not test) off on) ≤ most
+unless measure most true off on k h = h refl
+unless measure most false off on k h = k
 
 -- The place that a call is refused at; 0 where it is done.
 unfoldable place-of : Outcome → ℕ
@@ -159,37 +180,32 @@ module _ (modes : ℕ) (numbers : List ℕ) where
   bad-row-place =
       let count = length numbers / 8 in
       let good = good-rows (2 * modes) count numbers in
-      whichever bad-place 2048 (eqb (length numbers % 8) 0) _ (BadTerms TermNumbers)
-      (λ f. whichever bad-place 2048 (leb count 2048) _ (BadTerms TooManyTerms)
+      unless bad-place 2048 (eqb (length numbers % 8) 0) (BadTerms TermNumbers) _ (omega arith)
+      (λ f. unless bad-place 2048 (leb count 2048) (BadTerms TooManyTerms) _ (omega arith)
       (λ few. whichever bad-place 2048 (ltb good count) (BadTerms (BadRow good)) (Good count)
       (λ less. omega (arith, ltb-true good count less, leb-true count 2048 few))
-      (omega arith))
-      (omega arith))
-      (omega arith)
+      (omega arith)))
 
-  module _ (bytes : List ℕ) (work rows journal : ℕ) where
-    journal-place : (count : ℕ) (terms : List (List ℕ)) (found : Obeyed) → place-of (with-journal modes count terms bytes found) ≡ place-in found
+  module _ (rooms : Rooms) (small : rooms .modes ≤ 256) (bytes : List ℕ) where
+    journal-place : (job : Job) (found : Obeyed) → place-of (with-journal job bytes found) ≡ place-in found
     unfolding with-journal place-of place-in
-    journal-place count terms (went history) = refl
-    journal-place count terms (refused refusal) = refl
+    journal-place job (went history) = refl
+    journal-place job (refused refusal) = refl
 
-    terms-place : (found : Checked) → modes ≤ 256 → bad-place found ≤ 2048 → place-of (with-terms modes numbers bytes work rows journal found) ≤ 65535
+    terms-place : (found : Checked) → modes ≤ rooms .modes → bad-place found ≤ 2048 → place-of (with-terms rooms modes numbers bytes found) ≤ 65535
     unfolding with-terms place-of bad-place
-    terms-place (Good count) small bad =
-        let terms = terms-of 8 count numbers in
-        let obey = obeyed modes count terms bytes in
-        whichever place-of 65535 (roomy modes count work rows journal) (with-journal modes count terms bytes obey) (refuses Room)
-        (λ f. omega (arith, journal-place count terms obey, journal-reached modes terms count bytes, small))
-        (omega arith)
-    terms-place (BadTerms refusal) small bad = omega (arith, bad)
+    terms-place (Good count) few bad =
+        let job = job-of modes count numbers in
+        unless place-of 65535 (roomy rooms modes count) (refuses Room) (with-journal job bytes (obeyed job bytes)) (omega arith)
+        (λ f. omega (arith, journal-place job (obeyed job bytes), journal-reached job bytes, few, small))
+    terms-place (BadTerms refusal) few bad = omega (arith, bad)
 
-    resumed-place : place-of (resumed 256 modes numbers bytes work rows journal) ≤ 65535
+    resumed-place : place-of (resumed rooms modes numbers bytes) ≤ 65535
     unfolding resumed modes-good place-of
     resumed-place =
-        whichever place-of 65535 (modes-good 256 modes) (with-terms modes numbers bytes work rows journal (checked modes numbers)) (refuses Modes)
-        (λ f. terms-place (checked modes numbers) (leb-true modes 256 (both (leb 1 modes) (leb modes 256) f .1)) bad-row-place)
-        (omega arith)
+        unless place-of 65535 (modes-good (rooms .modes) modes) (refuses Modes) (with-terms rooms modes numbers bytes (checked modes numbers)) (omega arith)
+        (λ f. terms-place (checked modes numbers) (leb-true modes (rooms .modes) (both (leb 1 modes) (leb modes (rooms .modes)) f .1)) bad-row-place)
 
-    pub refused-place : (refusal : Refusal) → resumed 256 modes numbers bytes work rows journal ≡ refuses refusal → placeOf refusal ≤ 65535
+    pub refused-place : (refusal : Refusal) → resumed rooms modes numbers bytes ≡ refuses refusal → placeOf refusal ≤ 65535
     unfolding place-of
     refused-place refusal e = rw e at resumed-place

@@ -12,11 +12,11 @@ use Rattle.refusal.specs.declared.Refusal.{Refusal}
 use Rattle.refusal.specs.declared.Refusal.the-variants.{TermNumbers, TooManyTerms}
 use Rattle.terms.specs.Good.{checked}
 use Rattle.terms.specs.declared.checking.Checked.the-variants.{Refused}
-use Rattle.journal.specs.Resuming.{with-terms, resumed}
+use Rattle.journal.specs.Resuming.{Rooms, with-terms, resumed}
 use Rattle.tree.specs.Check.{tree-checked}
 use Rattle.tree.specs.declared.TreeChecked.{TreeChecked}
 use Rattle.tree.specs.declared.TreeChecked.the-variants.{Accepted, Refused as BadTree}
-use Rattle.topphatt.specs.Answer.{with-tree, with-terms as assign-terms, outcome}
+use Rattle.topphatt.specs.Answer.{asked, Rooms as AssignRooms, with-tree, with-terms as assign-terms, outcome}
 use Rattle.daemon.specs.Bytes.{word-at, words}
 use Rattle.daemon.specs.Calls.{term-numbers}
 use Rattle.daemon.specs.code.Reading.{TermsRead}
@@ -31,16 +31,16 @@ too-many modes l e h = rw (eq-eqb (length l % 8) 0 e, lt-leb (length l / 8) 2048
 
 -- Terms that are refused alike make calls alike.
 refused-alike : (refusal : Refusal) (a b : List ℕ) → ((modes : ℕ) → checked modes a ≡ Refused refusal) → ((modes : ℕ) → checked modes b ≡ Refused refusal)
-    → (most modes : ℕ) (read : List ℕ) (work rows journal : ℕ) → resumed most modes a read work rows journal ≡ resumed most modes b read work rows journal
+    → (rooms : Rooms) (modes : ℕ) (read : List ℕ) → resumed rooms modes a read ≡ resumed rooms modes b read
 unfolding resumed with-terms
-refused-alike refusal a b e f most modes read work rows journal = rw (e modes, f modes)
+refused-alike refusal a b e f rooms modes read = rw (e modes, f modes)
 
 assigned-alike : (refusal : Refusal) (a b : List ℕ) → ((modes : ℕ) → checked modes a ≡ Refused refusal) → ((modes : ℕ) → checked modes b ≡ Refused refusal)
-    → (most modes : ℕ) (table : List ℕ) (heuristic work room : ℕ) → outcome most modes table heuristic a work room ≡ outcome most modes table heuristic b work room
+    → (rooms : AssignRooms) (modes : ℕ) (tree : List ℕ) (heuristic : ℕ) → outcome rooms (asked modes tree heuristic a) ≡ outcome rooms (asked modes tree heuristic b)
 unfolding outcome with-tree assign-terms
-assigned-alike refusal a b e f most modes table heuristic work room = go (tree-checked most modes table)
+assigned-alike refusal a b e f rooms modes tree heuristic = go (tree-checked (rooms .modes) modes tree)
   where
-    go : (t : TreeChecked) → with-tree modes table heuristic a work room t ≡ with-tree modes table heuristic b work room t
+    go : (t : TreeChecked) → with-tree rooms (asked modes tree heuristic a) t ≡ with-tree rooms (asked modes tree heuristic b) t
     go Accepted = rw (e modes, f modes)
     go (BadTree other) = refl
 
@@ -93,6 +93,6 @@ module _ (bytes numbers : List ℕ) where
         let read : take count (part ++ rest) ≡ term-numbers bytes = take-at part rest count l ∙ whole ∙ sym all-words in
         record {
           fits = omega (arith, l, length-append part rest);
-          same = λ most modes journal-read work rows journal. ap (λ n. resumed most modes n journal-read work rows journal) read;
-          assigned-same = λ most modes table heuristic work room. ap (λ n. outcome most modes table heuristic n work room) read;
+          same = λ rooms modes journal. ap (λ n. resumed rooms modes n journal) read;
+          assigned-same = λ rooms modes tree heuristic. ap (λ n. outcome rooms (asked modes tree heuristic n)) read;
         }

@@ -12,7 +12,7 @@ use Rattle.refusal.specs.declared.Refusal.the-variants.{Modes}
 use Rattle.terms.specs.Good.{modes-good}
 use Rattle.tree.specs.Check.{tree-checked}
 use Rattle.tree.specs.declared.TreeChecked.the-variants.{Refused as BadTree}
-use Rattle.topphatt.specs.Answer.{with-tree, outcome}
+use Rattle.topphatt.specs.Answer.{asked, with-tree, outcome}
 use Rattle.daemon.specs.Bytes.{word-at, words}
 use Rattle.daemon.specs.Calls.{tree-numbers}
 use Rattle.daemon.specs.code.Reading.{TreeRead}
@@ -27,13 +27,13 @@ module _ (most modes : ℕ) (bytes numbers : List ℕ) where
   tree-beyond h =
       record {
         fits = omega arith;
-        same = λ heuristic terms work room.
-            rw (too-many-modes most modes (take 0 numbers) (omega arith) h, too-many-modes most modes (tree-numbers modes bytes) (omega arith) h);
+        same = λ rooms e heuristic terms.
+            rw (e, too-many-modes most modes (take 0 numbers) (omega arith) h, too-many-modes most modes (tree-numbers modes bytes) (omega arith) h);
       }
 
   pub tree-none : (length bytes ≡ 6 * modes → ⊥) → TreeRead most modes bytes numbers 0
   unfolding tree-numbers
-  tree-none h = record { fits = omega arith; same = λ heuristic terms work room. rw (ne-eqb (length bytes) (6 * modes) h) }
+  tree-none h = record { fits = omega arith; same = λ rooms e heuristic terms. rw (ne-eqb (length bytes) (6 * modes) h) }
 
   pub tree-all : length bytes ≡ 6 * modes → 3 * modes ≤ length numbers → (part rest : List ℕ)
       → part ≡ listed (word-at bytes) 0 (length (take (3 * modes) numbers)) → TreeRead most modes bytes (part ++ rest) (3 * modes)
@@ -47,5 +47,5 @@ module _ (most modes : ℕ) (bytes numbers : List ℕ) where
       take-at part rest (3 * modes) l ∙ rw (eq-eqb (length bytes) (6 * modes) long) whole in
       record {
         fits = omega (arith, l, length-append part rest);
-        same = λ heuristic terms work room. ap (λ table. outcome most modes table heuristic terms work room) read;
+        same = λ rooms e heuristic terms. ap (λ tree. outcome rooms (asked modes tree heuristic terms)) read;
       }

@@ -6,9 +6,9 @@ use lib.ListN.{length}
 use Rattle.lists.specs.Written.{written-at}
 use Rattle.refusal.specs.Numbers.{numberOf, placeOf}
 use Rattle.journal.specs.Resuming.{Ending, Outcome, done, refuses}
-use Rattle.journal.specs.Promises.{journal-then}
 use Rattle.topphatt.specs.Answer.{Outcome as Assignment, done as assigned, refused as unassigned}
 use Rattle.daemon.specs.Bytes.{two-bytes, eight-bytes}
+use Rattle.daemon.specs.Calls.{Lent, LentTable}
 
 -- "The result is the refusal number times 65536 plus the place, 0 on success".
 unfoldable pub result-of : Outcome → ℕ
@@ -20,37 +20,34 @@ unfoldable pub answer-bytes : Ending → List ℕ
 answer-bytes ending =
     eight-bytes (ending .weight) ++ (eight-bytes (ending .trials) ++ (eight-bytes (ending .kept) ++ eight-bytes (length (ending .new))))
 
--- A refused call writes nothing.
-unfoldable pub rows-bytes-then : Outcome → List ℕ → List ℕ
-rows-bytes-then (done ending) rows = written-at 0 (two-bytes (ending .rows)) rows
-rows-bytes-then (refuses refusal) rows = rows
+-- The rows, the new lines and the answer, each over a front; a refused call writes nothing.
+unfoldable pub lent-then : Outcome → Lent → Lent
+lent-then (done ending) given = record {
+  rows = written-at 0 (two-bytes (ending .rows)) (given .rows);
+  journal = written-at 0 (ending .new) (given .journal);
+  answer = written-at 0 (answer-bytes ending) (given .answer);
+}
+lent-then (refuses refusal) given = given
 
-unfoldable pub answer-then : Outcome → List ℕ → List ℕ
-answer-then (done ending) answer = written-at 0 (answer-bytes ending) answer
-answer-then (refuses refusal) answer = answer
-
--- The result, and every byte of rows, journal and answer after the call.
-pub record Called (meant : Outcome) (rows journal answer now-rows now-journal now-answer : List ℕ) (r : ℕ) : Type 0 where
-  pub result : r ≡ result-of meant
-  pub rows-are : now-rows ≡ rows-bytes-then meant rows
-  pub journal-is : now-journal ≡ journal-then meant journal
-  pub answer-is : now-answer ≡ answer-then meant answer
+-- The result of the meaning, and every byte of what was lent after the call.
+pub record Called (meant : Lent → Outcome) (before after : Lent) (r : ℕ) : Type 0 where
+  pub result : r ≡ result-of (meant before)
+  pub leaves : after ≡ lent-then (meant before) before
 
 -- The same of an assignment, whose answer is its weight alone.
 unfoldable pub assign-result-of : Assignment → ℕ
 assign-result-of (assigned count weight codes) = 0
 assign-result-of (unassigned refusal) = numberOf refusal * 65536 + placeOf refusal
 
-unfoldable pub table-bytes-then : Assignment → List ℕ → List ℕ
-table-bytes-then (assigned count weight codes) table = written-at 0 (two-bytes codes) table
-table-bytes-then (unassigned refusal) table = table
+-- The table and the weight, each over a front; a refused call writes nothing.
+unfoldable pub table-then : Assignment → LentTable → LentTable
+table-then (assigned count weight codes) given = record {
+  table = written-at 0 (two-bytes codes) (given .table);
+  answer = written-at 0 (eight-bytes weight) (given .answer);
+}
+table-then (unassigned refusal) given = given
 
-unfoldable pub weight-then : Assignment → List ℕ → List ℕ
-weight-then (assigned count weight codes) answer = written-at 0 (eight-bytes weight) answer
-weight-then (unassigned refusal) answer = answer
-
--- The result, and every byte of table and answer after the call.
-pub record AssignCalled (meant : Assignment) (table answer now-table now-answer : List ℕ) (r : ℕ) : Type 0 where
-  pub result : r ≡ assign-result-of meant
-  pub table-is : now-table ≡ table-bytes-then meant table
-  pub answer-is : now-answer ≡ weight-then meant answer
+-- The result of the meaning, and every byte of what was lent after the call.
+pub record AssignCalled (meant : LentTable → Assignment) (before after : LentTable) (r : ℕ) : Type 0 where
+  pub result : r ≡ assign-result-of (meant before)
+  pub leaves : after ≡ table-then (meant before) before

@@ -3,9 +3,10 @@ ghost use mathlib.Core.Path.{_≡_};
 ghost use Prim.Native.Nat.{_*_, _≤_};
 ghost use lib.ListN.{length, take};
 ghost use Rattle.lists.specs.Written.{«written-at»};
-ghost use Rattle.topphatt.specs.Answer.{outcome};
+ghost use Rattle.topphatt.specs.Answer.{asked, outcome};
+ghost use Rattle.topphatt.specs.Promises.{lent as «in-numbers», «rooms-of»};
 ghost use Rattle.daemon.specs.Bytes.{«two-bytes», «eight-bytes»};
-ghost use Rattle.daemon.specs.Calls.{«assign-called»};
+ghost use Rattle.daemon.specs.Calls.{«assign-own», «lent-table», «assign-called»};
 ghost use Rattle.daemon.specs.code.Reading.{TreeRead};
 ghost use Rattle.daemon.specs.Promises.{AssignCalled};
 use crate::answering;
@@ -52,7 +53,8 @@ fn assign_numbers(
     answer: &mut [u8],
 ) -> u64
     requires { ⌜ (2 * length (now own) ≤ length (now table)) × (1 ≤ length (now own) → 8 ≤ length (now answer)) ⌝ }
-    ensures { λ r. ⌜ AssignCalled (outcome 256 modes (now (tree .entry)) heuristic (now (terms .entry)) (length (now (work .entry))) (length (now (own .entry)))) (now (table .entry)) (now (answer .entry)) (now (table .exit)) (now (answer .exit)) r ⌝ }
+    ensures { λ r. ⌜ AssignCalled (λ given. outcome (rooms-of 256 (in-numbers (now (work .entry)) (now (own .entry)))) (asked modes (now (tree .entry)) heuristic (now (terms .entry))))
+        (lent-table (now (table .entry)) (now (answer .entry))) (lent-table (now (table .exit)) (now (answer .exit))) r ⌝ }
 {
     match topphatt::assign(modes, tree, heuristic, terms, work, own) {
         Assigned::Unassigned(why) => answering::refusal_result(why),
@@ -77,7 +79,8 @@ fn assign_lent(
     answer: &mut [u8],
 ) -> u64
     requires { ⌜ (length (now codes) ≡ 768) × (length (now numbers) ≡ 16392) ⌝ }
-    ensures { λ r. ⌜ AssignCalled (assign-called 256 (length (now (work .entry))) (length (now (own .entry))) modes (now (tree .entry)) heuristic (now (terms .entry)) (length (now (table .entry))) (length (now (answer .entry)))) (now (table .entry)) (now (answer .entry)) (now (table .exit)) (now (answer .exit)) r ⌝ }
+    ensures { λ r. ⌜ AssignCalled (assign-called (rooms-of 256 (in-numbers (now (work .entry)) (now (own .entry)))) modes (now (tree .entry)) heuristic (now (terms .entry)))
+        (lent-table (now (table .entry)) (now (answer .entry))) (lent-table (now (table .exit)) (now (answer .exit))) r ⌝ }
 {
     let nodes = read_tree(modes, tree, codes);
     let count = term_bytes::read_terms(terms, numbers);
@@ -103,7 +106,8 @@ pub fn assign_bytes(
     table: &mut [u8],
     answer: &mut [u8],
 ) -> u64
-    ensures { λ r. ⌜ AssignCalled (assign-called 256 16384 768 modes (now (tree .entry)) heuristic (now (terms .entry)) (length (now (table .entry))) (length (now (answer .entry)))) (now (table .entry)) (now (answer .entry)) (now (table .exit)) (now (answer .exit)) r ⌝ }
+    ensures { λ r. ⌜ AssignCalled (assign-called assign-own modes (now (tree .entry)) heuristic (now (terms .entry)))
+        (lent-table (now (table .entry)) (now (answer .entry))) (lent-table (now (table .exit)) (now (answer .exit))) r ⌝ }
 {
     let mut codes = [0u16; 768];
     let mut numbers = [0u16; 16392];

@@ -3,7 +3,8 @@ ghost use mathlib.Core.Path.{_≡_};
 ghost use Prim.Native.Nat.{_*_, _≤_};
 ghost use lib.ListN.{length};
 ghost use Rattle.journal.specs.Resuming.{resumed};
-ghost use Rattle.daemon.specs.Calls.{«room-of», «resume-called»};
+ghost use Rattle.journal.specs.Promises.{lent as «run-lent», «rooms-of»};
+ghost use Rattle.daemon.specs.Calls.{«room-of», «own-of», «call-own», lent, «resume-called»};
 ghost use Rattle.daemon.specs.Promises.{Called};
 use crate::answering;
 use crate::term_bytes;
@@ -22,7 +23,8 @@ fn resume_numbers(
     answer: &mut [u8],
 ) -> u64
     requires { ⌜ (2 * length (now own) ≤ length (now rows)) × (1 ≤ length (now own) → 32 ≤ length (now answer)) ⌝ }
-    ensures { λ r. ⌜ Called (resumed 256 modes (now (terms .entry)) (now (read .entry)) (length (now (work .entry))) (length (now (own .entry))) (length (now (journal .entry)))) (now (rows .entry)) (now (journal .entry)) (now (answer .entry)) (now (rows .exit)) (now (journal .exit)) (now (answer .exit)) r ⌝ }
+    ensures { λ r. ⌜ Called (λ given. resumed (rooms-of 256 (run-lent (now (work .entry)) (now (own .entry)) (given .journal))) modes (now (terms .entry)) (now (read .entry)))
+        (lent (now (rows .entry)) (now (journal .entry)) (now (answer .entry))) (lent (now (rows .exit)) (now (journal .exit)) (now (answer .exit))) r ⌝ }
 {
     match resuming::resume(modes, terms, read, work, own, journal) {
         Answer::Refused(why) => answering::refusal_result(why),
@@ -60,7 +62,8 @@ fn resume_lent(
     answer: &mut [u8],
 ) -> u64
     requires { ⌜ length (now numbers) ≡ 16392 ⌝ }
-    ensures { λ r. ⌜ Called (resume-called 256 (length (now (work .entry))) (length (now (own .entry))) modes (now (terms .entry)) (now (read .entry)) (length (now (rows .entry))) (length (now (journal .entry))) (length (now (answer .entry)))) (now (rows .entry)) (now (journal .entry)) (now (answer .entry)) (now (rows .exit)) (now (journal .exit)) (now (answer .exit)) r ⌝ }
+    ensures { λ r. ⌜ Called (resume-called (own-of 256 (now (work .entry)) (now (own .entry))) modes (now (terms .entry)) (now (read .entry)))
+        (lent (now (rows .entry)) (now (journal .entry)) (now (answer .entry))) (lent (now (rows .exit)) (now (journal .exit)) (now (answer .exit))) r ⌝ }
 {
     let count = term_bytes::read_terms(terms, numbers);
     let room = room_for(4, own.len(), rows.len(), answer.len());
@@ -85,7 +88,8 @@ pub fn resume_bytes(
     journal: &mut [u8],
     answer: &mut [u8],
 ) -> u64
-    ensures { λ r. ⌜ Called (resume-called 256 16384 1024 modes (now (terms .entry)) (now (read .entry)) (length (now (rows .entry))) (length (now (journal .entry))) (length (now (answer .entry)))) (now (rows .entry)) (now (journal .entry)) (now (answer .entry)) (now (rows .exit)) (now (journal .exit)) (now (answer .exit)) r ⌝ }
+    ensures { λ r. ⌜ Called (resume-called call-own modes (now (terms .entry)) (now (read .entry)))
+        (lent (now (rows .entry)) (now (journal .entry)) (now (answer .entry))) (lent (now (rows .exit)) (now (journal .exit)) (now (answer .exit))) r ⌝ }
 {
     let mut numbers = [0u16; 16392];
     let mut work = [0u16; 16384];

@@ -4,9 +4,11 @@ use mathlib.Core.Bool.{true}
 use mathlib.Core.List.{flatMap}
 use Rattle.lists.specs.Members.{every, keep, leading, some-of, alike, firsts, firsts-after}
 use Rattle.lists.specs.Counting.{sum, same, occurrences}
+use Rattle.lists.specs.Renewed.{renewed-after, renewed}
 use Rattle.lists.specs.Ranges.{listed, ascends, ascends-from}
 use Rattle.lists.specs.Least.{least, lighter, least-of}
 use Rattle.lists.specs.Written.{written-at}
+use Rattle.refusal.specs.Numbers.{refused-numbers, done-numbers}
 use Rattle.entities.specs.Codes.{code}
 use Rattle.fields.specs.Decimal.{is-digit, value-after, value, leads-well, is-number, digits, decimal}
 use Rattle.fields.specs.Fields.{fields-after, fields, tabbed}
@@ -14,18 +16,28 @@ use Rattle.fields.specs.Lines.{lines-after, lines, kept-of}
 use Rattle.terms.specs.Rows.{rows-of, term, terms-of}
 use Rattle.terms.specs.Good.{modes-good, good-indices, good-row, good-rows, checked}
 use Rattle.terms.specs.Weight.{weight-of, term-weight, odd-ones}
-use Rattle.terms.specs.Reduction.{reduction, rewriting, sorted, put-in, replacement, dropped}
-use Rattle.merging.specs.History.{next-parent, among, is-open, z-end, holder, rows-after}
+use Rattle.terms.specs.Reduction.{reduction, rewriting, sorted, put-in, replacement, dropped, stays, settled, reduced-row}
+use Rattle.merging.specs.History.{merge-of, next-parent, among, is-open, z-end, holder, rows-after}
 use Rattle.merging.specs.Lawful.{is-lawful, three-open, paired, named, entities, pairs-with, lawful-pairs}
 use Rattle.merging.specs.Choice.{weight-in, candidates, chosen}
 use Rattle.merging.specs.Run.{greedy, finished, run-weight, trials}
-use Rattle.merging.specs.Flatpack.{merge-of, absent-leaf, children, walk, rows-for, flatpack}
+use Rattle.merging.specs.Flatpack.{absent-leaf, children, walk, rows-for, flatpack}
 use Rattle.merging.specs.Trials.{trial-total}
 use Rattle.journal.specs.LineForms.{word, version, header-good, header-of, merge-good, merge-of-line, header-text, merge-text}
-use Rattle.journal.specs.Obeying.{obeyed-merge, obeyed-form, obeyed-line, obeyed-next, obeyed-lines, obeyed-header, obeyed-texts, obeyed}
-use Rattle.journal.specs.Writing.{line-of, greedy-lines, new-text}
+use Rattle.journal.specs.Obeying.{
+  judged-merge,
+  judged-form,
+  judged-line,
+  obeyed-as,
+  obeyed-next,
+  obeyed-lines,
+  obeyed-header,
+  obeyed-texts,
+  obeyed,
+}
+use Rattle.journal.specs.Writing.{line-of, greedy-lines, header-behind, new-text}
 use Rattle.journal.specs.Resuming.{ending, with-journal, roomy, with-terms, resumed, hatt-run}
-use Rattle.journal.specs.Promises.{returned, rows-then, journal-then}
+use Rattle.journal.specs.Promises.{numbers-of, returned, lent-then}
 use Rattle.tree.specs.Table.{nodes, child, place-of, parent-of, climb}
 use Rattle.tree.specs.OneTree.{root-of, leaves-once, absent-once, nodes-once, all-reached, one-tree}
 use Rattle.tree.specs.Pairs.{chain-end, pair-under, pair-right, pairs-right}
@@ -37,8 +49,8 @@ use Rattle.slots.specs.Nodes.{distance, is-fixed, complete, remaining, largest,
 use Rattle.choice.specs.Choices.{unassigned, without, numbers, with-z, choices, choices-at}
 use Rattle.choice.specs.Choice.{candidates as topphatt-candidates, packed, rank, chosen as topphatt-chosen}
 use Rattle.topphatt.specs.Rounds.{before, fixed, fixed-by, after, next, rounds, ended}
-use Rattle.topphatt.specs.Answer.{answer-table, with-room, with-terms as topphatt-with-terms, with-tree, outcome}
-use Rattle.topphatt.specs.Promises.{returned as topphatt-returned, table-after}
+use Rattle.topphatt.specs.Answer.{answer-table, done-by, with-room, with-terms as topphatt-with-terms, with-tree, outcome}
+use Rattle.topphatt.specs.Promises.{numbers-of as topphatt-numbers, returned as topphatt-returned, lent-then as topphatt-left}
 use Rattle.newick.specs.Grammar.{spelled}
 use Rattle.newick.specs.Writing.{end-shape, shape-under, newick-text}
 use Rattle.newick.specs.Calls.{written-as, newick-written}
@@ -58,8 +70,8 @@ use Rattle.text.specs.Output.{
 }
 use Rattle.text.specs.NewickLine.{line-as, table-line, newick-printed, newick-answer-text}
 use Rattle.daemon.specs.Bytes.{word-at, words, two-bytes, eight-bytes}
-use Rattle.daemon.specs.Calls.{term-numbers, room-of, resume-called, hatt-called}
-use Rattle.daemon.specs.Promises.{result-of, answer-bytes, rows-bytes-then, answer-then}
+use Rattle.daemon.specs.Calls.{term-numbers, room-of, rooms-in, resume-called, hatt-called}
+use Rattle.daemon.specs.Promises.{result-of, answer-bytes, lent-then as bytes-left}
 use Rattle.p_cases.specs.Cases.{
   holds,
   header,
@@ -76,5 +88,5 @@ use Rattle.p_cases.specs.Cases.{
 }
 
 pub cases-hold : every holds cases ≡ true
-unfolding cases holds header line meant resuming weighed told weighing assigning flatMap every keep leading some-of alike firsts firsts-after sum same occurrences listed ascends ascends-from least lighter written-at rows-of term terms-of modes-good good-indices good-row good-rows checked weight-of term-weight odd-ones reduction rewriting sorted put-in replacement dropped next-parent among is-open z-end holder rows-after is-lawful three-open paired named entities pairs-with lawful-pairs weight-in candidates least-of chosen greedy finished run-weight trials merge-of code absent-leaf children walk rows-for flatpack is-digit value-after value leads-well is-number digits decimal fields-after fields word version header-good header-of merge-good merge-of-line tabbed header-text merge-text lines-after lines kept-of obeyed-merge obeyed-form obeyed-line obeyed-next obeyed-lines obeyed-header obeyed-texts obeyed line-of greedy-lines new-text ending with-journal roomy with-terms resumed returned rows-then journal-then nodes child place-of parent-of climb root-of leaves-once absent-once nodes-once all-reached one-tree chain-end pair-under pair-right pairs-right codes-good tree-checked edge-under edges node-weight row-weight tree-weight weighed-terms tree-weighed pair-of parity-of leaf-slot slot-of slot slots unfixed leaf-of distance is-fixed complete remaining largest farthest narrowed active unassigned without numbers with-z choices choices-at topphatt-candidates packed rank topphatt-chosen before fixed fixed-by after next rounds ended answer-table with-room topphatt-with-terms with-tree outcome topphatt-returned table-after trial-total hatt-run row-over laid-over laid modes-in spelled end-shape shape-under newick-text written-as newick-written modes-word term-word modes-line term-line well-formed formed-from formed term-row whole said run-ended ran-by ran text-line weight-word trials-word node-word code-text node-line node-lines done-text run-printed answer-text line-as table-line newick-printed newick-answer-text word-at words two-bytes eight-bytes term-numbers room-of resume-called hatt-called result-of answer-bytes rows-bytes-then answer-then printed calling
+unfolding cases holds header line meant resuming weighed told weighing assigning flatMap every keep leading some-of alike firsts firsts-after sum same occurrences listed ascends ascends-from least lighter written-at rows-of term terms-of modes-good good-indices good-row good-rows checked weight-of term-weight odd-ones reduction rewriting sorted put-in replacement dropped next-parent among is-open z-end holder rows-after is-lawful three-open paired named entities pairs-with lawful-pairs weight-in candidates least-of chosen greedy finished run-weight trials merge-of code absent-leaf children walk rows-for flatpack is-digit value-after value leads-well is-number digits decimal fields-after fields word version header-good header-of merge-good merge-of-line tabbed header-text merge-text lines-after lines kept-of obeyed-next obeyed-lines obeyed-header obeyed-texts obeyed line-of greedy-lines new-text ending with-journal roomy with-terms resumed returned nodes child place-of parent-of climb root-of leaves-once absent-once nodes-once all-reached one-tree chain-end pair-under pair-right pairs-right codes-good tree-checked edge-under edges node-weight row-weight tree-weight weighed-terms tree-weighed pair-of parity-of leaf-slot slot-of slot slots unfixed leaf-of distance is-fixed complete remaining largest farthest narrowed active unassigned without numbers with-z choices choices-at topphatt-candidates packed rank topphatt-chosen before fixed fixed-by after next rounds ended answer-table with-room topphatt-with-terms with-tree outcome topphatt-returned trial-total hatt-run row-over laid-over laid modes-in spelled end-shape shape-under newick-text written-as newick-written modes-word term-word modes-line term-line well-formed formed-from formed term-row whole said run-ended ran-by ran text-line weight-word trials-word node-word code-text node-line node-lines done-text run-printed answer-text line-as table-line newick-printed newick-answer-text word-at words two-bytes eight-bytes term-numbers room-of resume-called hatt-called result-of answer-bytes printed calling judged-merge judged-form judged-line obeyed-as header-behind numbers-of lent-then renewed-after renewed stays settled reduced-row refused-numbers done-numbers done-by topphatt-numbers topphatt-left rooms-in bytes-left
 cases-hold = refl

@@ -12,10 +12,11 @@ use Rattle.lists.proofs.Alike.{alike-same}
 use Rattle.lists.proofs.Every.{every-at}
 use Rattle.lists.proofs.Tests.{both}
 use Rattle.refusal.specs.declared.Refusal.{Refusal}
+use Rattle.refusal.specs.Numbers.{refused-numbers}
 use Rattle.journal.specs.declared.resuming.Answer.{Answer}
 use Rattle.journal.specs.declared.resuming.Answer.the-variants.{Refused}
 use Rattle.journal.specs.Resuming.{Outcome, done, refuses}
-use Rattle.journal.specs.Promises.{Answers, numbers-of, rows-then}
+use Rattle.journal.specs.Promises.{Lent, lent, lent-then, Answers, numbers-of}
 use Rattle.p_cases.specs.Cases.{Case, holds, resuming, told, cases, p1, p3, p5}
 use Rattle.p_cases.proofs.CasesHold.{cases-hold}
 
@@ -42,43 +43,44 @@ shown place there =
     }
 
 -- A call's rows begin with those that it wrote, whatever stood there.
-front : (outcome : Outcome) (rows : List ℕ) (i : ℕ) → i < length (rows-then outcome []) → getD (rows-then outcome rows) i 0 ≡ getD (rows-then outcome []) i 0
-unfolding rows-then written-at
-front (done ending) rows i h =
+front : (outcome : Outcome) (given : Lent) (i : ℕ) → i < length (lent-then outcome (lent [] [] []) .rows)
+    → getD (lent-then outcome given .rows) i 0 ≡ getD (lent-then outcome (lent [] [] []) .rows) i 0
+unfolding lent-then written-at
+front (done ending) given i h =
     let part = ending .rows in
     let all : part ++ drop (0 + length part) [] ≡ part = rw (drop-nil (0 + length part)) (append-nil part) in
-    rw all (List·getD-append part (drop (0 + length part) rows) 0 i (rw all at h))
-front (refuses refusal) rows i h = absurd (omega arith)
+    rw all (List·getD-append part (drop (0 + length part) (given .rows)) 0 i (rw all at h))
+front (refuses refusal) given i h = absurd (omega arith)
 
 -- The second number of the first row, after a call whose rows were seen.
-second : (outcome : Outcome) (rows now-rows seen : List ℕ) → now-rows ≡ rows-then outcome rows → rows-then outcome [] ≡ seen → 1 < length seen
-    → getD now-rows 1 0 ≡ getD seen 1 0
-second outcome rows now-rows seen e f h = ap (λ l. getD l 1 0) e ∙ front outcome rows 1 (rw f h) ∙ ap (λ l. getD l 1 0) f
+second : (outcome : Outcome) (before after : Lent) (seen : List ℕ) → after ≡ lent-then outcome before
+    → lent-then outcome (lent [] [] []) .rows ≡ seen → 1 < length seen → getD (after .rows) 1 0 ≡ getD seen 1 0
+second outcome before after seen e f h =
+    ap (λ l. getD (l .rows) 1 0) e ∙ front outcome before 1 (rw f h) ∙ ap (λ l. getD l 1 0) f
 
-module _ (work rows journal now-work now-rows now-journal : List ℕ) (r : Answer) where
+module _ (before after : Lent) (r : Answer) where
   -- "A call that refuses always fails demand 2 on P1".
-  pub refuses-always : (why : Refusal) → Answers p1 work rows journal now-work now-rows now-journal (Refused why) → ⊥
-  unfolding cases resuming
+  pub refuses-always : (why : Refusal) → Answers (λ given. p1) before after (Refused why) → ⊥
+  unfolding numbers-of refused-numbers cases resuming
   refuses-always why a =
       let e = ap (λ l. getD l 2 0) (ap numbers-of (a .answer) ∙ shown 0 (omega arith) .numbers) in
       omega (arith, e)
 
   -- "a call that writes nothing fails on P1's rows".
-  pub writes-nothing : rows ≡ 0 ∷ (0 ∷ (0 ∷ (0 ∷ []))) → now-rows ≡ rows → Answers p1 work rows journal now-work now-rows now-journal r → ⊥
+  pub writes-nothing : before .rows ≡ 0 ∷ (0 ∷ (0 ∷ (0 ∷ []))) → after .rows ≡ before .rows → Answers (λ given. p1) before after r → ⊥
   unfolding cases resuming
-  writes-nothing lent left a =
-      let e = second p1 rows now-rows _ (a .rows-is) (shown 0 (omega arith) .rows) (omega arith) in
-      omega (arith, e, ap (λ l. getD l 1 0) (left ∙ lent))
+  writes-nothing zeros left a =
+      let e = second p1 before after _ (a .leaves) (shown 0 (omega arith) .rows) (omega arith) in
+      omega (arith, e, ap (λ l. getD l 1 0) (left ∙ zeros))
 
-  module _ (other-work other-rows other-journal then-work then-rows then-journal : List ℕ) (other : Answer)
-      (third : Answers p3 work rows journal now-work now-rows now-journal r)
-      (fifth : Answers p5 other-work other-rows other-journal then-work then-rows then-journal other) where
+  module _ (other-before other-after : Lent) (other : Answer) (third : Answers (λ given. p3) before after r)
+      (fifth : Answers (λ given. p5) other-before other-after other) where
     -- "one fixed tree fails on P3 beside P5's rows".
-    pub one-fixed-tree : now-rows ≡ then-rows → ⊥
+    pub one-fixed-tree : after .rows ≡ other-after .rows → ⊥
     unfolding cases resuming
     one-fixed-tree same =
-        let e = second p3 rows now-rows _ (third .rows-is) (shown 2 (omega arith) .rows) (omega arith) in
-        let f = second p5 other-rows then-rows _ (fifth .rows-is) (shown 6 (omega arith) .rows) (omega arith) in
+        let e = second p3 before after _ (third .leaves) (shown 2 (omega arith) .rows) (omega arith) in
+        let f = second p5 other-before other-after _ (fifth .leaves) (shown 6 (omega arith) .rows) (omega arith) in
         omega (arith, e, f, ap (λ l. getD l 1 0) same)
 
     -- "A resume that forgets the journal fails demand 3 on P5's trials".

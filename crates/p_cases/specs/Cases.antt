@@ -2,25 +2,25 @@
 use mathlib.Core.Bool.{Bool, _&&_}
 use mathlib.Core.List.{List, [], _∷_, _++_}
 use Prim.Native.Nat.{ℕ, _+_, _*_}
-use lib.ListN.{length}
+use lib.ListN.{length, replicate}
 use Rattle.lists.specs.Members.{alike}
-use Rattle.refusal.specs.Numbers.{numberOf, placeOf}
+use Rattle.refusal.specs.Numbers.{refused-numbers, done-numbers}
 use Rattle.entities.specs.Codes.{absent}
 use Rattle.merging.specs.Trials.{trial-total}
 use Rattle.journal.specs.Resuming.{Outcome, resumed}
-use Rattle.journal.specs.Promises.{numbers-of, returned, rows-then, journal-then}
+use Rattle.journal.specs.Promises.{numbers-of, returned, lent, lent-then}
 use Rattle.tree.specs.Check.{tree-checked}
 use Rattle.tree.specs.Weight.{tree-weighed}
 use Rattle.tree.specs.declared.TreeWeighed.{TreeWeighed}
 use Rattle.tree.specs.declared.TreeWeighed.the-variants.{Weight, Unweighed}
-use Rattle.topphatt.specs.Answer.{outcome}
-use Rattle.topphatt.specs.Promises.{numbers-of as assign-numbers, returned as assigned, table-after}
+use Rattle.topphatt.specs.Answer.{asked, outcome}
+use Rattle.topphatt.specs.Promises.{numbers-of as assign-numbers, returned as assigned, lent as assign-lent, lent-then as assign-left}
 use Rattle.newick.specs.Writing.{newick-text}
 use Rattle.text.specs.Running.{program-rooms}
 use Rattle.text.specs.Output.{answer-text}
 use Rattle.text.specs.NewickLine.{newick-answer-text}
-use Rattle.daemon.specs.Calls.{hatt-called}
-use Rattle.daemon.specs.Promises.{result-of, rows-bytes-then, answer-then}
+use Rattle.daemon.specs.Calls.{call-own, lent as bytes-lent, hatt-called}
+use Rattle.daemon.specs.Promises.{result-of, lent-then as bytes-left}
 use Rattle.p_cases.specs.Texts.{input3, output3, newick3}
 
 -- What a caller sees of a call: the numbers that it returns, refusal and place before the others; the rows or the table that it
@@ -68,16 +68,19 @@ line step x y z weight = (48 + step) ∷ 9 ∷ (48 + x) ∷ 9 ∷ (48 + y) ∷ 9
 
 -- What resuming means; the rooms for work and rows are as 01 asks for.
 unfoldable pub meant : ℕ → List ℕ → List ℕ → ℕ → Outcome
-meant modes terms journal room = resumed 256 modes terms journal (length terms) (4 * modes) room
+meant modes terms journal room =
+    resumed (record { modes = 256; work = length terms; rows = 4 * modes; journal = room }) modes terms journal
 
 -- What resuming shows: refusal, place, weight, trials, kept and new bytes.
 unfoldable pub resuming : Outcome → Seen
-resuming outcome = record { numbers = numbers-of (returned outcome); rows = rows-then outcome []; lines = journal-then outcome [] }
+resuming outcome =
+    let left = lent-then outcome (lent [] [] []) in
+    record { numbers = numbers-of (returned outcome); rows = left .rows; lines = left .journal }
 
 -- What the tree weight shows: refusal, place, weight.
 unfoldable pub weighed : TreeWeighed → List ℕ
-weighed (Weight weight) = 0 ∷ 0 ∷ weight ∷ []
-weighed (Unweighed refusal) = numberOf refusal ∷ placeOf refusal ∷ 0 ∷ []
+weighed (Weight weight) = done-numbers (weight ∷ [])
+weighed (Unweighed refusal) = refused-numbers 1 refusal
 
 -- Nothing but numbers.
 unfoldable pub told : List ℕ → Seen
@@ -89,8 +92,8 @@ weighing modes tree terms = told (weighed (tree-weighed 256 modes tree terms (tr
 -- What assigning shows under `min_weight`: refusal, place, weight.
 unfoldable pub assigning : ℕ → List ℕ → List ℕ → Seen
 assigning modes tree terms =
-    let came = outcome 256 modes tree 0 terms (length terms) (length tree) in
-    record { numbers = assign-numbers (assigned came); rows = table-after came []; lines = [] }
+    let came = outcome (record { modes = 256; work = length terms; table = length tree }) (asked modes tree 0 terms) in
+    record { numbers = assign-numbers (assigned came); rows = assign-left came (assign-lent [] []) .table; lines = [] }
 
 -- Nothing but lines.
 unfoldable pub printed : List ℕ → Seen
@@ -99,7 +102,8 @@ printed lines = record { numbers = []; rows = []; lines = lines }
 -- What a call from C shows: its result and the bytes of its answer, the bytes of its rows, the lines.
 unfoldable pub calling : Outcome → Seen
 calling outcome =
-    record { numbers = result-of outcome ∷ answer-then outcome []; rows = rows-bytes-then outcome []; lines = journal-then outcome [] }
+    let left = bytes-left outcome (bytes-lent [] [] []) in
+    record { numbers = result-of outcome ∷ left .answer; rows = left .rows; lines = left .journal }
 
 -- A number below 256 in eight bytes.
 abbrev pub eight : ℕ → List ℕ
@@ -175,7 +179,10 @@ cases =
     ∷ record { says = printed (newick-text 2 tree3); shown = printed newick3 }
     -- P1 called from C, with the call's own work and rows for 2048 terms and 256 modes: 0, then weight 1, trials 2, nothing kept, 21 bytes new
     ∷ record {
-      says = calling (hatt-called 256 16384 1024 1 (2 ∷ 0 ∷ 0 ∷ 0 ∷ 1 ∷ 0 ∷ 0 ∷ 0 ∷ 0 ∷ 0 ∷ 0 ∷ 0 ∷ 0 ∷ 0 ∷ 0 ∷ 0 ∷ []) 8 37 32);
+      says =
+          calling
+          (hatt-called call-own 1 (2 ∷ 0 ∷ 0 ∷ 0 ∷ 1 ∷ 0 ∷ 0 ∷ 0 ∷ 0 ∷ 0 ∷ 0 ∷ 0 ∷ 0 ∷ 0 ∷ 0 ∷ 0 ∷ [])
+          (bytes-lent (replicate 8 0) (replicate 37 0) (replicate 32 0)));
       shown =
           record {
             numbers = 0 ∷ (eight 1 ++ (eight 2 ++ (eight 0 ++ eight 21)));

@@ -16,7 +16,7 @@ use topphatt::Assigned;
 use tree::TreeChecked;
 use tree::TreeWeighed;
 
-// The triple weighed in the rows, and the rows reduced to its parent where they stand; the refusal of the rows as terms follows, the weight, and how many rows are kept.
+// The triple weighed in the rows, and the rows reduced to its parent where they stand; the refusal of the rows as terms follows, and the weight.
 #[no_mangle]
 pub extern "C" fn test_merge(
     modes: usize,
@@ -38,8 +38,8 @@ fn put_merge(rows: &mut [u16], count: usize, triple: Triple, parent: u16, answer
     requires { ⌜ Held 8 count (now rows) ⌝ }
 {
     let weighed = weight::weight(rows, count, triple);
-    let kept = reduction::reduce_hamiltonian(rows, count, parent, triple);
-    put(answer, 0, weighed as u64, kept as u64);
+    reduction::reduce_hamiltonian(rows, count, parent, triple);
+    put(answer, 0, weighed as u64, 0);
 }
 
 // The call `resume` as it is; its six numbers follow: refusal, place, weight, trials, kept and new bytes.

@@ -113,4 +113,4 @@ module _ (most room : ℕ) (means : Ended) (rows : List ℕ) (r : Ran) (runs : R
 pub cut-newick : (rooms : Rooms) (line cut : ℕ) (text : List ℕ) → 12 + 47 * rooms .terms < cut
     → newick-answer-text rooms line (take cut text) ≡ newick-answer-text rooms line text
 unfolding newick-answer-text
-cut-newick rooms line cut text h = ap (newick-printed (rooms .modes) line) (cut-runs rooms cut text h)
+cut-newick rooms line cut text h = ap (newick-printed (rooms .run .modes) line) (cut-runs rooms cut text h)

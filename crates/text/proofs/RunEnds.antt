@@ -1,5 +1,5 @@
 -- The answer of the call, and the rows that it left, say what the run ends in; and so it is printed.
-use mathlib.Core.Path.{_≡_, refl, ap, _∙_}
+use mathlib.Core.Path.{_≡_, refl, ap, _∙_, sym}
 use mathlib.Core.List.{List, []}
 use Prim.Native.Nat.{ℕ, _*_, _≤_}
 use native.Mathlib.Omega.{arith}
@@ -8,13 +8,14 @@ use Rattle.lists.proofs.Written.{part-written}
 use Rattle.refusal.specs.declared.Refusal.{Refusal}
 use Rattle.journal.specs.Resuming.{Outcome, done, refuses, hatt-run}
 use Rattle.journal.specs.declared.resuming.Numbers.{Numbers}
+use Rattle.journal.specs.declared.resuming.Answer.{Answer}
 use Rattle.journal.specs.declared.resuming.Answer.the-variants.{Done as Answered, Refused as Unanswered}
-use Rattle.journal.specs.Promises.{returned, rows-then}
+use Rattle.journal.specs.Promises.{Lent, rooms-of, returned, lent-then, Answers}
 use Rattle.journal.proofs.RowsFit.{rows-fit}
 use Rattle.text.specs.declared.running.Ran.{Ran}
 use Rattle.text.specs.declared.running.Ran.the-variants.{Done, Refused}
 use Rattle.text.specs.code.Runs.{ended-as, modes-ran, Runs}
-use Rattle.text.specs.Running.{Ended, stopped, ended}
+use Rattle.text.specs.Running.{Ended, stopped, ended, program-rooms}
 use Rattle.text.specs.Output.{refusal-text, done-text, printed}
 
 -- A refusal says that the run stopped.
@@ -26,12 +27,13 @@ stopped-runs most means rows refusal e = record { says = e; few = omega arith }
 pub same-runs : (most : ℕ) (means other : Ended) (rows : List ℕ) (r : Ran) → means ≡ other → Runs most means rows r → Runs most other rows r
 same-runs most means other rows r e runs = record { says = runs .says ∙ e; few = runs .few }
 
-module _ (modes : ℕ) (numbers : List ℕ) (work rows journal : ℕ) (w : work ≡ 16384) (r : rows ≡ 1024) (j : journal ≡ 5392) where
+module _ (modes : ℕ) (numbers : List ℕ) (given after : Lent) (r : Answer) (rooms : rooms-of 256 given ≡ program-rooms .run)
+    (answers : Answers (λ lent. hatt-run (rooms-of 256 lent) modes numbers) given after r) where
   abbrev meant : Outcome
-  meant = hatt-run 256 modes numbers 16384 1024 5392
+  meant = hatt-run (program-rooms .run) modes numbers
 
-  same-run : hatt-run 256 modes numbers work rows journal ≡ meant
-  same-run = rw (w, r, j)
+  same-answer : r ≡ returned meant
+  same-answer = rw (← rooms) (answers .answer)
 
   refused-as : (means : Outcome) (refusal : Refusal) → Unanswered refusal ≡ returned means → stopped refusal ≡ ended means
   unfolding returned ended
@@ -39,28 +41,26 @@ module _ (modes : ℕ) (numbers : List ℕ) (work rows journal : ℕ) (w : work 
   refused-as (refuses other) refusal e = ap stopped cc
 
   -- The call refused.
-  pub refused-runs : (refusal : Refusal) (after : List ℕ) → Unanswered refusal ≡ returned (hatt-run 256 modes numbers work rows journal)
-      → Runs 256 (ended meant) after (Refused refusal)
-  refused-runs refusal after e = stopped-runs 256 (ended meant) after refusal (refused-as meant refusal (e ∙ ap returned same-run))
+  pub refused-runs : (refusal : Refusal) → r ≡ Unanswered refusal → Runs 256 (ended meant) (after .rows) (Refused refusal)
+  refused-runs refusal e = stopped-runs 256 (ended meant) (after .rows) refusal (refused-as meant refusal (sym e ∙ same-answer))
 
   -- The call ran to the end, and the rows stand in front.
-  module _ (before after : List ℕ) (found : Numbers) where
-    done-as : (means : Outcome) → meant ≡ means → length before ≡ 1024 → Answered found ≡ returned means → after ≡ rows-then means before
-        → Runs 256 (ended means) after (Done modes (found .weight) (found .trials))
-    unfolding returned rows-then ended ended-as modes-ran hatt-run
-    done-as (refuses refusal) m size e f = let z : _≡_ {A = ℕ} 0 1 = cc in absurd (omega arith)
-    done-as (done end) m size e f =
-        let fit = rows-fit 256 modes numbers [] 16384 1024 5392 end (omega arith) m in
+  module _ (found : Numbers) where
+    done-as : (means : Outcome) → meant ≡ means → Answered found ≡ returned means → after .rows ≡ lent-then means given .rows
+        → Runs 256 (ended means) (after .rows) (Done modes (found .weight) (found .trials))
+    unfolding returned lent-then ended ended-as modes-ran hatt-run
+    done-as (refuses refusal) m e f = let z : _≡_ {A = ℕ} 0 1 = cc in absurd (omega arith)
+    done-as (done end) m e f =
+        let fit = rows-fit (program-rooms .run) modes numbers [] end (omega arith) m in
         let a : found .weight ≡ end .weight = cc in
         let b : found .trials ≡ end .trials = cc in
-        let front : take (4 * modes) after ≡ end .rows =
-        rw (f, ← (fit .exact)) (part-written 0 (end .rows) before (omega (arith, fit .few, fit .exact))) in
+        let size : length (given .rows) ≡ 1024 = ap (λ l. l .rows) rooms in
+        let front : take (4 * modes) (after .rows) ≡ end .rows =
+        rw (f, ← (fit .exact)) (part-written 0 (end .rows) (given .rows) (omega (arith, fit .few, fit .exact))) in
         record { says = rw (a, b, front); few = fit .few }
 
-    pub done-runs : length before ≡ 1024 → Answered found ≡ returned (hatt-run 256 modes numbers work rows journal)
-        → after ≡ rows-then (hatt-run 256 modes numbers work rows journal) before
-        → Runs 256 (ended meant) after (Done modes (found .weight) (found .trials))
-    done-runs size e f = done-as meant refl size (e ∙ ap returned same-run) (f ∙ ap (λ o. rows-then o before) same-run)
+    pub done-runs : r ≡ Answered found → Runs 256 (ended meant) (after .rows) (Done modes (found .weight) (found .trials))
+    done-runs e = done-as meant refl (sym e ∙ same-answer) (rw (← rooms) (ap (λ l. l .rows) (answers .leaves)))
 
 -- What is known of a run, case by case.
 module _ (most : ℕ) (means : Ended) (rows : List ℕ) (r : Ran) (runs : Runs most means rows r) where

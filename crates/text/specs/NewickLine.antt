@@ -25,4 +25,4 @@ newick-printed most room (stopped refusal) = refusal-text refusal
 
 -- The program's answer to a text, in these rooms and with so many bytes for the line.
 unfoldable pub newick-answer-text : Rooms → ℕ → List ℕ → List ℕ
-newick-answer-text rooms line bytes = newick-printed (rooms .modes) line (ran rooms bytes)
+newick-answer-text rooms line bytes = newick-printed (rooms .run .modes) line (ran rooms bytes)

@@ -3,7 +3,7 @@ use mathlib.Core.List.{List}
 use Prim.Native.Nat.{ℕ, _+_, _*_}
 use Rattle.refusal.specs.declared.Refusal.{Refusal}
 use Rattle.refusal.specs.declared.Refusal.the-variants.{Malformed}
-use Rattle.journal.specs.Resuming.{Outcome, done, refuses, hatt-run}
+use Rattle.journal.specs.Resuming.{Outcome, done, refuses, hatt-run, Rooms as RunRooms}
 use Rattle.text.specs.Input.{Said, given, malformed, said}
 
 -- What a text's run ends in: its weight, its trials and its rows; or a refusal.
@@ -15,21 +15,19 @@ unfoldable pub ended : Outcome → Ended
 ended (done ending) = came (ending .weight) (ending .trials) (ending .rows)
 ended (refuses refusal) = stopped refusal
 
--- What a program has room for: the most modes and terms, and how many numbers and bytes of its own for work, rows and journal.
+-- What a program has room for: the most terms that it reads, and what its run has room for.
 pub record Rooms : Type 0 where
-  pub modes : ℕ
   pub terms : ℕ
-  pub work : ℕ
-  pub rows : ℕ
-  pub journal : ℕ
+  pub run : RunRooms
 
 -- "Modes n: 1 to 256. … Terms T: 0 to 2048"; "Room: work 8T numbers; rows 4n; … journal bytes 16 + 21n."
 abbrev pub program-rooms : Rooms
-program-rooms = record { modes = 256; terms = 2048; work = 8 * 2048; rows = 4 * 256; journal = 16 + 21 * 256 }
+program-rooms =
+    record { terms = 2048; run = record { modes = 256; work = 8 * 2048; rows = 4 * 256; journal = 16 + 21 * 256 } }
 
 -- 18 is "before any other number".
 unfoldable pub ran-by : Rooms → Said → Ended
-ran-by rooms (given modes numbers) = ended (hatt-run (rooms .modes) modes numbers (rooms .work) (rooms .rows) (rooms .journal))
+ran-by rooms (given modes numbers) = ended (hatt-run (rooms .run) modes numbers)
 ran-by rooms (malformed line) = stopped (Malformed line)
 
 -- A text's run in these rooms.

@@ -78,7 +78,7 @@ extern "C" {
     );
 }
 
-/// Weighs the triple in the rows, reduces them to its parent where they stand, and returns three numbers: the refusal of the rows as terms of so many modes, the weight, and how many rows are kept.
+/// Weighs the triple in the rows, reduces them to its parent where they stand, and returns three numbers: the refusal of the rows as terms of so many modes, the weight, and zero.
 pub fn merge(modes: usize, rows: &mut [u16], triple: [u16; 3], parent: u16) -> [u64; 3] {
     let mut answer = [u64::MAX; 3];
     let [x, y, z] = triple;

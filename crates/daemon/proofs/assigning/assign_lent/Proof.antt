@@ -5,6 +5,7 @@ use native.Mathlib.Omega.{arith}
 use borrow.Author.Needs.{needs}
 use lib.ListN.{length}
 use lib.Seq.{length-take-le}
+use Rattle.daemon.specs.Calls.{lent-table}
 use Rattle.daemon.proofs.CallAnswered.{room-fits}
 use Rattle.daemon.proofs.AssignAnswered.{assign-so, assign-lent-means}
 use Rattle.daemon.proofs.assigning.assign_lent.Statement.{statement}
@@ -87,8 +88,9 @@ returns c =
     let fits = room-fits 1 (length own) (length (args .table .now)) (length (args .answer .now)) in
     let nodes = c .before .before .before .before .before .before .before .before .before .before .before .before .before .before .before .before .before .before .before .before .before .before .read-tree in
     let count = c .before .before .before .before .before .before .before .before .before .before .before .before .before .before .before .before .before .before .read-terms in
-    assign-so _ _ (args .table .now) (args .answer .now) _ _ _
-    (assign-lent-means (args .modes) (args .tree .now) _ (nodes .result) (args .heuristic) (args .terms .now) _ own (count .result) (room .result) (length (args .work .now)) (length (args .table .now)) (length (args .answer .now)) (nodes .ensures) (count .ensures) (room .ensures))
+    let given = lent-table (args .table .now) (args .answer .now) in
+    assign-so _ _ given _ _
+    (assign-lent-means (args .modes) (args .tree .now) _ (nodes .result) (args .heuristic) (args .terms .now) _ (args .work .now) own (count .result) (room .result) given (nodes .ensures) (count .ensures) (room .ensures))
     (c .before .before .before .before .before .before .before .before .assign-numbers .ensures)
 
 pub assign-lent-spec : {M : Type 1} → statement M

@@ -3,7 +3,9 @@ use Prim.Native.Nat.{_*_, _≤_}
 use native.Mathlib.Omega.{arith}
 use borrow.Author.Needs.{needs}
 use lib.ListN.{length}
-use Rattle.topphatt.specs.Answer.{outcome}
+use Rattle.topphatt.specs.Answer.{asked, outcome}
+use Rattle.topphatt.specs.Promises.{lent, rooms-of}
+use Rattle.daemon.specs.Calls.{lent-table}
 use Rattle.daemon.proofs.AssignPlaces.{assign-refused-place}
 use Rattle.daemon.proofs.AssignAnswered.{unassigned-meant, assigned-meant, table-fits, assign-refused, assign-written}
 use Rattle.daemon.proofs.assigning.assign_numbers.Statement.{statement}
@@ -19,11 +21,11 @@ refusal-result-requires : tie.Need-refusal-result-requires
 refusal-result-requires c κs =
     let start = c .before .before .before .before .before .before .before .before .before .before .before .before .before .before .before .before in
     let args = start .args in
-    let work = length (args .work .now) in
-    let own = length (args .own .now) in
-    let meant = outcome 256 (args .modes) (args .tree .now) (args .heuristic) (args .terms .now) work own in
+    let call = asked (args .modes) (args .tree .now) (args .heuristic) (args .terms .now) in
+    let given = lent (args .work .now) (args .own .now) in
+    let meant = outcome (rooms-of 256 given) call in
     let answers = c .before .before .before .before .before .before .before .assign .ensures in
-    assign-refused-place (args .modes) (args .tree .now) (args .heuristic) (args .terms .now) work own _ (unassigned-meant meant _ _ (answers .answer) (c .before .why .given .1))
+    assign-refused-place (rooms-of 256 given) (omega arith) call _ (unassigned-meant meant _ _ (answers .answer) (c .before .why .given .1))
 
 enum-known-weight : tie.Need-enum-known-weight
 enum-known-weight c = search needs
@@ -32,13 +34,13 @@ put-assigned-requires : tie.Need-put-assigned-requires
 put-assigned-requires c κs =
     let start = c .before .before .before .before .before .before .before .before .before .before .before .before .before .before .before .before .before .before .before in
     let args = start .args in
-    let work = length (args .work .now) in
-    let own = length (args .own .now) in
-    let meant = outcome 256 (args .modes) (args .tree .now) (args .heuristic) (args .terms .now) work own in
+    let call = asked (args .modes) (args .tree .now) (args .heuristic) (args .terms .now) in
+    let given = lent (args .work .now) (args .own .now) in
+    let meant = outcome (rooms-of 256 given) call in
     let answers = c .before .before .before .before .before .before .before .before .before .before .assign .ensures in
     let finish = assigned-meant meant _ _ (answers .answer) (c .before .before .before .before .weight .given .1) in
-    let fit = table-fits (args .modes) (args .tree .now) (args .heuristic) (args .terms .now) work own (finish .count) _ (finish .codes) (finish .is) in
-    let some : 1 ≤ own = omega (arith, fit .has-room, fit .some-modes) in
+    let fit = table-fits (rooms-of 256 given) call (finish .count) _ (finish .codes) (omega arith) (finish .is) in
+    let some : 1 ≤ length (args .own .now) = omega (arith, fit .has-room, fit .some-modes) in
     let room : 6 * args .modes ≤ length (args .table .now) = omega (arith, fit .has-room, start .pre .0) in
     (omega (arith, fit .has-room), room, start .pre .1 some)
 
@@ -52,11 +54,11 @@ returns : tie.Need-returns
 returns c =
     let start = c .before .before .before .before .before .before .before .before .before .before .before .before .before .before .before .before .before in
     let args = start .args in
-    let work = length (args .work .now) in
-    let own = length (args .own .now) in
-    let meant = outcome 256 (args .modes) (args .tree .now) (args .heuristic) (args .terms .now) work own in
+    let call = asked (args .modes) (args .tree .now) (args .heuristic) (args .terms .now) in
+    let given = lent (args .work .now) (args .own .now) in
+    let meant = outcome (rooms-of 256 given) call in
     let answers = c .before .before .before .before .before .before .before .before .assign .ensures in
-    assign-refused meant (args .table .now) (args .answer .now) _ _ (unassigned-meant meant _ _ (answers .answer) (c .before .before .why .given .1)) (c .refusal-result .ensures)
+    assign-refused meant (lent-table (args .table .now) (args .answer .now)) _ _ (unassigned-meant meant _ _ (answers .answer) (c .before .before .why .given .1)) (c .refusal-result .ensures)
 
 same-length-3 : tie.Need-same-length-3
 same-length-3 c = search needs
@@ -74,14 +76,14 @@ returns-2 : tie.Need-returns-2
 returns-2 c =
     let start = c .before .before .before .before .before .before .before .before .before .before .before .before .before .before .before .before .before .before .before .before .before .before .before .before in
     let args = start .args in
-    let work = length (args .work .now) in
-    let own = length (args .own .now) in
-    let meant = outcome 256 (args .modes) (args .tree .now) (args .heuristic) (args .terms .now) work own in
+    let call = asked (args .modes) (args .tree .now) (args .heuristic) (args .terms .now) in
+    let given = lent (args .work .now) (args .own .now) in
+    let meant = outcome (rooms-of 256 given) call in
     let answers = c .before .before .before .before .before .before .before .before .before .before .before .before .before .before .before .assign .ensures in
     let finish = assigned-meant meant _ _ (answers .answer) (c .before .before .before .before .before .before .before .before .before .weight .given .1) in
-    let fit = table-fits (args .modes) (args .tree .now) (args .heuristic) (args .terms .now) work own (finish .count) _ (finish .codes) (finish .is) in
+    let fit = table-fits (rooms-of 256 given) call (finish .count) _ (finish .codes) (omega arith) (finish .is) in
     let put = c .before .before .before .before .put-assigned .ensures in
-    assign-written meant (args .table .now) (args .answer .now) (args .modes) _ (args .own .now) _ _ _ finish fit (answers .table-is) (put .0) (put .1)
+    assign-written meant (lent-table (args .table .now) (args .answer .now)) (args .modes) _ given _ _ _ finish fit (answers .leaves) (put .0) (put .1)
 
 pub assign-numbers-spec : {M : Type 1} → statement M
 assign-numbers-spec =

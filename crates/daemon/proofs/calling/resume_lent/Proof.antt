@@ -5,6 +5,7 @@ use native.Mathlib.Omega.{arith}
 use borrow.Author.Needs.{needs}
 use lib.ListN.{length}
 use lib.Seq.{length-take-le}
+use Rattle.daemon.specs.Calls.{lent}
 use Rattle.daemon.proofs.CallAnswered.{called-so, room-fits, lent-means}
 use Rattle.daemon.proofs.calling.resume_lent.Statement.{statement}
 use Rattle.daemon.proofs.calling.resume_lent.Tie as tie
@@ -73,8 +74,9 @@ returns c =
     let own = args .own .now in
     let room = c .before .before .before .before .before .before .before .before .before .before .before .before .before .before .before .before .before .room-for in
     let read-terms = c .before .before .before .before .before .before .before .before .before .before .before .before .before .before .before .before .before .before .before .before .read-terms in
-    called-so _ _ (args .rows .now) (args .journal .now) (args .answer .now) _ _ _ _
-    (lent-means (args .modes) (args .terms .now) (args .read .now) _ own (read-terms .result) (room .result) (length (args .work .now)) (length (args .rows .now)) (length (args .journal .now)) (length (args .answer .now)) (read-terms .ensures) (room .ensures))
+    let given = lent (args .rows .now) (args .journal .now) (args .answer .now) in
+    called-so _ _ given _ _
+    (lent-means (args .modes) (args .terms .now) (args .read .now) _ (args .work .now) own (read-terms .result) (room .result) given (read-terms .ensures) (room .ensures))
     (c .before .before .before .before .before .before .before .before .before .before .resume-numbers .ensures)
 
 pub resume-lent-spec : {M : Type 1} → statement M

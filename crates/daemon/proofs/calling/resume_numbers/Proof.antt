@@ -3,10 +3,9 @@ use Prim.Native.Nat.{_*_, _≤_}
 use native.Mathlib.Omega.{arith}
 use borrow.Author.Needs.{needs}
 use lib.ListN.{length}
-use Rattle.journal.specs.Resuming.{resumed}
-use Rattle.journal.proofs.RowsFit.{rows-fit}
+use Rattle.journal.specs.Promises.{lent as run-lent, rooms-of}
 use Rattle.daemon.proofs.RefusalPlaces.{refused-place}
-use Rattle.daemon.proofs.CallAnswered.{refused-meant, done-meant, called-refused, called-done}
+use Rattle.daemon.proofs.CallAnswered.{why-refused, fit, called-refused, called-done}
 use Rattle.daemon.proofs.calling.resume_numbers.Statement.{statement}
 use Rattle.daemon.proofs.calling.resume_numbers.Tie as tie
 
@@ -20,14 +19,9 @@ refusal-result-requires : tie.Need-refusal-result-requires
 refusal-result-requires c κs =
     let start = c .before .before .before .before .before .before .before .before .before .before .before .before .before .before .before .before .before .before .before .before in
     let args = start .args in
-    let terms = args .terms .now in
-    let read = args .read .now in
-    let work = length (args .work .now) in
-    let own = length (args .own .now) in
-    let journal = length (args .journal .now) in
-    let meant = resumed 256 (args .modes) terms read work own journal in
     let answers = c .before .before .before .before .before .before .before .before .before .resume .ensures in
-    refused-place (args .modes) terms read work own journal _ (refused-meant meant _ _ (answers .answer) (c .before .why .given .1))
+    refused-place (args .modes) (args .terms .now) (rooms-of 256 (run-lent (args .work .now) (args .own .now) (args .journal .now))) (omega arith) (args .read .now) _
+    (why-refused (args .modes) (args .terms .now) (args .read .now) (args .work .now) (args .own .now) (args .rows .now) (args .journal .now) (args .answer .now) _ _ _ _ answers _ (c .before .why .given .1))
 
 enum-known-numbers : tie.Need-enum-known-numbers
 enum-known-numbers c = search needs
@@ -36,18 +30,11 @@ put-done-requires : tie.Need-put-done-requires
 put-done-requires c κs =
     let start = c .before .before .before .before .before .before .before .before .before .before .before .before .before .before .before .before .before .before .before .before .before .before .before in
     let args = start .args in
-    let terms = args .terms .now in
-    let read = args .read .now in
-    let work = length (args .work .now) in
-    let own = length (args .own .now) in
-    let journal = length (args .journal .now) in
-    let meant = resumed 256 (args .modes) terms read work own journal in
     let answers = c .before .before .before .before .before .before .before .before .before .before .before .before .resume .ensures in
-    let finish = done-meant meant _ _ (answers .answer) (c .before .before .before .before .numbers .given .1) in
-    let fit = rows-fit 256 (args .modes) terms read work own journal (finish .part) (omega arith) (finish .is) in
-    let some : 1 ≤ own = omega (arith, fit .room, fit .some) in
-    let room : 8 * args .modes ≤ length (args .rows .now) = omega (arith, fit .room, start .pre .0) in
-    (omega (arith, fit .room), room, start .pre .1 some)
+    let fits = fit (args .modes) (args .terms .now) (args .read .now) (args .work .now) (args .own .now) (args .rows .now) (args .journal .now) (args .answer .now) _ _ _ _ answers _ (c .before .before .before .before .numbers .given .1) in
+    let some : 1 ≤ length (args .own .now) = omega (arith, fits .room, fits .some) in
+    let room : 8 * args .modes ≤ length (args .rows .now) = omega (arith, fits .room, start .pre .0) in
+    (omega (arith, fits .room), room, start .pre .1 some)
 
 same-length : tie.Need-same-length
 same-length c = search needs
@@ -62,16 +49,8 @@ returns : tie.Need-returns
 returns c =
     let start = c .before .before .before .before .before .before .before .before .before .before .before .before .before .before .before .before .before .before .before .before .before in
     let args = start .args in
-    let terms = args .terms .now in
-    let read = args .read .now in
-    let work = length (args .work .now) in
-    let own = length (args .own .now) in
-    let journal = length (args .journal .now) in
-    let meant = resumed 256 (args .modes) terms read work own journal in
     let answers = c .before .before .before .before .before .before .before .before .before .before .resume .ensures in
-    called-refused meant (args .rows .now) (args .journal .now) (args .answer .now) _ (answers .journal-is) _ _
-    (refused-meant meant _ _ (answers .answer) (c .before .before .why .given .1))
-    (c .refusal-result .ensures)
+    called-refused (args .modes) (args .terms .now) (args .read .now) (args .work .now) (args .own .now) (args .rows .now) (args .journal .now) (args .answer .now) _ _ _ _ answers _ _ (c .before .before .why .given .1) (c .refusal-result .ensures)
 
 same-length-4 : tie.Need-same-length-4
 same-length-4 c = search needs
@@ -92,17 +71,9 @@ returns-2 : tie.Need-returns-2
 returns-2 c =
     let start = c .before .before .before .before .before .before .before .before .before .before .before .before .before .before .before .before .before .before .before .before .before .before .before .before .before .before .before .before in
     let args = start .args in
-    let terms = args .terms .now in
-    let read = args .read .now in
-    let work = length (args .work .now) in
-    let own = length (args .own .now) in
-    let journal = length (args .journal .now) in
-    let meant = resumed 256 (args .modes) terms read work own journal in
     let answers = c .before .before .before .before .before .before .before .before .before .before .before .before .before .before .before .before .before .resume .ensures in
-    let finish = done-meant meant _ _ (answers .answer) (c .before .before .before .before .before .before .before .before .before .numbers .given .1) in
-    let fit = rows-fit 256 (args .modes) terms read work own journal (finish .part) (omega arith) (finish .is) in
     let put = c .before .before .before .before .put-done .ensures in
-    called-done meant (args .rows .now) (args .journal .now) (args .answer .now) _ (answers .journal-is) _ (args .modes) (args .own .now) _ _ _ finish fit (answers .rows-is) (put .0) (put .1)
+    called-done (args .modes) (args .terms .now) (args .read .now) (args .work .now) (args .own .now) (args .rows .now) (args .journal .now) (args .answer .now) _ _ _ _ answers _ (c .before .before .before .before .before .before .before .before .before .numbers .given .1) _ _ (put .0) (put .1)
 
 pub resume-numbers-spec : {M : Type 1} → statement M
 resume-numbers-spec =

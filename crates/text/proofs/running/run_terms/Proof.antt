@@ -1,10 +1,19 @@
 -- The answer is a refusal, or a run whose rows stand in front: either way it says what the definitions end in.
-use mathlib.Core.Path.{sym, _∙_}
+use mathlib.Core.Path.{_≡_}
+use mathlib.Core.List.{List}
+use Prim.Native.Nat.{ℕ}
 use borrow.Author.Needs.{needs}
-use Rattle.text.specs.Running.{ran-by}
+use lib.ListN.{length}
+use Rattle.journal.specs.Promises.{lent, rooms-of}
+use Rattle.text.specs.Running.{program-rooms, ran-by}
 use Rattle.text.proofs.RunEnds.{refused-runs, done-runs}
 use Rattle.text.proofs.running.run_terms.Statement.{statement}
 use Rattle.text.proofs.running.run_terms.Tie as tie
+
+-- The lent parts are as long as the program's.
+same-rooms : (work rows journal : List ℕ) → length work ≡ 16384 → length rows ≡ 1024 → length journal ≡ 5392
+    → rooms-of 256 (lent work rows journal) ≡ program-rooms .run
+same-rooms work rows journal w r j = rw (w, r, j)
 
 hatt-requires : tie.Need-hatt-requires
 hatt-requires c κs = search needs
@@ -31,7 +40,7 @@ returns c =
     let hatt = c .before .before .before .before .before .before .before .before .before .hatt in
     let refusal = c .before .refusal .given in
     let args = start .args in
-    refused-runs (args .modes) (args .numbers .now) _ _ _ (start .pre .0) (start .pre .1) (start .pre .2) (refusal .0 .0) _ (sym (refusal .1) ∙ hatt .ensures .answer)
+    refused-runs (args .modes) (args .numbers .now) _ _ _ (same-rooms (args .work .now) (args .rows .now) (args .journal .now) (start .pre .0) (start .pre .1) (start .pre .2)) (hatt .ensures) (refusal .0 .0) (refusal .1)
 
 same-length-4 : tie.Need-same-length-4
 same-length-4 c = search needs
@@ -49,8 +58,7 @@ returns-2 c =
     let hatt = c .before .before .before .before .before .before .before .before .before .hatt in
     let found = c .before .found .given in
     let args = start .args in
-    done-runs (args .modes) (args .numbers .now) _ _ _ (start .pre .0) (start .pre .1) (start .pre .2) (args .rows .now) _ (found .0 .0) (start .pre .1)
-    (sym (found .1) ∙ hatt .ensures .answer) (hatt .ensures .rows-is)
+    done-runs (args .modes) (args .numbers .now) _ _ _ (same-rooms (args .work .now) (args .rows .now) (args .journal .now) (start .pre .0) (start .pre .1) (start .pre .2)) (hatt .ensures) (found .0 .0) (found .1)
 
 pub run-terms-spec : {M : Type 1} → statement M
 run-terms-spec =

@@ -148,16 +148,17 @@ fn seen(weight: u64, after: Vec<Row>, before: usize) -> Seen {
 
 fn ours(triple: [u16; 3], parent: u16, before: &[Row]) -> Seen {
     let mut lent = flat(before);
-    let [refusal, weight, kept] = proved::merge(MODES, &mut lent, triple, parent);
+    let [refusal, weight, _] = proved::merge(MODES, &mut lent, triple, parent);
     assert_eq!(refusal, 0, "the rows are good");
-    let gone = lent.split_off(8 * kept as usize);
+    // a row keeps its place, and one that went is zeros there
+    let (there, gone): (Vec<&[u16]>, Vec<&[u16]>) = lent.chunks(8).partition(|row| row[0] != 0);
     // what stands behind a row's own indices is not promised
-    let after = lent
-        .chunks(8)
+    let after = there
+        .iter()
         .map(|row| row[1..=usize::from(row[0])].to_vec());
     Seen {
-        numbers: vec![weight, kept],
-        lent: after.chain([gone]).collect(),
+        numbers: vec![weight, there.len() as u64],
+        lent: after.chain([gone.concat()]).collect(),
     }
 }
 
