@@ -7,6 +7,7 @@ ghost use lib.Dec.{eqb, ltb};
 ghost use lib.ListN.{length, take};
 ghost use Rattle.lists.specs.Members.{every, «some-of»};
 ghost use Rattle.lists.specs.Least.{lighter};
+ghost use Rattle.entities.specs.Limits.{«most-modes», «most-terms», «row-width»};
 ghost use Rattle.terms.specs.Rows.{Held, «terms-of»};
 ghost use Rattle.terms.specs.Weight.{OddOf, «weight-of»};
 ghost use Rattle.slots.specs.Slots.{«leaf-of»};
@@ -40,7 +41,7 @@ fn is_assigned(assigned: &[u16], mode: u16) -> bool
 
 // The modes that no pair has yet, ascending; how many there are.
 pub fn fill_unassigned(modes: usize, assigned: &[u16], free: &mut [u16]) -> usize
-    requires { ⌜ (modes ≤ 256) × (modes ≤ length (now free)) ⌝ }
+    requires { ⌜ (modes ≤ most-modes) × (modes ≤ length (now free)) ⌝ }
     ensures { λ r. ⌜ (r ≤ modes) × (take r (now (free .exit)) ≡ unassigned modes (now (assigned .entry))) ⌝ }
 {
     let mut count = 0;
@@ -106,10 +107,10 @@ fn best_beside<'a>(
     triple: Triple,
     best: Selection,
 ) -> Selection
-    requires { ⌜ Held 8 count (now rows) ⌝ }
+    requires { ⌜ Held row-width count (now rows) ⌝ }
     requires { ⌜ count ≤ length (now odd) ⌝ }
     requires { ⌜ OddOf (now rows) count (triple .x) (triple .y) (now odd) ⌝ }
-    ensures { λ r. ⌜ r ≡ sought (terms-of 8 count (now (rows .entry))) node best (triple ∷ []) ⌝ }
+    ensures { λ r. ⌜ r ≡ sought (terms-of row-width count (now (rows .entry))) node best (triple ∷ []) ⌝ }
 {
     let weight = weight::weight_beside(rows, count, odd, triple);
     better_of(node, triple, weight, best)
@@ -127,11 +128,11 @@ fn best_of_mode<'a>(
     mode: u16,
     best: Selection,
 ) -> Selection
-    requires { ⌜ Held 8 count (now rows) ⌝ }
+    requires { ⌜ Held row-width count (now rows) ⌝ }
     requires { ⌜ count ≤ length (now odd) ⌝ }
     requires { ⌜ OddOf (now rows) count (slots .x) (slots .y) (now odd) ⌝ }
-    requires { ⌜ (modes ≤ 256) × (mode < modes) × (3 * modes < slots .z) × (slots .z ≤ 3 * modes + 2) ⌝ }
-    ensures { λ r. ⌜ r ≡ sought (terms-of 8 count (now (rows .entry))) node best (with-z (slots .x) (slots .y) (map (leaf-of modes (slots .z)) (without pair (mode ∷ [])))) ⌝ }
+    requires { ⌜ (modes ≤ most-modes) × (mode < modes) × (3 * modes < slots .z) × (slots .z ≤ 3 * modes + 2) ⌝ }
+    ensures { λ r. ⌜ r ≡ sought (terms-of row-width count (now (rows .entry))) node best (with-z (slots .x) (slots .y) (map (leaf-of modes (slots .z)) (without pair (mode ∷ [])))) ⌝ }
 {
     if mode == pair {
         return best;
@@ -156,12 +157,12 @@ fn best_of_modes<'a>(
     pair: u16,
     start: Selection,
 ) -> Selection
-    requires { ⌜ Held 8 count (now rows) ⌝ }
+    requires { ⌜ Held row-width count (now rows) ⌝ }
     requires { ⌜ count ≤ length (now odd) ⌝ }
     requires { ⌜ OddOf (now rows) count (slots .x) (slots .y) (now odd) ⌝ }
-    requires { ⌜ (modes ≤ 256) × (3 * modes < slots .z) × (slots .z ≤ 3 * modes + 2) ⌝ }
+    requires { ⌜ (modes ≤ most-modes) × (3 * modes < slots .z) × (slots .z ≤ 3 * modes + 2) ⌝ }
     requires { ⌜ every (λ mode. ltb mode modes) (now free) ≡ true ⌝ }
-    ensures { λ r. ⌜ r ≡ sought (terms-of 8 count (now (rows .entry))) node start (with-z (slots .x) (slots .y) (map (leaf-of modes (slots .z)) (without pair (now (free .entry))))) ⌝ }
+    ensures { λ r. ⌜ r ≡ sought (terms-of row-width count (now (rows .entry))) node start (with-z (slots .x) (slots .y) (map (leaf-of modes (slots .z)) (without pair (now (free .entry))))) ⌝ }
 {
     let mut best = start;
     let mut at = 0;
@@ -183,10 +184,10 @@ fn best_of_pair<'a>(
     pair: u16,
     start: Selection,
 ) -> Selection
-    requires { ⌜ Held 8 count (now rows) ⌝ }
-    requires { ⌜ (count ≤ 2048) × (modes ≤ 256) × (slots .z ≤ 3 * modes + 2) ⌝ }
+    requires { ⌜ Held row-width count (now rows) ⌝ }
+    requires { ⌜ (count ≤ most-terms) × (modes ≤ most-modes) × (slots .z ≤ 3 * modes + 2) ⌝ }
     requires { ⌜ every (λ mode. ltb mode modes) (now free) ≡ true ⌝ }
-    ensures { λ r. ⌜ r ≡ sought (terms-of 8 count (now (rows .entry))) node start (with-z (slots .x) (slots .y) (numbers modes (slots .z) (without pair (now (free .entry))))) ⌝ }
+    ensures { λ r. ⌜ r ≡ sought (terms-of row-width count (now (rows .entry))) node start (with-z (slots .x) (slots .y) (numbers modes (slots .z) (without pair (now (free .entry))))) ⌝ }
 {
     if !slots::unfixed(modes, slots.z) {
         return better_of(node, slots, weight::weight(rows, count, slots), start);
@@ -207,11 +208,11 @@ fn best_of_leaves<'a>(
     mode: u16,
     best: Selection,
 ) -> Selection
-    requires { ⌜ Held 8 count (now rows) ⌝ }
-    requires { ⌜ (count ≤ 2048) × (modes ≤ 256) × (mode < modes) ⌝ }
+    requires { ⌜ Held row-width count (now rows) ⌝ }
+    requires { ⌜ (count ≤ most-terms) × (modes ≤ most-modes) × (mode < modes) ⌝ }
     requires { ⌜ (3 * modes < slots .x) × (slots .x ≤ 3 * modes + 2) × (3 * modes < slots .y) × (slots .y ≤ 3 * modes + 2) × (slots .z ≤ 3 * modes + 2) ⌝ }
     requires { ⌜ every (λ mode. ltb mode modes) (now free) ≡ true ⌝ }
-    ensures { λ r. ⌜ r ≡ sought (terms-of 8 count (now (rows .entry))) node best (with-z (leaf-of modes (slots .x) mode) (leaf-of modes (slots .y) mode) (numbers modes (slots .z) (without mode (now (free .entry))))) ⌝ }
+    ensures { λ r. ⌜ r ≡ sought (terms-of row-width count (now (rows .entry))) node best (with-z (leaf-of modes (slots .x) mode) (leaf-of modes (slots .y) mode) (numbers modes (slots .z) (without mode (now (free .entry))))) ⌝ }
 {
     let leaves = Triple {
         x: slots::leaf_of(modes, slots.x, mode),
@@ -231,11 +232,11 @@ fn best_of_pairs<'a>(
     slots: Triple,
     start: Selection,
 ) -> Selection
-    requires { ⌜ Held 8 count (now rows) ⌝ }
-    requires { ⌜ (count ≤ 2048) × (modes ≤ 256) ⌝ }
+    requires { ⌜ Held row-width count (now rows) ⌝ }
+    requires { ⌜ (count ≤ most-terms) × (modes ≤ most-modes) ⌝ }
     requires { ⌜ (3 * modes < slots .x) × (slots .x ≤ 3 * modes + 2) × (3 * modes < slots .y) × (slots .y ≤ 3 * modes + 2) × (slots .z ≤ 3 * modes + 2) ⌝ }
     requires { ⌜ every (λ mode. ltb mode modes) (now free) ≡ true ⌝ }
-    ensures { λ r. ⌜ r ≡ sought (terms-of 8 count (now (rows .entry))) node start (flatMap (λ mode. with-z (leaf-of modes (slots .x) mode) (leaf-of modes (slots .y) mode) (numbers modes (slots .z) (without mode (now (free .entry))))) (now (free .entry))) ⌝ }
+    ensures { λ r. ⌜ r ≡ sought (terms-of row-width count (now (rows .entry))) node start (flatMap (λ mode. with-z (leaf-of modes (slots .x) mode) (leaf-of modes (slots .y) mode) (numbers modes (slots .z) (without mode (now (free .entry))))) (now (free .entry))) ⌝ }
 {
     let mut best = start;
     let mut at = 0;
@@ -256,10 +257,10 @@ fn best_of_slots<'a>(
     slots: Triple,
     best: Selection,
 ) -> Selection
-    requires { ⌜ Held 8 count (now rows) ⌝ }
-    requires { ⌜ (count ≤ 2048) × (modes ≤ 256) × (slots .x ≤ 3 * modes + 2) × (slots .y ≤ 3 * modes + 2) × (slots .z ≤ 3 * modes + 2) ⌝ }
+    requires { ⌜ Held row-width count (now rows) ⌝ }
+    requires { ⌜ (count ≤ most-terms) × (modes ≤ most-modes) × (slots .x ≤ 3 * modes + 2) × (slots .y ≤ 3 * modes + 2) × (slots .z ≤ 3 * modes + 2) ⌝ }
     requires { ⌜ every (λ mode. ltb mode modes) (now free) ≡ true ⌝ }
-    ensures { λ r. ⌜ r ≡ sought (terms-of 8 count (now (rows .entry))) node best (choices modes (now (free .entry)) (slots .x) (slots .y) (slots .z)) ⌝ }
+    ensures { λ r. ⌜ r ≡ sought (terms-of row-width count (now (rows .entry))) node best (choices modes (now (free .entry)) (slots .x) (slots .y) (slots .z)) ⌝ }
 {
     // a mode that no leaf takes, so that Z may take any
     let none = modes as u16;
@@ -283,10 +284,10 @@ fn best_at<'a>(
     node: u16,
     best: Selection,
 ) -> Selection
-    requires { ⌜ Held 8 count (now rows) ⌝ }
-    requires { ⌜ (count ≤ 2048) × (modes ≤ 256) × (length (now assigned) ≡ modes) × (length (now tree) ≡ 3 * modes) × (node < modes) ⌝ }
+    requires { ⌜ Held row-width count (now rows) ⌝ }
+    requires { ⌜ (count ≤ most-terms) × (modes ≤ most-modes) × (length (now assigned) ≡ modes) × (length (now tree) ≡ 3 * modes) × (node < modes) ⌝ }
     requires { ⌜ now free ≡ unassigned modes (now assigned) ⌝ }
-    ensures { λ r. ⌜ r ≡ sought-over modes (now (tree .entry)) (now (assigned .entry)) (terms-of 8 count (now (rows .entry))) best (node ∷ []) ⌝ }
+    ensures { λ r. ⌜ r ≡ sought-over modes (now (tree .entry)) (now (assigned .entry)) (terms-of row-width count (now (rows .entry))) best (node ∷ []) ⌝ }
 {
     let at = slots::slots(modes, tree, assigned, entities::wide(node));
     best_of_slots(rows, count, free, modes, node, at, best)
@@ -302,11 +303,11 @@ pub fn select<'a>(
     active: &'a [u16],
     modes: usize,
 ) -> Selection
-    requires { ⌜ Held 8 count (now rows) ⌝ }
-    requires { ⌜ (count ≤ 2048) × (modes ≤ 256) × (length (now assigned) ≡ modes) × (length (now tree) ≡ 3 * modes) ⌝ }
+    requires { ⌜ Held row-width count (now rows) ⌝ }
+    requires { ⌜ (count ≤ most-terms) × (modes ≤ most-modes) × (length (now assigned) ≡ modes) × (length (now tree) ≡ 3 * modes) ⌝ }
     requires { ⌜ now free ≡ unassigned modes (now assigned) ⌝ }
     requires { ⌜ every (λ node. ltb node modes) (now active) ≡ true ⌝ }
-    ensures { λ r. ⌜ r ≡ sought-over modes (now (tree .entry)) (now (assigned .entry)) (terms-of 8 count (now (rows .entry))) (worst count) (now (active .entry)) ⌝ }
+    ensures { λ r. ⌜ r ≡ sought-over modes (now (tree .entry)) (now (assigned .entry)) (terms-of row-width count (now (rows .entry))) (worst count) (now (active .entry)) ⌝ }
 {
     let mut best = Selection {
         min_weight: count + 1,

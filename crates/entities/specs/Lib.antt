@@ -1,3 +1,4 @@
--- What document 01, "Numbers", says of parents and of the codes of children.
+-- What document 01, "Numbers", says of parents, of the codes of children, and of the limits of calls.
+pub mod Limits
 pub mod Parents
 pub mod Codes

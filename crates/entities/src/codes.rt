@@ -2,6 +2,7 @@
 ghost use mathlib.Core.Path.{_≡_};
 ghost use Prim.Native.Nat.{_≤_};
 ghost use Rattle.entities.specs.Codes.{code as «code-of»};
+ghost use Rattle.entities.specs.Limits.{«most-modes»};
 use crate::parents;
 
 // The code of the one absent child.
@@ -9,7 +10,7 @@ pub const ABSENT: u16 = 65535;
 
 // The child code of an entity; the leaf at the root's z-end is the absent child.
 pub fn code(modes: usize, end: u16, entity: u16) -> u16
-    requires { ⌜ modes ≤ 256 ⌝ }
+    requires { ⌜ modes ≤ most-modes ⌝ }
     ensures { λ r. ⌜ r ≡ code-of modes end entity ⌝ }
 {
     if entity == end {

@@ -5,6 +5,7 @@ use Prim.Native.Nat.{ℕ, _*_}
 use lib.ListN.{length, replicate}
 use Rattle.lists.specs.Written.{written-at}
 use Rattle.refusal.specs.Numbers.{refused-numbers, done-numbers}
+use Rattle.entities.specs.Limits.{row-width}
 use Rattle.journal.specs.declared.resuming.Answer.{Answer}
 use Rattle.journal.specs.declared.resuming.Answer.the-variants.{Done, Refused as Refuses}
 use Rattle.journal.specs.Resuming.{Outcome, done, refuses, Rooms}
@@ -43,7 +44,7 @@ rooms-of most given =
 -- A refusal "alters nothing".
 unfoldable pub lent-then : Outcome → Lent → Lent
 lent-then (done ending) given = record {
-  work = written-at 0 (replicate (8 * ending .count) 0) (given .work);
+  work = written-at 0 (replicate (row-width * ending .count) 0) (given .work);
   rows = written-at 0 (ending .rows) (given .rows);
   journal = written-at 0 (ending .new) (given .journal);
 }

@@ -7,6 +7,7 @@ use lib.ListN.{length}
 use Rattle.refusal.specs.declared.Refusal.{Refusal}
 use Rattle.refusal.specs.declared.Refusal.the-variants.{Modes, Room}
 use Rattle.entities.specs.declared.Triple.{Triple}
+use Rattle.entities.specs.Limits.{row-width}
 use Rattle.fields.specs.Lines.{kept-of}
 use Rattle.terms.specs.Job.{Job, job-of}
 use Rattle.terms.specs.Good.{modes-good, checked}
@@ -57,7 +58,7 @@ pub record Rooms : Type 0 where
 -- "Room: work 8T numbers; rows 4n; … journal bytes 16 + 21n."
 unfoldable pub roomy : Rooms → ℕ → ℕ → Bool
 roomy rooms modes count =
-    leb (8 * count) (rooms .work) && (leb (4 * modes) (rooms .rows) && leb (16 + 21 * modes) (rooms .journal))
+    leb (row-width * count) (rooms .work) && (leb (4 * modes) (rooms .rows) && leb (16 + 21 * modes) (rooms .journal))
 
 -- 5: "any buffer below its room"; then the journal's lines.
 unfoldable pub with-terms : Rooms → ℕ → List ℕ → List ℕ → Checked → Outcome

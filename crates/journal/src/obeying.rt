@@ -3,6 +3,7 @@ ghost use mathlib.Core.Path.{_≡_};
 ghost use mathlib.Core.List.{List, []};
 ghost use Prim.Native.Nat.{ℕ, _≤_};
 ghost use lib.ListN.{length, drop};
+ghost use Rattle.entities.specs.Limits.{«most-modes», «most-terms», «row-width»};
 ghost use Rattle.fields.specs.Lines.{lines};
 ghost use Rattle.terms.specs.Rows.{Held};
 ghost use Rattle.terms.specs.Job.{Job, «job-of»};
@@ -102,8 +103,8 @@ fn obey_lines(first: Run, modes: usize, rows: &mut [u16], read: &[u8], from: usi
 
 // A journal obeyed from the first state on: the header, then the merges.
 pub fn obey(modes: usize, count: usize, rows: &mut [u16], read: &[u8]) -> Obeying
-    requires { ⌜ (1 ≤ modes) × (modes ≤ 256) × (count ≤ 2048) ⌝ }
-    requires { ⌜ Held 8 count (now rows) ⌝ }
+    requires { ⌜ (1 ≤ modes) × (modes ≤ most-modes) × (count ≤ most-terms) ⌝ }
+    requires { ⌜ Held row-width count (now rows) ⌝ }
     ensures { λ r. ⌜ Obeys (job-of modes count (now (rows .entry))) (obeyed (job-of modes count (now (rows .entry))) (now (read .entry))) (now (rows .entry)) (now (rows .exit)) r ⌝ }
 {
     let first = run::fresh(modes, count);

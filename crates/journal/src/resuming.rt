@@ -4,6 +4,7 @@ ghost use mathlib.Core.Bool.{true};
 ghost use mathlib.Core.List.{List};
 ghost use Prim.Native.Nat.{ℕ, _≤_};
 ghost use lib.ListN.{length};
+ghost use Rattle.entities.specs.Limits.{«most-modes», «most-terms», «row-width»};
 ghost use Rattle.fields.specs.Lines.{«kept-of»};
 ghost use Rattle.terms.specs.Rows.{Held};
 ghost use Rattle.terms.specs.Job.{Job, «job-of»};
@@ -98,8 +99,8 @@ fn resume_own(
     rows: &mut [u16],
     journal: &mut [u8],
 ) -> Answer
-    requires { ⌜ (1 ≤ modes) × (modes ≤ 256) × (count ≤ 2048) × Held 8 count (now own) ⌝ }
-    requires { ⌜ roomy (rooms-of 256 (lent (now work) (now rows) (now journal))) modes count ≡ true ⌝ }
+    requires { ⌜ (1 ≤ modes) × (modes ≤ most-modes) × (count ≤ most-terms) × Held row-width count (now own) ⌝ }
+    requires { ⌜ roomy (rooms-of most-modes (lent (now work) (now rows) (now journal))) modes count ≡ true ⌝ }
     ensures { λ r. ⌜ Answers (λ given. with-journal (job-of modes count (now (own .entry))) (now (read .entry)) (obeyed (job-of modes count (now (own .entry))) (now (read .entry))))
         (lent (now (work .entry)) (now (rows .entry)) (now (journal .entry))) (lent (now (work .exit)) (now (rows .exit)) (now (journal .exit))) r ⌝ }
 {
@@ -124,8 +125,8 @@ fn resume_copy(
     rows: &mut [u16],
     journal: &mut [u8],
 ) -> Answer
-    requires { ⌜ (1 ≤ modes) × (modes ≤ 256) × (checked modes (now terms) ≡ Good count) ⌝ }
-    requires { ⌜ roomy (rooms-of 256 (lent (now work) (now rows) (now journal))) modes count ≡ true ⌝ }
+    requires { ⌜ (1 ≤ modes) × (modes ≤ most-modes) × (checked modes (now terms) ≡ Good count) ⌝ }
+    requires { ⌜ roomy (rooms-of most-modes (lent (now work) (now rows) (now journal))) modes count ≡ true ⌝ }
     ensures { λ r. ⌜ Answers (λ given. with-journal (job-of modes count (now (terms .entry))) (now (read .entry)) (obeyed (job-of modes count (now (terms .entry))) (now (read .entry))))
         (lent (now (work .entry)) (now (rows .entry)) (now (journal .entry))) (lent (now (work .exit)) (now (rows .exit)) (now (journal .exit))) r ⌝ }
 {
@@ -143,8 +144,8 @@ fn resume_good(
     rows: &mut [u16],
     journal: &mut [u8],
 ) -> Answer
-    requires { ⌜ (1 ≤ modes) × (modes ≤ 256) × (checked modes (now terms) ≡ Good count) ⌝ }
-    ensures { λ r. ⌜ Answers (λ given. with-terms (rooms-of 256 given) modes (now (terms .entry)) (now (read .entry)) (Good count))
+    requires { ⌜ (1 ≤ modes) × (modes ≤ most-modes) × (checked modes (now terms) ≡ Good count) ⌝ }
+    ensures { λ r. ⌜ Answers (λ given. with-terms (rooms-of most-modes given) modes (now (terms .entry)) (now (read .entry)) (Good count))
         (lent (now (work .entry)) (now (rows .entry)) (now (journal .entry))) (lent (now (work .exit)) (now (rows .exit)) (now (journal .exit))) r ⌝ }
 {
     if work.len() < 8 * count {
@@ -168,7 +169,7 @@ pub fn resume(
     rows: &mut [u16],
     journal: &mut [u8],
 ) -> Answer
-    ensures { λ r. ⌜ Answers (λ given. resumed (rooms-of 256 given) modes (now (terms .entry)) (now (read .entry)))
+    ensures { λ r. ⌜ Answers (λ given. resumed (rooms-of most-modes given) modes (now (terms .entry)) (now (read .entry)))
         (lent (now (work .entry)) (now (rows .entry)) (now (journal .entry))) (lent (now (work .exit)) (now (rows .exit)) (now (journal .exit))) r ⌝ }
 {
     if modes < 1 {
@@ -191,7 +192,7 @@ pub fn hatt(
     rows: &mut [u16],
     journal: &mut [u8],
 ) -> Answer
-    ensures { λ r. ⌜ Answers (λ given. hatt-run (rooms-of 256 given) modes (now (terms .entry)))
+    ensures { λ r. ⌜ Answers (λ given. hatt-run (rooms-of most-modes given) modes (now (terms .entry)))
         (lent (now (work .entry)) (now (rows .entry)) (now (journal .entry))) (lent (now (work .exit)) (now (rows .exit)) (now (journal .exit))) r ⌝ }
 {
     resume(modes, terms, b"", work, rows, journal)

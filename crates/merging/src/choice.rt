@@ -5,6 +5,7 @@ ghost use mathlib.Core.List.{List, [], _∷_};
 ghost use Prim.Native.Nat.{ℕ, _+_, _≤_, _<_};
 ghost use lib.ListN.{getD, length};
 ghost use Rattle.entities.specs.declared.Triple.{Triple as Three};
+ghost use Rattle.entities.specs.Limits.{«most-modes», «most-terms», «row-width», «entity-room»};
 ghost use Rattle.terms.specs.Rows.{Held};
 ghost use Rattle.terms.specs.Weight.{OddOf};
 ghost use Rattle.merging.specs.History.{«next-parent»};
@@ -53,10 +54,10 @@ fn best_beside<'a>(
     triple: Triple,
     best: Best,
 ) -> Best
-    requires { ⌜ Held 8 count (now rows) ⌝ }
+    requires { ⌜ Held row-width count (now rows) ⌝ }
     requires { ⌜ count ≤ length (now odd) ⌝ }
     requires { ⌜ OddOf (now rows) count (triple .x) (triple .y) (now odd) ⌝ }
-    ensures { λ r. ⌜ ((modes : ℕ) (history : List Three) → next-parent modes history ≤ 769 → OpensAre 769 modes history (now (opens .entry)) → r ≡ seek (weight-here count (now (rows .entry))) best (cond (free modes history triple) (triple ∷ []) [])) ⌝ }
+    ensures { λ r. ⌜ ((modes : ℕ) (history : List Three) → next-parent modes history ≤ entity-room → OpensAre entity-room modes history (now (opens .entry)) → r ≡ seek (weight-here count (now (rows .entry))) best (cond (free modes history triple) (triple ∷ []) [])) ⌝ }
 {
     if triple.x == triple.z {
         return best;
@@ -85,10 +86,10 @@ fn best_of_rest<'a>(
     y: u16,
     start: Best,
 ) -> Best
-    requires { ⌜ Held 8 count (now rows) ⌝ }
+    requires { ⌜ Held row-width count (now rows) ⌝ }
     requires { ⌜ count ≤ length (now odd) ⌝ }
     requires { ⌜ OddOf (now rows) count x y (now odd) ⌝ }
-    ensures { λ r. ⌜ ((modes : ℕ) (history : List Three) → next-parent modes history ≤ 769 → OpensAre 769 modes history (now (opens .entry)) → r ≡ seek (weight-here count (now (rows .entry))) start (beside modes history x y 0 next)) ⌝ }
+    ensures { λ r. ⌜ ((modes : ℕ) (history : List Three) → next-parent modes history ≤ entity-room → OpensAre entity-room modes history (now (opens .entry)) → r ≡ seek (weight-here count (now (rows .entry))) start (beside modes history x y 0 next)) ⌝ }
 {
     let mut best = start;
     let mut z: u16 = 0;
@@ -110,9 +111,9 @@ fn best_of_couple<'a>(
     y: u16,
     start: Best,
 ) -> Best
-    requires { ⌜ Held 8 count (now rows) ⌝ }
-    requires { ⌜ count ≤ 2048 ⌝ }
-    ensures { λ r. ⌜ ((modes : ℕ) (history : List Three) → next-parent modes history ≤ 769 → OpensAre 769 modes history (now (opens .entry)) → r ≡ seek (weight-here count (now (rows .entry))) start (beside modes history x y 0 next)) ⌝ }
+    requires { ⌜ Held row-width count (now rows) ⌝ }
+    requires { ⌜ count ≤ most-terms ⌝ }
+    ensures { λ r. ⌜ ((modes : ℕ) (history : List Three) → next-parent modes history ≤ entity-room → OpensAre entity-room modes history (now (opens .entry)) → r ≡ seek (weight-here count (now (rows .entry))) start (beside modes history x y 0 next)) ⌝ }
 {
     let mut odd = [0u8; 2048];
     weight::count_odd(rows, count, x, y, &mut odd);
@@ -131,9 +132,9 @@ fn best_with<'a>(
     a: u16,
     best: Best,
 ) -> Best
-    requires { ⌜ Held 8 count (now rows) ⌝ }
-    requires { ⌜ (count ≤ 2048) × (modes ≤ 256) × (a < 769) × (getD (now ends) a 0 < 768) ⌝ }
-    ensures { λ r. ⌜ ((history : List Three) → Tied 769 modes history (now (opens .entry)) (now (ends .entry)) (now (holders .entry)) → r ≡ seek (weight-here count (now (rows .entry))) best (beside-couple modes history next (couple modes history a))) ⌝ }
+    requires { ⌜ Held row-width count (now rows) ⌝ }
+    requires { ⌜ (count ≤ most-terms) × (modes ≤ most-modes) × (a < entity-room) × (getD (now ends) a 0 < 768) ⌝ }
+    ensures { λ r. ⌜ ((history : List Three) → Tied entity-room modes history (now (opens .entry)) (now (ends .entry)) (now (holders .entry)) → r ≡ seek (weight-here count (now (rows .entry))) best (beside-couple modes history next (couple modes history a))) ⌝ }
 {
     let Couple::Of(x, y) = lawful::couple_of(opens, ends, holders, modes, a) else {
         return best;
@@ -151,10 +152,10 @@ pub fn choose<'a>(
     count: usize,
     next: u16,
 ) -> Best
-    requires { ⌜ Held 8 count (now rows) ⌝ }
-    requires { ⌜ (count ≤ 2048) × (modes ≤ 256) × (next ≤ 769) ⌝ }
+    requires { ⌜ Held row-width count (now rows) ⌝ }
+    requires { ⌜ (count ≤ most-terms) × (modes ≤ most-modes) × (next ≤ entity-room) ⌝ }
     requires { ⌜ ((entity : ℕ) → entity < next → getD (now ends) entity 0 < 768) ⌝ }
-    ensures { λ r. ⌜ ((history : List Three) → Tied 769 modes history (now (opens .entry)) (now (ends .entry)) (now (holders .entry)) → next ≡ next-parent modes history → r ≡ seek (weight-here count (now (rows .entry))) (nothing count) (candidates modes history)) ⌝ }
+    ensures { λ r. ⌜ ((history : List Three) → Tied entity-room modes history (now (opens .entry)) (now (ends .entry)) (now (holders .entry)) → next ≡ next-parent modes history → r ≡ seek (weight-here count (now (rows .entry))) (nothing count) (candidates modes history)) ⌝ }
 {
     let mut best = Best {
         weight: count + 1,

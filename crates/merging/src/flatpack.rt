@@ -7,6 +7,7 @@ ghost use lib.Dec.{ltb};
 ghost use lib.ListN.{length, take};
 ghost use Rattle.lists.specs.Members.{keep};
 ghost use Rattle.lists.specs.Written.{«written-at»};
+ghost use Rattle.entities.specs.Limits.{«most-modes»};
 ghost use Rattle.terms.specs.Job.{Job};
 ghost use Rattle.merging.specs.Lawful.{LawfulHistory};
 ghost use Rattle.merging.specs.code.Recorded.{recorded};
@@ -26,7 +27,7 @@ fn children<'a>(
     zs: &'a [u16],
     label: u16,
 ) -> Triple
-    requires { ⌜ (modes ≤ 256) × (label < modes) ⌝ }
+    requires { ⌜ (modes ≤ most-modes) × (label < modes) ⌝ }
     requires { ⌜ (modes ≤ length (now xs)) × (modes ≤ length (now ys)) × (modes ≤ length (now zs)) ⌝ }
     requires { ⌜ end ≡ absent-leaf modes (recorded (now xs) (now ys) (now zs) modes) ⌝ }
     ensures { λ r. ⌜ r .x ∷ (r .y ∷ (r .z ∷ [])) ≡ children-of modes (recorded (now (xs .entry)) (now (ys .entry)) (now (zs .entry)) modes) label ⌝ }
@@ -82,7 +83,7 @@ fn write_rows<'a>(
     ys: &'a [u16],
     zs: &'a [u16],
 )
-    requires { ⌜ (1 ≤ modes) × (modes ≤ 256) × (4 * modes ≤ length (now rows)) ⌝ }
+    requires { ⌜ (1 ≤ modes) × (modes ≤ most-modes) × (4 * modes ≤ length (now rows)) ⌝ }
     requires { ⌜ (modes ≤ length (now xs)) × (modes ≤ length (now ys)) × (modes ≤ length (now zs)) ⌝ }
     requires { ⌜ LawfulHistory modes (recorded (now xs) (now ys) (now zs) modes) ⌝ }
     requires { ⌜ end ≡ absent-leaf modes (recorded (now xs) (now ys) (now zs) modes) ⌝ }

@@ -5,6 +5,7 @@ ghost use mathlib.Core.List.{List};
 ghost use Prim.Native.Nat.{ℕ, _≤_, _<_};
 ghost use lib.ListN.{getD};
 ghost use Rattle.entities.specs.declared.Triple.{Triple as Three};
+ghost use Rattle.entities.specs.Limits.{«most-modes», «entity-room»};
 ghost use Rattle.merging.specs.History.{«next-parent», «is-open», «z-end»};
 ghost use Rattle.merging.specs.Lawful.{«three-open», paired as «paired-in»};
 ghost use Rattle.merging.specs.code.Couples.{
@@ -34,8 +35,8 @@ pub enum Couple {
 
 // The entity is open; numbers beyond the table are no entity.
 pub fn marked(opens: &[bool; 769], entity: u16) -> bool
-    ensures { λ r. ⌜ (r ≡ true → entity < 769) ⌝ }
-    ensures { λ r. ⌜ ((modes : ℕ) (history : List Three) → next-parent modes history ≤ 769 → OpensAre 769 modes history (now (opens .entry)) → r ≡ is-open modes history entity) ⌝ }
+    ensures { λ r. ⌜ (r ≡ true → entity < entity-room) ⌝ }
+    ensures { λ r. ⌜ ((modes : ℕ) (history : List Three) → next-parent modes history ≤ entity-room → OpensAre entity-room modes history (now (opens .entry)) → r ≡ is-open modes history entity) ⌝ }
 {
     let at = entities::wide(entity);
     if 769 <= at {
@@ -46,8 +47,8 @@ pub fn marked(opens: &[bool; 769], entity: u16) -> bool
 
 // Three open entities.
 pub fn three_open(opens: &[bool; 769], triple: Triple) -> bool
-    ensures { λ r. ⌜ (r ≡ true → (triple .x < 769) × (triple .y < 769) × (triple .z < 769)) ⌝ }
-    ensures { λ r. ⌜ ((modes : ℕ) (history : List Three) → next-parent modes history ≤ 769 → OpensAre 769 modes history (now (opens .entry)) → r ≡ three-open modes history triple) ⌝ }
+    ensures { λ r. ⌜ (r ≡ true → (triple .x < entity-room) × (triple .y < entity-room) × (triple .z < entity-room)) ⌝ }
+    ensures { λ r. ⌜ ((modes : ℕ) (history : List Three) → next-parent modes history ≤ entity-room → OpensAre entity-room modes history (now (opens .entry)) → r ≡ three-open modes history triple) ⌝ }
 {
     if !marked(opens, triple.x) {
         return false;
@@ -60,7 +61,7 @@ pub fn three_open(opens: &[bool; 769], triple: Triple) -> bool
 
 // The entity's z-end.
 fn end_of(ends: &[u16; 769], entity: u16) -> usize
-    requires { ⌜ entity < 769 ⌝ }
+    requires { ⌜ entity < entity-room ⌝ }
     ensures { λ r. ⌜ (r < 65536) × (r ≡ getD (now (ends .entry)) entity 0) ⌝ }
 {
     let at = entities::wide(entity);
@@ -69,8 +70,8 @@ fn end_of(ends: &[u16; 769], entity: u16) -> usize
 
 // x's z-end is an even 2k below 2n and y's is 2k+1.
 fn ends_paired(ends: &[u16; 769], modes: usize, x: u16, y: u16) -> bool
-    requires { ⌜ (modes ≤ 256) × (x < 769) × (y < 769) ⌝ }
-    ensures { λ r. ⌜ ((history : List Three) → EndsAre 769 modes history (now (ends .entry)) → r ≡ ends-pair modes (z-end modes history x) (z-end modes history y)) ⌝ }
+    requires { ⌜ (modes ≤ most-modes) × (x < entity-room) × (y < entity-room) ⌝ }
+    ensures { λ r. ⌜ ((history : List Three) → EndsAre entity-room modes history (now (ends .entry)) → r ≡ ends-pair modes (z-end modes history x) (z-end modes history y)) ⌝ }
 {
     let end = end_of(ends, x);
     if end % 2 != 0 {
@@ -84,8 +85,8 @@ fn ends_paired(ends: &[u16; 769], modes: usize, x: u16, y: u16) -> bool
 
 // Three different entities, x's z-end an even 2k below 2n and y's 2k+1.
 pub fn paired(ends: &[u16; 769], modes: usize, triple: Triple) -> bool
-    requires { ⌜ (modes ≤ 256) × (triple .x < 769) × (triple .y < 769) ⌝ }
-    ensures { λ r. ⌜ ((history : List Three) → EndsAre 769 modes history (now (ends .entry)) → r ≡ paired-in modes history triple) ⌝ }
+    requires { ⌜ (modes ≤ most-modes) × (triple .x < entity-room) × (triple .y < entity-room) ⌝ }
+    ensures { λ r. ⌜ ((history : List Three) → EndsAre entity-room modes history (now (ends .entry)) → r ≡ paired-in modes history triple) ⌝ }
 {
     if triple.x == triple.y {
         return false;
@@ -101,8 +102,8 @@ pub fn paired(ends: &[u16; 769], modes: usize, triple: Triple) -> bool
 
 // What the entity names as x and y: itself and the holder of the leaf paired with its z-end, the even one first.
 fn name_pair<'a>(ends: &'a [u16; 769], holders: &'a [u16; 769], a: u16) -> Named
-    requires { ⌜ (a < 769) × (getD (now ends) a 0 < 768) ⌝ }
-    ensures { λ r. ⌜ ((modes : ℕ) (history : List Three) → EndsAre 769 modes history (now (ends .entry)) → HoldersAre 769 modes history (now (holders .entry)) → (r .x ≡ x-of modes history a) × (r .y ≡ y-of modes history a)) ⌝ }
+    requires { ⌜ (a < entity-room) × (getD (now ends) a 0 < 768) ⌝ }
+    ensures { λ r. ⌜ ((modes : ℕ) (history : List Three) → EndsAre entity-room modes history (now (ends .entry)) → HoldersAre entity-room modes history (now (holders .entry)) → (r .x ≡ x-of modes history a) × (r .y ≡ y-of modes history a)) ⌝ }
 {
     let end = end_of(ends, a);
     if end % 2 == 0 {
@@ -120,8 +121,8 @@ fn name_pair<'a>(ends: &'a [u16; 769], holders: &'a [u16; 769], a: u16) -> Named
 
 // Two open entities with paired z-ends.
 fn coupled<'a>(opens: &'a [bool; 769], ends: &'a [u16; 769], modes: usize, x: u16, y: u16) -> bool
-    requires { ⌜ modes ≤ 256 ⌝ }
-    ensures { λ r. ⌜ ((history : List Three) → next-parent modes history ≤ 769 → OpensAre 769 modes history (now (opens .entry)) → EndsAre 769 modes history (now (ends .entry)) → r ≡ coupled-in modes history x y) ⌝ }
+    requires { ⌜ modes ≤ most-modes ⌝ }
+    ensures { λ r. ⌜ ((history : List Three) → next-parent modes history ≤ entity-room → OpensAre entity-room modes history (now (opens .entry)) → EndsAre entity-room modes history (now (ends .entry)) → r ≡ coupled-in modes history x y) ⌝ }
 {
     if !marked(opens, x) {
         return false;
@@ -143,8 +144,8 @@ pub fn couple_of<'a>(
     modes: usize,
     a: u16,
 ) -> Couple
-    requires { ⌜ (modes ≤ 256) × (a < 769) × (getD (now ends) a 0 < 768) ⌝ }
-    ensures { λ r. ⌜ ((history : List Three) → Tied 769 modes history (now (opens .entry)) (now (ends .entry)) (now (holders .entry)) → r ≡ couple modes history a) ⌝ }
+    requires { ⌜ (modes ≤ most-modes) × (a < entity-room) × (getD (now ends) a 0 < 768) ⌝ }
+    ensures { λ r. ⌜ ((history : List Three) → Tied entity-room modes history (now (opens .entry)) (now (ends .entry)) (now (holders .entry)) → r ≡ couple modes history a) ⌝ }
 {
     let pair = name_pair(ends, holders, a);
     if !coupled(opens, ends, modes, pair.x, pair.y) {

@@ -4,6 +4,7 @@ ghost use mathlib.Core.List.{List, [], _∷_};
 ghost use Prim.Native.Nat.{ℕ, _+_, _*_, _≤_, _<_};
 ghost use lib.ListN.{getD};
 ghost use Rattle.lists.specs.Ranges.{listed};
+ghost use Rattle.entities.specs.Limits.{«most-modes», «most-terms», «row-width», «entity-room»};
 ghost use Rattle.terms.specs.Rows.{Held};
 ghost use Rattle.terms.specs.Job.{Job, «job-of»};
 ghost use Rattle.merging.specs.History.{«is-open»};
@@ -35,7 +36,7 @@ pub struct Run {
 
 // Every entity its own z-end and its own holder.
 fn identity() -> [u16; 769]
-    ensures { λ r. ⌜ r ≡ listed (λ entity. entity) 0 769 ⌝ }
+    ensures { λ r. ⌜ r ≡ listed (λ entity. entity) 0 entity-room ⌝ }
 {
     let mut table = [0u16; 769];
     let mut at: u16 = 0;
@@ -49,8 +50,8 @@ fn identity() -> [u16; 769]
 
 // The leaves open, and nothing else.
 fn leaves(modes: usize) -> [bool; 769]
-    requires { ⌜ modes ≤ 256 ⌝ }
-    ensures { λ r. ⌜ r ≡ listed (is-open modes []) 0 769 ⌝ }
+    requires { ⌜ modes ≤ most-modes ⌝ }
+    ensures { λ r. ⌜ r ≡ listed (is-open modes []) 0 entity-room ⌝ }
 {
     let mut opens = [false; 769];
     let mut leaf = 0;
@@ -63,8 +64,8 @@ fn leaves(modes: usize) -> [bool; 769]
 
 // The state before the first step, of so many modes and rows.
 pub fn fresh(modes: usize, count: usize) -> Run
-    requires { ⌜ (1 ≤ modes) × (modes ≤ 256) × (count ≤ 2048) ⌝ }
-    ensures { λ r. ⌜ ((rows : List ℕ) → Held 8 count rows → Holds (job-of modes count rows) rows r × (history-of r ≡ [])) ⌝ }
+    requires { ⌜ (1 ≤ modes) × (modes ≤ most-modes) × (count ≤ most-terms) ⌝ }
+    ensures { λ r. ⌜ ((rows : List ℕ) → Held row-width count rows → Holds (job-of modes count rows) rows r × (history-of r ≡ [])) ⌝ }
 {
     let opens = leaves(modes);
     let ends = identity();
@@ -87,8 +88,8 @@ pub fn fresh(modes: usize, count: usize) -> Run
 impl Run {
     // The three closed and their parent opened, with z's end, which it now holds.
     fn entities_merged(mut self, triple: Triple) -> Run
-        requires { ⌜ (self .modes ≤ 256) × (self .step < 256) × (triple .x < 769) × (triple .y < 769) × (triple .z < 769) ⌝ }
-        requires { ⌜ getD (self .ends) (triple .z) 0 < 769 ⌝ }
+        requires { ⌜ (self .modes ≤ most-modes) × (self .step < most-modes) × (triple .x < entity-room) × (triple .y < entity-room) × (triple .z < entity-room) ⌝ }
+        requires { ⌜ getD (self .ends) (triple .z) 0 < entity-room ⌝ }
         ensures { λ r. ⌜ EntitiesMerged triple self r ⌝ }
     {
         let parent = parents::parent_number(self.modes, self.step);
@@ -109,7 +110,7 @@ impl Run {
 
     // The merge written down as the next step.
     fn noted(mut self, triple: Triple, weight: u16) -> Run
-        requires { ⌜ self .step < 256 ⌝ }
+        requires { ⌜ self .step < most-modes ⌝ }
         ensures { λ r. ⌜ Noted triple weight self r ⌝ }
     {
         let step = self.step;

@@ -1,6 +1,7 @@
 // How many lawful ordered pairs the steps to go have: a table for 0 to 256 of them.
 ghost use mathlib.Core.Path.{_≡_};
 ghost use Prim.Native.Nat.{_≤_};
+ghost use Rattle.entities.specs.Limits.{«most-modes»};
 ghost use Rattle.merging.specs.Trials.{«trial-total»};
 
 const TOTALS: [u64; 257] = [
@@ -265,7 +266,7 @@ const TOTALS: [u64; 257] = [
 
 // The trials of a run with so many steps to go.
 pub fn trial_total(steps: usize) -> u64
-    requires { ⌜ steps ≤ 256 ⌝ }
+    requires { ⌜ steps ≤ most-modes ⌝ }
     ensures { λ r. ⌜ r ≡ trial-total steps ⌝ }
 {
     TOTALS[steps]

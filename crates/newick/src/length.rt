@@ -1,12 +1,13 @@
 // How long the text of a tree is, before a byte of it is written.
 ghost use mathlib.Core.Path.{_≡_};
 ghost use Prim.Native.Nat.{_+_, _*_, _≤_};
+ghost use Rattle.entities.specs.Limits.{«most-modes»};
 ghost use Rattle.newick.specs.Writing.{«mode-length», «text-length»};
 use fields::decimal;
 
 // How many bytes a mode takes up: its node's parentheses, commas and name, and the names of its two leaves.
 fn mode_length(mode: usize) -> usize
-    requires { ⌜ mode ≤ 256 ⌝ }
+    requires { ⌜ mode ≤ most-modes ⌝ }
     ensures { λ r. ⌜ (r ≡ mode-length mode) × (r ≤ 67) ⌝ }
 {
     let label = decimal::digit_count(mode as u64);
@@ -17,7 +18,7 @@ fn mode_length(mode: usize) -> usize
 
 // How many bytes the text of a tree of so many modes has, whatever the tree.
 pub fn text_length(modes: usize) -> usize
-    requires { ⌜ modes ≤ 256 ⌝ }
+    requires { ⌜ modes ≤ most-modes ⌝ }
     ensures { λ r. ⌜ (r ≡ text-length modes) × (r ≤ 2 + 67 * modes) ⌝ }
 {
     let mut length = 2;

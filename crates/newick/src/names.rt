@@ -3,6 +3,7 @@ ghost use mathlib.Core.Path.{_≡_};
 ghost use mathlib.Core.Bool.{true};
 ghost use Prim.Native.Nat.{_≤_};
 ghost use lib.ListN.{length};
+ghost use Rattle.entities.specs.Limits.{«most-modes»};
 ghost use Rattle.newick.specs.Names.{«in-range», «code-of»};
 ghost use Rattle.newick.specs.code.Promises.{Coded};
 use entities::codes;
@@ -16,7 +17,7 @@ fn wide(name: u32) -> usize
 
 // The name is a label, a leaf or the absent child of a tree of so many modes.
 fn in_range(modes: usize, name: usize) -> bool
-    requires { ⌜ modes ≤ 256 ⌝ }
+    requires { ⌜ modes ≤ most-modes ⌝ }
     ensures { λ r. ⌜ r ≡ in-range modes name ⌝ }
 {
     if name < modes {
@@ -33,7 +34,7 @@ fn in_range(modes: usize, name: usize) -> bool
 
 // The code of such a name.
 fn code_of(modes: usize, name: usize) -> u16
-    requires { ⌜ (modes ≤ 256) × (in-range modes name ≡ true) ⌝ }
+    requires { ⌜ (modes ≤ most-modes) × (in-range modes name ≡ true) ⌝ }
     ensures { λ r. ⌜ r ≡ code-of modes name ⌝ }
 {
     if name < 65536 {
@@ -47,7 +48,7 @@ fn code_of(modes: usize, name: usize) -> u16
 
 // The codes of as many names, where all of them are in range.
 pub fn put_codes(modes: usize, names: &[u32], codes: &mut [u16]) -> bool
-    requires { ⌜ (modes ≤ 256) × (length (now codes) ≡ length (now names)) ⌝ }
+    requires { ⌜ (modes ≤ most-modes) × (length (now codes) ≡ length (now names)) ⌝ }
     ensures { λ r. ⌜ Coded modes (now (names .entry)) (now (codes .exit)) r ⌝ }
 {
     let mut at = 0;

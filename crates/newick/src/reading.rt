@@ -4,6 +4,7 @@ ghost use mathlib.Core.List.{List, [], _∷_};
 ghost use Prim.Native.Nat.{ℕ, _+_, _*_, _≤_, _<_};
 ghost use lib.ListN.{length, take};
 ghost use Rattle.lists.specs.Written.{«written-at»};
+ghost use Rattle.entities.specs.Limits.{«most-modes»};
 ghost use Rattle.tree.specs.declared.TreeChecked.«the-variants».{Accepted};
 ghost use Rattle.newick.specs.Reading.{got, numbered, «leaf-name», named, «child-read», «node-read», «text-read», marked as «marked-by»};
 ghost use Rattle.newick.specs.Calls.{«newick-read», «newick-table», «table-after», «read-as», «table-in», «taken-as»};
@@ -147,7 +148,7 @@ fn read_node(text: &[u8], at: usize, height: usize, rows: &mut [u32], closed: us
 // The whole text: a node, `;`, and nothing behind it.
 fn read_text(text: &[u8], rows: &mut [u32]) -> Part
     requires { ⌜ length (now rows) ≡ 1024 ⌝ }
-    ensures { λ r. ⌜ Reads (text-read 256 (now (text .entry))) (now (text .entry)) (now (rows .exit)) 256 r ⌝ }
+    ensures { λ r. ⌜ Reads (text-read most-modes (now (text .entry))) (now (text .entry)) (now (rows .exit)) most-modes r ⌝ }
 {
     let part = marked(text, read_node(text, 0, 256, rows, 0), b';');
     let Part::Child(name, end, closed) = part else {
@@ -174,8 +175,8 @@ fn take_table(modes: usize, tree: &[u16], table: &mut [u16]) -> NewickRead
 
 // The tree of so many closed nodes, laid out in the front of the lent table where it is accepted and fits.
 fn take_tree(modes: usize, rows: &[u32], table: &mut [u16]) -> NewickRead
-    requires { ⌜ (modes ≤ 256) × (length (now rows) ≡ 4 * modes) ⌝ }
-    ensures { λ r. ⌜ ((name at : ℕ) → r ≡ read-as 256 (got name (now (rows .entry)) at) (length (now (table .entry)))) ⌝ }
+    requires { ⌜ (modes ≤ most-modes) × (length (now rows) ≡ 4 * modes) ⌝ }
+    ensures { λ r. ⌜ ((name at : ℕ) → r ≡ read-as most-modes (got name (now (rows .entry)) at) (length (now (table .entry)))) ⌝ }
     ensures { λ r. ⌜ now (table .exit) ≡ table-after r (table-in (now (rows .entry))) (now (table .entry)) ⌝ }
 {
     let mut codes = [0u16; 1024];
@@ -194,8 +195,8 @@ fn take_tree(modes: usize, rows: &[u32], table: &mut [u16]) -> NewickRead
 
 // The tree table that a Newick text spells, or why the text is refused.
 pub fn read_newick(text: &[u8], table: &mut [u16]) -> NewickRead
-    ensures { λ r. ⌜ r ≡ newick-read 256 (now (text .entry)) (length (now (table .entry))) ⌝ }
-    ensures { λ r. ⌜ now (table .exit) ≡ table-after r (newick-table 256 (now (text .entry))) (now (table .entry)) ⌝ }
+    ensures { λ r. ⌜ r ≡ newick-read most-modes (now (text .entry)) (length (now (table .entry))) ⌝ }
+    ensures { λ r. ⌜ now (table .exit) ≡ table-after r (newick-table most-modes (now (text .entry))) (now (table .entry)) ⌝ }
 {
     let mut rows = [0u32; 1024];
     match read_text(text, &mut rows) {

@@ -4,6 +4,7 @@ ghost use mathlib.Core.List.{_∷_};
 ghost use Prim.Native.Nat.{suc, _+_, _*_, _≤_, _<_};
 ghost use lib.ListN.{length};
 ghost use Rattle.lists.specs.Written.{«written-at»};
+ghost use Rattle.entities.specs.Limits.{«most-modes»};
 ghost use Rattle.fields.specs.Decimal.{decimal};
 ghost use Rattle.tree.specs.declared.TreeChecked.«the-variants».{Accepted};
 ghost use Rattle.tree.specs.Check.{«tree-checked»};
@@ -102,7 +103,7 @@ fn put_node(
 
 // An accepted tree's text written over the front where it fits.
 fn put_tree(text: &mut [u8], modes: usize, tree: &[u16]) -> NewickWritten
-    requires { ⌜ tree-checked 256 modes (now tree) ≡ Accepted ⌝ }
+    requires { ⌜ tree-checked most-modes modes (now tree) ≡ Accepted ⌝ }
     ensures { λ r. ⌜ r ≡ written-as Accepted (newick-text modes (now (tree .entry))) (length (now (text .entry))) ⌝ }
     ensures { λ r. ⌜ now (text .exit) ≡ text-after r (newick-text modes (now (tree .entry))) (now (text .entry)) ⌝ }
 {
@@ -118,7 +119,7 @@ fn put_tree(text: &mut [u8], modes: usize, tree: &[u16]) -> NewickWritten
 
 // The tree as Newick text, or why it is refused.
 pub fn write_newick(modes: usize, tree: &[u16], text: &mut [u8]) -> NewickWritten
-    ensures { λ r. ⌜ r ≡ newick-written 256 modes (now (tree .entry)) (length (now (text .entry))) ⌝ }
+    ensures { λ r. ⌜ r ≡ newick-written most-modes modes (now (tree .entry)) (length (now (text .entry))) ⌝ }
     ensures { λ r. ⌜ now (text .exit) ≡ text-after r (newick-text modes (now (tree .entry))) (now (text .entry)) ⌝ }
 {
     match tree::check_tree(modes, tree) {

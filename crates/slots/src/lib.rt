@@ -2,6 +2,7 @@
 ghost use mathlib.Core.Path.{_≡_};
 ghost use Prim.Native.Nat.{_+_, _*_, _≤_, _<_};
 ghost use lib.ListN.{length};
+ghost use Rattle.entities.specs.Limits.{«most-modes»};
 ghost use Rattle.slots.specs.code.Promises.{SlotsAre};
 ghost use Rattle.slots.specs.Slots.{
   «leaf-slot»,
@@ -18,7 +19,7 @@ pub mod nodes;
 
 // A leaf's number once its pair has a mode; until then a number behind all others.
 fn leaf_slot(modes: usize, mode: usize, parity: usize) -> u16
-    requires { ⌜ (modes ≤ 256) × (parity ≤ 1) ⌝ }
+    requires { ⌜ (modes ≤ most-modes) × (parity ≤ 1) ⌝ }
     ensures { λ r. ⌜ (r ≡ leaf-slot modes mode parity) × (r ≤ 3 * modes + 2) ⌝ }
 {
     if mode < modes {
@@ -29,7 +30,7 @@ fn leaf_slot(modes: usize, mode: usize, parity: usize) -> u16
 
 // The slot of a child code, where `assigned` has the mode of each pair or, where it has none, the number of modes.
 pub fn slot_of(modes: usize, assigned: &[u16], code: usize) -> u16
-    requires { ⌜ (modes ≤ 256) × (length (now assigned) ≡ modes) ⌝ }
+    requires { ⌜ (modes ≤ most-modes) × (length (now assigned) ≡ modes) ⌝ }
     ensures { λ r. ⌜ (r ≡ slot-of modes (now (assigned .entry)) code) × (r ≤ 3 * modes + 2) ⌝ }
 {
     if code < modes {
@@ -45,7 +46,7 @@ pub fn slot_of(modes: usize, assigned: &[u16], code: usize) -> u16
 
 // The slot of a node under X (edge 0), Y (1) or Z (2).
 fn slot(modes: usize, tree: &[u16], assigned: &[u16], node: usize, edge: usize) -> u16
-    requires { ⌜ (modes ≤ 256) × (length (now assigned) ≡ modes) × (3 * node + edge < length (now tree)) ⌝ }
+    requires { ⌜ (modes ≤ most-modes) × (length (now assigned) ≡ modes) × (3 * node + edge < length (now tree)) ⌝ }
     ensures { λ r. ⌜ (r ≡ slot-at modes (now (tree .entry)) (now (assigned .entry)) node edge) × (r ≤ 3 * modes + 2) ⌝ }
 {
     slot_of(modes, assigned, table::child(tree, node, edge))
@@ -53,7 +54,7 @@ fn slot(modes: usize, tree: &[u16], assigned: &[u16], node: usize, edge: usize) 
 
 // A node's three slots.
 pub fn slots(modes: usize, tree: &[u16], assigned: &[u16], node: usize) -> Triple
-    requires { ⌜ (modes ≤ 256) × (length (now assigned) ≡ modes) × (length (now tree) ≡ 3 * modes) × (node < modes) ⌝ }
+    requires { ⌜ (modes ≤ most-modes) × (length (now assigned) ≡ modes) × (length (now tree) ≡ 3 * modes) × (node < modes) ⌝ }
     ensures { λ r. ⌜ SlotsAre modes (now (tree .entry)) (now (assigned .entry)) node r ⌝ }
 {
     Triple {
@@ -65,7 +66,7 @@ pub fn slots(modes: usize, tree: &[u16], assigned: &[u16], node: usize) -> Tripl
 
 // The slot is a leaf that isn't fixed yet.
 pub fn unfixed(modes: usize, slot: u16) -> bool
-    requires { ⌜ modes ≤ 256 ⌝ }
+    requires { ⌜ modes ≤ most-modes ⌝ }
     ensures { λ r. ⌜ r ≡ is-unfixed modes slot ⌝ }
 {
     3 * modes < entities::wide(slot)
@@ -73,7 +74,7 @@ pub fn unfixed(modes: usize, slot: u16) -> bool
 
 // The leaf that an unfixed slot takes of a mode: its parity.
 pub fn leaf_of(modes: usize, slot: u16, mode: u16) -> u16
-    requires { ⌜ (modes ≤ 256) × (mode < modes) × (3 * modes < slot) × (slot ≤ 3 * modes + 2) ⌝ }
+    requires { ⌜ (modes ≤ most-modes) × (mode < modes) × (3 * modes < slot) × (slot ≤ 3 * modes + 2) ⌝ }
     ensures { λ r. ⌜ r ≡ leaf-taken modes slot mode ⌝ }
 {
     2 * mode + (slot - (3 * modes + 1) as u16)

@@ -6,6 +6,7 @@ ghost use Prim.Native.Nat.{ℕ, _+_, _*_, _≤_, _<_, max};
 ghost use lib.Dec.{eqb, ltb};
 ghost use lib.ListN.{length, take, drop};
 ghost use Rattle.lists.specs.Members.{every, «some-of», alike, firsts};
+ghost use Rattle.entities.specs.Limits.{«most-modes»};
 ghost use Rattle.slots.specs.Slots.{slots as «slots-at»};
 ghost use Rattle.slots.specs.Nodes.{
   distance as «distance-of»,
@@ -52,7 +53,7 @@ pub fn fill_distances(modes: usize, tree: &[u16], distances: &mut [usize])
 
 // The slot is a fixed leaf or a child.
 fn is_fixed(modes: usize, slot: u16) -> bool
-    requires { ⌜ modes ≤ 256 ⌝ }
+    requires { ⌜ modes ≤ most-modes ⌝ }
     ensures { λ r. ⌜ r ≡ is-fixed modes slot ⌝ }
 {
     if crate::unfixed(modes, slot) {
@@ -63,7 +64,7 @@ fn is_fixed(modes: usize, slot: u16) -> bool
 
 // Every slot of the node is a fixed leaf, a child or, under Z, empty.
 fn complete(modes: usize, tree: &[u16], assigned: &[u16], node: usize) -> bool
-    requires { ⌜ (modes ≤ 256) × (length (now assigned) ≡ modes) × (length (now tree) ≡ 3 * modes) × (node < modes) ⌝ }
+    requires { ⌜ (modes ≤ most-modes) × (length (now assigned) ≡ modes) × (length (now tree) ≡ 3 * modes) × (node < modes) ⌝ }
     ensures { λ r. ⌜ r ≡ is-complete modes (now (tree .entry)) (now (assigned .entry)) node ⌝ }
 {
     let at = crate::slots(modes, tree, assigned, node);
@@ -78,7 +79,7 @@ fn complete(modes: usize, tree: &[u16], assigned: &[u16], node: usize) -> bool
 
 // The node is on the round list: at first every node, then those that aren't complete.
 fn remains(modes: usize, tree: &[u16], assigned: &[u16], round: usize, node: usize) -> bool
-    requires { ⌜ (modes ≤ 256) × (length (now assigned) ≡ modes) × (length (now tree) ≡ 3 * modes) × (node < modes) ⌝ }
+    requires { ⌜ (modes ≤ most-modes) × (length (now assigned) ≡ modes) × (length (now tree) ≡ 3 * modes) × (node < modes) ⌝ }
     ensures { λ r. ⌜ r ≡ (eqb round 0 || not (is-complete modes (now (tree .entry)) (now (assigned .entry)) node)) ⌝ }
 {
     if round == 0 {
@@ -107,7 +108,7 @@ fn fill_remaining(
     round: usize,
     left: &mut [u16],
 ) -> usize
-    requires { ⌜ (modes ≤ 256) × (length (now assigned) ≡ modes) × (length (now tree) ≡ 3 * modes) × (modes ≤ length (now left)) ⌝ }
+    requires { ⌜ (modes ≤ most-modes) × (length (now assigned) ≡ modes) × (length (now tree) ≡ 3 * modes) × (modes ≤ length (now left)) ⌝ }
     ensures { λ r. ⌜ (r ≤ modes) × (take r (now (left .exit)) ≡ remaining modes (now (tree .entry)) round (now (assigned .entry))) ⌝ }
 {
     let mut count = 0;
@@ -183,7 +184,7 @@ fn same_slots(a: Triple, b: Triple) -> bool
 
 // The two nodes' slots are the same.
 fn alike_nodes(modes: usize, tree: &[u16], assigned: &[u16], node: u16, other: u16) -> bool
-    requires { ⌜ (modes ≤ 256) × (length (now assigned) ≡ modes) × (length (now tree) ≡ 3 * modes) × (node < modes) × (other < modes) ⌝ }
+    requires { ⌜ (modes ≤ most-modes) × (length (now assigned) ≡ modes) × (length (now tree) ≡ 3 * modes) × (node < modes) × (other < modes) ⌝ }
     ensures { λ r. ⌜ r ≡ alike (slots-at modes (now (tree .entry)) (now (assigned .entry)) node) (slots-at modes (now (tree .entry)) (now (assigned .entry)) other) ⌝ }
 {
     let at = crate::slots(modes, tree, assigned, entities::wide(node));
@@ -202,7 +203,7 @@ fn has_like(
     count: usize,
     node: u16,
 ) -> bool
-    requires { ⌜ (modes ≤ 256) × (length (now assigned) ≡ modes) × (length (now tree) ≡ 3 * modes) × (node < modes) ⌝ }
+    requires { ⌜ (modes ≤ most-modes) × (length (now assigned) ≡ modes) × (length (now tree) ≡ 3 * modes) × (node < modes) ⌝ }
     requires { ⌜ count ≤ length (now kept) ⌝ }
     requires { ⌜ every (λ other. ltb other modes) (take count (now kept)) ≡ true ⌝ }
     ensures { λ r. ⌜ r ≡ some-of (λ other. alike (slots-at modes (now (tree .entry)) (now (assigned .entry)) node) (slots-at modes (now (tree .entry)) (now (assigned .entry)) other)) (take count (now (kept .entry))) ⌝ }
@@ -219,7 +220,7 @@ fn has_like(
 
 // The nodes whose slots equal no earlier one's; how many there are.
 fn fill_firsts(modes: usize, tree: &[u16], assigned: &[u16], far: &[u16], kept: &mut [u16]) -> usize
-    requires { ⌜ (modes ≤ 256) × (length (now assigned) ≡ modes) × (length (now tree) ≡ 3 * modes) × (length (now far) ≤ length (now kept)) ⌝ }
+    requires { ⌜ (modes ≤ most-modes) × (length (now assigned) ≡ modes) × (length (now tree) ≡ 3 * modes) × (length (now far) ≤ length (now kept)) ⌝ }
     requires { ⌜ every (λ node. ltb node modes) (now far) ≡ true ⌝ }
     ensures { λ r. ⌜ (r ≤ length (now (far .entry))) × (take r (now (kept .exit)) ≡ firsts (λ node other. alike (slots-at modes (now (tree .entry)) (now (assigned .entry)) node) (slots-at modes (now (tree .entry)) (now (assigned .entry)) other)) (now (far .entry))) ⌝ }
 {
@@ -254,7 +255,7 @@ fn fill_narrowed(
     far: &[u16],
     kept: &mut [u16],
 ) -> usize
-    requires { ⌜ (modes ≤ 256) × (length (now assigned) ≡ modes) × (length (now tree) ≡ 3 * modes) × (length (now far) ≤ length (now kept)) ⌝ }
+    requires { ⌜ (modes ≤ most-modes) × (length (now assigned) ≡ modes) × (length (now tree) ≡ 3 * modes) × (length (now far) ≤ length (now kept)) ⌝ }
     requires { ⌜ every (λ node. ltb node modes) (now far) ≡ true ⌝ }
     ensures { λ r. ⌜ (r ≤ length (now (far .entry))) × (take r (now (kept .exit)) ≡ narrowed heuristic (λ node other. alike (slots-at modes (now (tree .entry)) (now (assigned .entry)) node) (slots-at modes (now (tree .entry)) (now (assigned .entry)) other)) (now (far .entry))) ⌝ }
 {
@@ -281,7 +282,7 @@ pub fn fill_active(
     assigned: &[u16],
     active: &mut [u16],
 ) -> usize
-    requires { ⌜ (modes ≤ 256) × (length (now assigned) ≡ modes) × (length (now tree) ≡ 3 * modes) × (modes ≤ length (now active)) ⌝ }
+    requires { ⌜ (modes ≤ most-modes) × (length (now assigned) ≡ modes) × (length (now tree) ≡ 3 * modes) × (modes ≤ length (now active)) ⌝ }
     requires { ⌜ Distances modes (now tree) (now distances) ⌝ }
     ensures { λ r. ⌜ (r ≤ modes) × (take r (now (active .exit)) ≡ active-nodes modes (now (tree .entry)) heuristic round (now (assigned .entry))) ⌝ }
 {

@@ -7,6 +7,7 @@ use lib.ListN.{length, getD, drop}
 use Rattle.lists.specs.Members.{every, leading}
 use Rattle.lists.specs.Ranges.{ascends}
 use Rattle.refusal.specs.declared.Refusal.the-variants.{TermNumbers, TooManyTerms, BadRow}
+use Rattle.entities.specs.Limits.{most-terms, row-width}
 use Rattle.terms.specs.declared.checking.Checked.{Checked}
 use Rattle.terms.specs.declared.checking.Checked.the-variants.{Good, Refused}
 use Rattle.terms.specs.Rows.{rows-of, term}
@@ -31,13 +32,13 @@ good-term bound term = leb 1 (length term) && (leb (length term) 7 && good-indic
 
 -- How many rows are good before the first bad one.
 unfoldable pub good-rows : ℕ → ℕ → List ℕ → ℕ
-good-rows bound count numbers = leading (good-row bound) (rows-of 8 count numbers)
+good-rows bound count numbers = leading (good-row bound) (rows-of row-width count numbers)
 
 -- Refusals 2, 3 and 4, in this order: "term numbers not a multiple of 8", "T above 2048", "first bad row".
 unfoldable pub checked : ℕ → List ℕ → Checked
 checked modes numbers =
-    cond (not (eqb (length numbers % 8) 0)) (Refused TermNumbers)
-    (cond (not (leb (length numbers / 8) 2048)) (Refused TooManyTerms)
-    (cond (ltb (good-rows (2 * modes) (length numbers / 8) numbers) (length numbers / 8))
-    (Refused (BadRow (good-rows (2 * modes) (length numbers / 8) numbers)))
-    (Good (length numbers / 8))))
+    cond (not (eqb (length numbers % row-width) 0)) (Refused TermNumbers)
+    (cond (not (leb (length numbers / row-width) most-terms)) (Refused TooManyTerms)
+    (cond (ltb (good-rows (2 * modes) (length numbers / row-width) numbers) (length numbers / row-width))
+    (Refused (BadRow (good-rows (2 * modes) (length numbers / row-width) numbers)))
+    (Good (length numbers / row-width))))

@@ -1,6 +1,7 @@
 -- What a call is asked for: "Modes n" and "Terms T", whatever it is lent to work in.
 use mathlib.Core.List.{List}
 use Prim.Native.Nat.{ℕ}
+use Rattle.entities.specs.Limits.{row-width}
 use Rattle.terms.specs.Rows.{terms-of}
 
 -- A job: its modes and its terms.
@@ -10,4 +11,4 @@ pub record Job : Type 0 where
 
 -- The job of the first rows of the numbers.
 abbrev pub job-of : ℕ → ℕ → List ℕ → Job
-job-of modes count numbers = record { modes = modes; terms = terms-of 8 count numbers }
+job-of modes count numbers = record { modes = modes; terms = terms-of row-width count numbers }

@@ -7,6 +7,7 @@ use lib.Dec.{eqb}
 use lib.ListN.{getD, take, drop}
 use Rattle.lists.specs.Counting.{sum, occurrences}
 use Rattle.entities.specs.declared.Triple.{Triple}
+use Rattle.entities.specs.Limits.{row-width}
 use Rattle.terms.specs.Rows.{term}
 
 -- "of the three, count those that occur an odd number of times".
@@ -27,4 +28,4 @@ abbrev pub OddOf : List ℕ → ℕ → ℕ → ℕ → List ℕ → Type 0
 OddOf rows count x y odd =
     (place : ℕ) → place < count
     → getD odd place 0
-    ≡ occurrences x (term (take 8 (drop (8 * place) rows))) % 2 + occurrences y (term (take 8 (drop (8 * place) rows))) % 2
+    ≡ occurrences x (term (take row-width (drop (row-width * place) rows))) % 2 + occurrences y (term (take row-width (drop (row-width * place) rows))) % 2

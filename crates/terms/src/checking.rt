@@ -2,6 +2,7 @@
 ghost use mathlib.Core.Path.{_≡_};
 ghost use Prim.Native.Nat.{_*_, _≤_};
 ghost use lib.ListN.{length, take};
+ghost use Rattle.entities.specs.Limits.{«most-terms», «row-width»};
 ghost use Rattle.terms.specs.Good.{«good-indices», «good-row», «good-rows», checked};
 use crate::row;
 use crate::slices;
@@ -36,7 +37,7 @@ fn good_indices(modes: usize, indices: &[u16]) -> bool
 
 // A length 1 to 7, that many good indices, then zeros.
 fn good_row(modes: usize, numbers: &[u16]) -> bool
-    requires { ⌜ length (now numbers) ≡ 8 ⌝ }
+    requires { ⌜ length (now numbers) ≡ row-width ⌝ }
     ensures { λ r. ⌜ r ≡ good-row (2 * modes) (now (numbers .entry)) ⌝ }
 {
     let count = entities::wide(numbers[0]);
@@ -55,7 +56,7 @@ fn good_row(modes: usize, numbers: &[u16]) -> bool
 
 // How many rows are good before the first bad one.
 fn good_rows(modes: usize, terms: &[u16], count: usize) -> usize
-    requires { ⌜ 8 * count ≤ length (now terms) ⌝ }
+    requires { ⌜ row-width * count ≤ length (now terms) ⌝ }
     ensures { λ r. ⌜ r ≡ good-rows (2 * modes) count (now (terms .entry)) ⌝ }
 {
     let mut place = 0;
@@ -88,8 +89,8 @@ pub fn check_terms(modes: usize, terms: &[u16]) -> Checked
 
 // The terms in an array of the caller's own, at its front; 2048 rows of eight fit.
 pub fn own_copy(terms: &[u16]) -> [u16; 16384]
-    requires { ⌜ length (now terms) ≤ 16384 ⌝ }
-    ensures { λ r. ⌜ (length r ≡ 16384) × (take (length (now (terms .entry))) r ≡ now (terms .entry)) ⌝ }
+    requires { ⌜ length (now terms) ≤ row-width * most-terms ⌝ }
+    ensures { λ r. ⌜ (length r ≡ row-width * most-terms) × (take (length (now (terms .entry))) r ≡ now (terms .entry)) ⌝ }
 {
     let mut own = [0u16; 16384];
     slices::put_front(terms, &mut own);

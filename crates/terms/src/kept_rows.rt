@@ -5,14 +5,15 @@ ghost use Prim.Native.Nat.{_+_, _*_, _≤_, _<_};
 ghost use lib.ListN.{length, getD, set};
 ghost use Rattle.lists.specs.Members.{«some-of», alike};
 ghost use Rattle.lists.specs.Written.{«written-at»};
+ghost use Rattle.entities.specs.Limits.{«row-width»};
 ghost use Rattle.terms.specs.Rows.{Held, term as «term-in», «terms-of»};
-ghost use Rattle.terms.specs.code.Marks.{«mark-of», Marked};
+ghost use Rattle.terms.specs.code.Marks.{«mark-room», «mark-of», Marked};
 use crate::row;
 use crate::slices;
 
 // The term's mark, a number made from its indices: terms with different marks differ.
 fn mark_of(term: &[u16]) -> usize
-    ensures { λ r. ⌜ (r ≡ mark-of 16384 (now (term .entry))) × (r < 16384) ⌝ }
+    ensures { λ r. ⌜ (r ≡ mark-of mark-room (now (term .entry))) × (r < mark-room) ⌝ }
 {
     let mut mark: usize = 0;
     let mut at = 0;
@@ -25,8 +26,8 @@ fn mark_of(term: &[u16]) -> usize
 
 // One of the first rows has this term.
 fn has_term(rows: &[u16], count: usize, term: &[u16]) -> bool
-    requires { ⌜ Held 8 count (now rows) ⌝ }
-    ensures { λ r. ⌜ r ≡ some-of (alike (now (term .entry))) (terms-of 8 count (now (rows .entry))) ⌝ }
+    requires { ⌜ Held row-width count (now rows) ⌝ }
+    ensures { λ r. ⌜ r ≡ some-of (alike (now (term .entry))) (terms-of row-width count (now (rows .entry))) ⌝ }
 {
     let mut place = 0;
     while place < count {
@@ -40,10 +41,10 @@ fn has_term(rows: &[u16], count: usize, term: &[u16]) -> bool
 
 // One of the rows kept has this term. Their marks are set, so a term whose mark is not is none of theirs, and they aren't searched.
 pub fn is_kept<'a>(rows: &'a [u16], kept: usize, marks: &'a [bool], term: &[u16]) -> bool
-    requires { ⌜ Held 8 kept (now rows) ⌝ }
-    requires { ⌜ length (now marks) ≡ 16384 ⌝ }
-    requires { ⌜ Marked 16384 (terms-of 8 kept (now rows)) (now marks) ⌝ }
-    ensures { λ r. ⌜ r ≡ some-of (alike (now (term .entry))) (terms-of 8 kept (now (rows .entry))) ⌝ }
+    requires { ⌜ Held row-width kept (now rows) ⌝ }
+    requires { ⌜ length (now marks) ≡ mark-room ⌝ }
+    requires { ⌜ Marked mark-room (terms-of row-width kept (now rows)) (now marks) ⌝ }
+    ensures { λ r. ⌜ r ≡ some-of (alike (now (term .entry))) (terms-of row-width kept (now (rows .entry))) ⌝ }
 {
     let mark = mark_of(term);
     if !marks[mark] {
@@ -54,9 +55,9 @@ pub fn is_kept<'a>(rows: &'a [u16], kept: usize, marks: &'a [bool], term: &[u16]
 
 // The row written over the one at this place.
 pub fn put_row(rows: &mut [u16], place: usize, row: &[u16])
-    requires { ⌜ length (now row) ≡ 8 ⌝ }
-    requires { ⌜ 8 * place + 8 ≤ length (now rows) ⌝ }
-    ensures { λ r. ⌜ now (rows .exit) ≡ written-at (8 * place) (now (row .entry)) (now (rows .entry)) ⌝ }
+    requires { ⌜ length (now row) ≡ row-width ⌝ }
+    requires { ⌜ row-width * place + row-width ≤ length (now rows) ⌝ }
+    ensures { λ r. ⌜ now (rows .exit) ≡ written-at (row-width * place) (now (row .entry)) (now (rows .entry)) ⌝ }
 {
     let from = 8 * place;
     let end = from + 8;
@@ -65,11 +66,11 @@ pub fn put_row(rows: &mut [u16], place: usize, row: &[u16])
 
 // The row written over the one at this place, and its term's mark set.
 pub fn keep_row(rows: &mut [u16], marks: &mut [bool], place: usize, row: &[u16])
-    requires { ⌜ (length (now row) ≡ 8) × (getD (now row) 0 0 < 8) ⌝ }
-    requires { ⌜ 8 * place + 8 ≤ length (now rows) ⌝ }
-    requires { ⌜ length (now marks) ≡ 16384 ⌝ }
-    ensures { λ r. ⌜ now (rows .exit) ≡ written-at (8 * place) (now (row .entry)) (now (rows .entry)) ⌝ }
-    ensures { λ r. ⌜ now (marks .exit) ≡ set (now (marks .entry)) (mark-of 16384 (term-in (now (row .entry)))) true ⌝ }
+    requires { ⌜ (length (now row) ≡ row-width) × (getD (now row) 0 0 < row-width) ⌝ }
+    requires { ⌜ row-width * place + row-width ≤ length (now rows) ⌝ }
+    requires { ⌜ length (now marks) ≡ mark-room ⌝ }
+    ensures { λ r. ⌜ now (rows .exit) ≡ written-at (row-width * place) (now (row .entry)) (now (rows .entry)) ⌝ }
+    ensures { λ r. ⌜ now (marks .exit) ≡ set (now (marks .entry)) (mark-of mark-room (term-in (now (row .entry)))) true ⌝ }
 {
     let mark = mark_of(row::term_of(row));
     marks[mark] = true;

@@ -1,6 +1,7 @@
 // The rows that are there, one behind the other, for whoever weighs many triples in them.
 ghost use Prim.Native.Nat.{_+_, _*_, _≤_};
 ghost use lib.ListN.{length};
+ghost use Rattle.entities.specs.Limits.{«row-width»};
 ghost use Rattle.terms.specs.Rows.{Held};
 ghost use Rattle.terms.specs.code.Promises.{RowGathered, LiveRows};
 use crate::kept_rows;
@@ -8,7 +9,7 @@ use crate::row;
 
 // The row at this place put behind the first `kept`, where it is there; how many there are then.
 fn gather_row(rows: &[u16], place: usize, live: &mut [u16], kept: usize) -> usize
-    requires { ⌜ (8 * place + 8 ≤ length (now rows)) × (8 * kept + 8 ≤ length (now live)) ⌝ }
+    requires { ⌜ (row-width * place + row-width ≤ length (now rows)) × (row-width * kept + row-width ≤ length (now live)) ⌝ }
     ensures { λ r. ⌜ RowGathered (now (rows .entry)) place kept (now (live .entry)) (now (live .exit)) r ⌝ }
 {
     if rows[8 * place] == 0 {
@@ -20,8 +21,8 @@ fn gather_row(rows: &[u16], place: usize, live: &mut [u16], kept: usize) -> usiz
 
 // Those of the first `count` rows that are there, over the front of the numbers; how many they are.
 pub fn put_live(rows: &[u16], count: usize, live: &mut [u16]) -> usize
-    requires { ⌜ Held 8 count (now rows) ⌝ }
-    requires { ⌜ 8 * count ≤ length (now live) ⌝ }
+    requires { ⌜ Held row-width count (now rows) ⌝ }
+    requires { ⌜ row-width * count ≤ length (now live) ⌝ }
     ensures { λ r. ⌜ LiveRows count (now (rows .entry)) (now (live .exit)) r ⌝ }
 {
     let mut kept = 0;

@@ -2,10 +2,11 @@
 ghost use mathlib.Core.Path.{_≡_};
 ghost use Prim.Native.Nat.{_+_, _<_, min, max};
 ghost use lib.ListN.{length, getD, drop};
+ghost use Rattle.entities.specs.Limits.{«row-width»};
 ghost use Rattle.terms.specs.Rows.{Held, «terms-of»};
 ghost use Rattle.terms.specs.Reduction.{replacement, «put-in», rewriting, stays};
 ghost use Rattle.terms.specs.code.Promises.{Rewritten, RowSettled, RowReduced, Reduced};
-ghost use Rattle.terms.specs.code.Marks.{Marked};
+ghost use Rattle.terms.specs.code.Marks.{«mark-room», Marked};
 use crate::kept_rows;
 use crate::row;
 use crate::slices;
@@ -79,8 +80,8 @@ fn rewrite_row(row: &mut [u16], triple: Triple, parent: u16)
 
 // The row copied aside and the copy rewritten.
 fn rewritten(row: &[u16], triple: Triple, parent: u16) -> [u16; 8]
-    requires { ⌜ (length (now row) ≡ 8) × (getD (now row) 0 0 < 8) ⌝ }
-    ensures { λ r. ⌜ (length r ≡ 8) × Rewritten triple parent (now (row .entry)) r ⌝ }
+    requires { ⌜ (length (now row) ≡ row-width) × (getD (now row) 0 0 < row-width) ⌝ }
+    ensures { λ r. ⌜ (length r ≡ row-width) × Rewritten triple parent (now (row .entry)) r ⌝ }
 {
     let mut aside = [0u16; 8];
     slices::copy(row, &mut aside);
@@ -90,10 +91,10 @@ fn rewritten(row: &[u16], triple: Triple, parent: u16) -> [u16; 8]
 
 // The term is not all parent, and none of the first `count` rows has it.
 fn survives<'a>(rows: &'a [u16], count: usize, marks: &'a [bool], term: &[u16], parent: u16) -> bool
-    requires { ⌜ Held 8 count (now rows) ⌝ }
-    requires { ⌜ length (now marks) ≡ 16384 ⌝ }
-    requires { ⌜ Marked 16384 (terms-of 8 count (now rows)) (now marks) ⌝ }
-    ensures { λ r. ⌜ r ≡ stays parent (terms-of 8 count (now (rows .entry))) (now (term .entry)) ⌝ }
+    requires { ⌜ Held row-width count (now rows) ⌝ }
+    requires { ⌜ length (now marks) ≡ mark-room ⌝ }
+    requires { ⌜ Marked mark-room (terms-of row-width count (now rows)) (now marks) ⌝ }
+    ensures { λ r. ⌜ r ≡ stays parent (terms-of row-width count (now (rows .entry))) (now (term .entry)) ⌝ }
 {
     if slices::all_are(term, parent) {
         return false;
@@ -109,9 +110,9 @@ fn settled_row<'a>(
     triple: Triple,
     parent: u16,
 ) -> [u16; 8]
-    requires { ⌜ Held 8 (place + 1) (now rows) ⌝ }
-    requires { ⌜ length (now marks) ≡ 16384 ⌝ }
-    requires { ⌜ Marked 16384 (terms-of 8 place (now rows)) (now marks) ⌝ }
+    requires { ⌜ Held row-width (place + 1) (now rows) ⌝ }
+    requires { ⌜ length (now marks) ≡ mark-room ⌝ }
+    requires { ⌜ Marked mark-room (terms-of row-width place (now rows)) (now marks) ⌝ }
     ensures { λ r. ⌜ RowSettled triple parent place (now (rows .entry)) r ⌝ }
 {
     let aside = rewritten(row::row_at(rows, place), triple, parent);
@@ -123,11 +124,11 @@ fn settled_row<'a>(
 
 // The row at this place reduced where it stands, and the mark of what it becomes set.
 fn reduce_row(rows: &mut [u16], marks: &mut [bool], place: usize, triple: Triple, parent: u16)
-    requires { ⌜ Held 8 (place + 1) (now rows) ⌝ }
-    requires { ⌜ length (now marks) ≡ 16384 ⌝ }
-    requires { ⌜ Marked 16384 (terms-of 8 place (now rows)) (now marks) ⌝ }
+    requires { ⌜ Held row-width (place + 1) (now rows) ⌝ }
+    requires { ⌜ length (now marks) ≡ mark-room ⌝ }
+    requires { ⌜ Marked mark-room (terms-of row-width place (now rows)) (now marks) ⌝ }
     ensures { λ r. ⌜ RowReduced triple parent place (now (rows .entry)) (now (rows .exit)) ⌝ }
-    ensures { λ r. ⌜ Marked 16384 (terms-of 8 (place + 1) (now (rows .exit))) (now (marks .exit)) ⌝ }
+    ensures { λ r. ⌜ Marked mark-room (terms-of row-width (place + 1) (now (rows .exit))) (now (marks .exit)) ⌝ }
 {
     // a row that is gone stays gone; the empty term's mark is 0
     if rows[8 * place] == 0 {
@@ -140,7 +141,7 @@ fn reduce_row(rows: &mut [u16], marks: &mut [bool], place: usize, triple: Triple
 
 // The first rows reduced to the parent, each where it stands; a row that is dropped or merged is zeros there.
 pub fn reduce_hamiltonian(rows: &mut [u16], count: usize, parent: u16, selection: Triple)
-    requires { ⌜ Held 8 count (now rows) ⌝ }
+    requires { ⌜ Held row-width count (now rows) ⌝ }
     ensures { λ r. ⌜ Reduced selection parent count (now (rows .entry)) (now (rows .exit)) ⌝ }
 {
     // no row is passed yet, so no mark is set

@@ -2,12 +2,13 @@
 ghost use mathlib.Core.Path.{_≡_};
 ghost use Prim.Native.Nat.{_+_, _*_, _≤_, _<_};
 ghost use lib.ListN.{length, getD, take, drop};
+ghost use Rattle.entities.specs.Limits.{«row-width»};
 ghost use Rattle.terms.specs.Rows.{term};
 
 // The row at this place of rows that stand one after the other.
 pub fn row_at(rows: &[u16], place: usize) -> &[u16]
-    requires { ⌜ 8 * place + 8 ≤ length (now rows) ⌝ }
-    ensures { λ r. ⌜ now r ≡ take 8 (drop (8 * place) (now (rows .entry))) ⌝ }
+    requires { ⌜ row-width * place + row-width ≤ length (now rows) ⌝ }
+    ensures { λ r. ⌜ now r ≡ take row-width (drop (row-width * place) (now (rows .entry))) ⌝ }
 {
     let from = 8 * place;
     let end = from + 8;
@@ -25,8 +26,8 @@ pub fn term_of(row: &[u16]) -> &[u16]
 
 // The term of the row at this place.
 pub fn term_at(rows: &[u16], place: usize) -> &[u16]
-    requires { ⌜ (8 * place + 8 ≤ length (now rows)) × (getD (now rows) (8 * place) 0 < 8) ⌝ }
-    ensures { λ r. ⌜ now r ≡ term (take 8 (drop (8 * place) (now (rows .entry)))) ⌝ }
+    requires { ⌜ (row-width * place + row-width ≤ length (now rows)) × (getD (now rows) (row-width * place) 0 < row-width) ⌝ }
+    ensures { λ r. ⌜ now r ≡ term (take row-width (drop (row-width * place) (now (rows .entry)))) ⌝ }
 {
     term_of(row_at(rows, place))
 }

@@ -3,6 +3,7 @@ ghost use mathlib.Core.Path.{_≡_};
 ghost use Prim.Native.Nat.{_%_, _≤_};
 ghost use lib.ListN.{length};
 ghost use Rattle.lists.specs.Counting.{same as «one-if-same», occurrences};
+ghost use Rattle.entities.specs.Limits.{«row-width»};
 ghost use Rattle.terms.specs.Rows.{Held, «terms-of»};
 ghost use Rattle.terms.specs.Weight.{OddOf, «term-weight», «weight-of»};
 use crate::row;
@@ -37,8 +38,8 @@ pub fn qubit_term_weight(term: &[u16], triple: Triple) -> usize
 
 // The sum of the triple's weights in the first `count` rows.
 pub fn weight(rows: &[u16], count: usize, triple: Triple) -> usize
-    requires { ⌜ Held 8 count (now rows) ⌝ }
-    ensures { λ r. ⌜ (r ≡ weight-of triple (terms-of 8 count (now (rows .entry)))) × (r ≤ count) ⌝ }
+    requires { ⌜ Held row-width count (now rows) ⌝ }
+    ensures { λ r. ⌜ (r ≡ weight-of triple (terms-of row-width count (now (rows .entry)))) × (r ≤ count) ⌝ }
 {
     let mut sum: usize = 0;
     let mut place = 0;
@@ -64,7 +65,7 @@ fn odd_in(term: &[u16], number: u16) -> usize
 
 // For each row, how many of x and y occur in it an odd number of times.
 pub fn count_odd(rows: &[u16], count: usize, x: u16, y: u16, odd: &mut [u8])
-    requires { ⌜ Held 8 count (now rows) ⌝ }
+    requires { ⌜ Held row-width count (now rows) ⌝ }
     requires { ⌜ count ≤ length (now odd) ⌝ }
     ensures { λ r. ⌜ OddOf (now (rows .entry)) count x y (now (odd .exit)) ⌝ }
 {
@@ -78,10 +79,10 @@ pub fn count_odd(rows: &[u16], count: usize, x: u16, y: u16, odd: &mut [u8])
 
 // The weight of the triple, where it is known how many of its x and y are odd in each row.
 pub fn weight_beside<'a>(rows: &'a [u16], count: usize, odd: &'a [u8], triple: Triple) -> usize
-    requires { ⌜ Held 8 count (now rows) ⌝ }
+    requires { ⌜ Held row-width count (now rows) ⌝ }
     requires { ⌜ count ≤ length (now odd) ⌝ }
     requires { ⌜ OddOf (now rows) count (triple .x) (triple .y) (now odd) ⌝ }
-    ensures { λ r. ⌜ (r ≡ weight-of triple (terms-of 8 count (now (rows .entry)))) × (r ≤ count) ⌝ }
+    ensures { λ r. ⌜ (r ≡ weight-of triple (terms-of row-width count (now (rows .entry)))) × (r ≤ count) ⌝ }
 {
     let mut sum: usize = 0;
     let mut place = 0;

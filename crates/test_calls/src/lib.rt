@@ -1,4 +1,5 @@
 // What the tests call from Rust: the calls `resume`, `assign` and the Newick calls, one merge of rows, and what the tree calls answer.
+ghost use Rattle.entities.specs.Limits.{«row-width»};
 ghost use Rattle.terms.specs.Rows.{Held};
 use entities::Triple;
 use journal::resuming;
@@ -35,7 +36,7 @@ pub extern "C" fn test_merge(
 
 // The same, of so many rows.
 fn put_merge(rows: &mut [u16], count: usize, triple: Triple, parent: u16, answer: &mut [u64])
-    requires { ⌜ Held 8 count (now rows) ⌝ }
+    requires { ⌜ Held row-width count (now rows) ⌝ }
 {
     let weighed = weight::weight(rows, count, triple);
     reduction::reduce_hamiltonian(rows, count, parent, triple);

@@ -3,6 +3,7 @@ use mathlib.Core.List.{List}
 use Prim.Native.Nat.{ℕ, _+_, _*_}
 use Rattle.refusal.specs.declared.Refusal.{Refusal}
 use Rattle.refusal.specs.declared.Refusal.the-variants.{Malformed}
+use Rattle.entities.specs.Limits.{most-modes, most-terms, row-width}
 use Rattle.journal.specs.Resuming.{Outcome, done, refuses, hatt-run, Rooms as RunRooms}
 use Rattle.text.specs.Input.{Said, given, malformed, said}
 
@@ -23,7 +24,7 @@ pub record Rooms : Type 0 where
 -- "Modes n: 1 to 256. … Terms T: 0 to 2048"; "Room: work 8T numbers; rows 4n; … journal bytes 16 + 21n."
 abbrev pub program-rooms : Rooms
 program-rooms =
-    record { terms = 2048; run = record { modes = 256; work = 8 * 2048; rows = 4 * 256; journal = 16 + 21 * 256 } }
+    record { terms = most-terms; run = record { modes = most-modes; work = row-width * most-terms; rows = 4 * most-modes; journal = 16 + 21 * most-modes } }
 
 -- 18 is "before any other number".
 unfoldable pub ran-by : Rooms → Said → Ended

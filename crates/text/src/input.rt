@@ -3,6 +3,7 @@ ghost use mathlib.Core.Path.{_≡_};
 ghost use mathlib.Core.List.{_∷_};
 ghost use Prim.Native.Nat.{_+_, _*_, _≤_, _<_};
 ghost use lib.ListN.{length, replicate};
+ghost use Rattle.entities.specs.Limits.{«most-terms», «row-width»};
 ghost use Rattle.text.specs.Input.{said};
 ghost use Rattle.text.specs.code.Reading.{«modes-said», IndicesRead, TermRead, TermPut, TermsRead, Reads};
 use fields::lines;
@@ -40,7 +41,7 @@ fn read_modes(line: &[u8]) -> Modes
 
 // A row's count of indices, and zeros behind it.
 fn begin_row(row: &mut [u16], count: usize)
-    requires { ⌜ (count ≤ 7) × (length (now row) ≡ 8) ⌝ }
+    requires { ⌜ (count ≤ 7) × (length (now row) ≡ row-width) ⌝ }
     ensures { λ r. ⌜ now (row .exit) ≡ count ∷ replicate 7 0 ⌝ }
 {
     slices::fill(row, 0);
@@ -49,7 +50,7 @@ fn begin_row(row: &mut [u16], count: usize)
 
 // A line's so many indices read into a row: their count, the indices, and zeros.
 fn read_indices(line: &[u8], count: usize, row: &mut [u16]) -> bool
-    requires { ⌜ (count ≤ 7) × (length (now row) ≡ 8) ⌝ }
+    requires { ⌜ (count ≤ 7) × (length (now row) ≡ row-width) ⌝ }
     ensures { λ r. ⌜ IndicesRead (now (line .entry)) count (now (row .exit)) r ⌝ }
 {
     begin_row(row, count);
@@ -59,7 +60,7 @@ fn read_indices(line: &[u8], count: usize, row: &mut [u16]) -> bool
 
 // The row of the term that a line, LF included, says.
 fn read_term(line: &[u8], row: &mut [u16]) -> bool
-    requires { ⌜ length (now row) ≡ 8 ⌝ }
+    requires { ⌜ length (now row) ≡ row-width ⌝ }
     ensures { λ r. ⌜ TermRead (now (line .entry)) (now (row .exit)) r ⌝ }
 {
     if line.len() == 0 {
@@ -79,8 +80,8 @@ fn read_term(line: &[u8], row: &mut [u16]) -> bool
 
 // The row of a line put behind so many rows.
 fn put_term(line: &[u8], numbers: &mut [u16], count: usize) -> bool
-    requires { ⌜ 8 * count + 8 ≤ length (now numbers) ⌝ }
-    ensures { λ r. ⌜ TermPut (now (line .entry)) (8 * count) (now (numbers .entry)) (now (numbers .exit)) r ⌝ }
+    requires { ⌜ row-width * count + row-width ≤ length (now numbers) ⌝ }
+    ensures { λ r. ⌜ TermPut (now (line .entry)) (row-width * count) (now (numbers .entry)) (now (numbers .exit)) r ⌝ }
 {
     let from = 8 * count;
     let end = from + 8;
@@ -89,8 +90,8 @@ fn put_term(line: &[u8], numbers: &mut [u16], count: usize) -> bool
 
 // The rows of the lines behind the first one, at most 2048.
 fn read_terms(text: &[u8], numbers: &mut [u16]) -> Terms
-    requires { ⌜ length (now numbers) ≡ 16384 ⌝ }
-    ensures { λ r. ⌜ TermsRead 2048 (now (text .entry)) (now (numbers .exit)) r ⌝ }
+    requires { ⌜ length (now numbers) ≡ row-width * most-terms ⌝ }
+    ensures { λ r. ⌜ TermsRead most-terms (now (text .entry)) (now (numbers .exit)) r ⌝ }
 {
     let mut at = 0;
     let mut count = 0;
@@ -122,8 +123,8 @@ fn read_terms(text: &[u8], numbers: &mut [u16]) -> Terms
 
 // What a text says, its terms' rows put over the front of the numbers.
 pub fn read_input(text: &[u8], numbers: &mut [u16]) -> Said
-    requires { ⌜ length (now numbers) ≡ 16384 ⌝ }
-    ensures { λ r. ⌜ Reads 2048 (said 2048 (now (text .entry))) (now (numbers .exit)) r ⌝ }
+    requires { ⌜ length (now numbers) ≡ row-width * most-terms ⌝ }
+    ensures { λ r. ⌜ Reads most-terms (said most-terms (now (text .entry))) (now (numbers .exit)) r ⌝ }
 {
     let start = lines::line_end(text, 0);
     let Modes::Are(modes) = read_modes(&text[..start]) else {

@@ -1,7 +1,8 @@
 // The program's text: its input read and its answer printed, from bytes to bytes.
 ghost use mathlib.Core.Path.{_≡_};
-ghost use Prim.Native.Nat.{_≤_};
+ghost use Prim.Native.Nat.{_*_, _≤_};
 ghost use lib.ListN.{length, take};
+ghost use Rattle.entities.specs.Limits.{«most-modes»};
 ghost use Rattle.text.specs.Running.{«program-rooms»};
 ghost use Rattle.text.specs.Output.{«answer-text»};
 
@@ -20,7 +21,7 @@ pub struct Printed {
 
 // The answer to a text printed over the front, in lent room for its rows; how many bytes that is.
 fn print_answer(input: &[u8], rows: &mut [u16], out: &mut [u8]) -> usize
-    requires { ⌜ (length (now rows) ≡ 1024) × (length (now out) ≡ 8192) ⌝ }
+    requires { ⌜ (length (now rows) ≡ 4 * most-modes) × (length (now out) ≡ 8192) ⌝ }
     ensures { λ r. ⌜ (take r (now (out .exit)) ≡ answer-text program-rooms (now (input .entry))) × (r ≤ 8192) ⌝ }
 {
     match running::run_text(input, rows) {

@@ -2,6 +2,7 @@
 ghost use mathlib.Core.Path.{_≡_};
 ghost use Prim.Native.Nat.{_*_, _≤_};
 ghost use lib.ListN.{length, take};
+ghost use Rattle.entities.specs.Limits.{«most-modes»};
 ghost use Rattle.tree.specs.Laying.{laid};
 ghost use Rattle.newick.specs.Writing.{«newick-text»};
 ghost use Rattle.newick.specs.Calls.{«newick-written», «text-after»};
@@ -18,7 +19,7 @@ use tree::laying;
 // A tree's text written over the front, with room for a byte behind it.
 fn write_text(out: &mut [u8], modes: usize, tree: &[u16]) -> NewickWritten
     requires { ⌜ length (now out) ≡ 8192 ⌝ }
-    ensures { λ r. ⌜ r ≡ newick-written 256 modes (now (tree .entry)) 8191 ⌝ }
+    ensures { λ r. ⌜ r ≡ newick-written most-modes modes (now (tree .entry)) 8191 ⌝ }
     ensures { λ r. ⌜ now (out .exit) ≡ text-after r (newick-text modes (now (tree .entry))) (now (out .entry)) ⌝ }
 {
     writing::write_newick(modes, tree, &mut out[..8191])
@@ -27,7 +28,7 @@ fn write_text(out: &mut [u8], modes: usize, tree: &[u16]) -> NewickWritten
 // A tree's line printed over the front; how many bytes that is.
 fn put_line(out: &mut [u8], modes: usize, tree: &[u16]) -> usize
     requires { ⌜ length (now out) ≡ 8192 ⌝ }
-    ensures { λ r. ⌜ (take r (now (out .exit)) ≡ table-line 256 8191 modes (now (tree .entry))) × (r ≤ 8192) ⌝ }
+    ensures { λ r. ⌜ (take r (now (out .exit)) ≡ table-line most-modes 8191 modes (now (tree .entry))) × (r ≤ 8192) ⌝ }
 {
     match write_text(out, modes, tree) {
         NewickWritten::Unwritten(refusal) => output::put_refusal(out, refusal),
@@ -41,7 +42,7 @@ fn put_line(out: &mut [u8], modes: usize, tree: &[u16]) -> usize
 // The line of rows, laid out in a lent table of their size.
 fn put_laid(out: &mut [u8], modes: usize, rows: &[u16], table: &mut [u16]) -> usize
     requires { ⌜ (length (now out) ≡ 8192) × (length (now table) ≡ 3 * modes) ⌝ }
-    ensures { λ r. ⌜ (take r (now (out .exit)) ≡ table-line 256 8191 modes (laid modes (now (rows .entry)))) × (r ≤ 8192) ⌝ }
+    ensures { λ r. ⌜ (take r (now (out .exit)) ≡ table-line most-modes 8191 modes (laid modes (now (rows .entry)))) × (r ≤ 8192) ⌝ }
 {
     laying::lay_rows(rows, table);
     put_line(out, modes, table)
@@ -49,8 +50,8 @@ fn put_laid(out: &mut [u8], modes: usize, rows: &[u16], table: &mut [u16]) -> us
 
 // The same in the front of a lent table for any.
 fn put_rows(out: &mut [u8], modes: usize, rows: &[u16], table: &mut [u16]) -> usize
-    requires { ⌜ (length (now out) ≡ 8192) × (modes ≤ 256) × (length (now table) ≡ 768) ⌝ }
-    ensures { λ r. ⌜ (take r (now (out .exit)) ≡ table-line 256 8191 modes (laid modes (now (rows .entry)))) × (r ≤ 8192) ⌝ }
+    requires { ⌜ (length (now out) ≡ 8192) × (modes ≤ most-modes) × (length (now table) ≡ 3 * most-modes) ⌝ }
+    ensures { λ r. ⌜ (take r (now (out .exit)) ≡ table-line most-modes 8191 modes (laid modes (now (rows .entry)))) × (r ≤ 8192) ⌝ }
 {
     let end = 3 * modes;
     put_laid(out, modes, rows, &mut table[..end])
@@ -58,7 +59,7 @@ fn put_rows(out: &mut [u8], modes: usize, rows: &[u16], table: &mut [u16]) -> us
 
 // The answer to a text printed over the front, in lent room for its rows and its table; how many bytes that is.
 fn print_newick(input: &[u8], rows: &mut [u16], table: &mut [u16], out: &mut [u8]) -> usize
-    requires { ⌜ (length (now rows) ≡ 1024) × (length (now table) ≡ 768) × (length (now out) ≡ 8192) ⌝ }
+    requires { ⌜ (length (now rows) ≡ 4 * most-modes) × (length (now table) ≡ 3 * most-modes) × (length (now out) ≡ 8192) ⌝ }
     ensures { λ r. ⌜ (take r (now (out .exit)) ≡ newick-answer-text program-rooms 8191 (now (input .entry))) × (r ≤ 8192) ⌝ }
 {
     match running::run_text(input, rows) {

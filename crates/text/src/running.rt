@@ -1,6 +1,8 @@
 // A program's text read and its run made, for whatever is printed of it.
 ghost use mathlib.Core.Path.{_≡_};
+ghost use Prim.Native.Nat.{_+_, _*_};
 ghost use lib.ListN.{length};
+ghost use Rattle.entities.specs.Limits.{«most-modes», «most-terms», «row-width»};
 ghost use Rattle.text.specs.Input.{given};
 ghost use Rattle.text.specs.code.Runs.{Runs};
 ghost use Rattle.text.specs.Running.{«program-rooms», «ran-by», ran};
@@ -24,8 +26,8 @@ fn run_terms(
     rows: &mut [u16],
     journal: &mut [u8],
 ) -> Ran
-    requires { ⌜ (length (now work) ≡ 16384) × (length (now rows) ≡ 1024) × (length (now journal) ≡ 5392) ⌝ }
-    ensures { λ r. ⌜ Runs 256 (ran-by program-rooms (given modes (now (numbers .entry)))) (now (rows .exit)) r ⌝ }
+    requires { ⌜ (length (now work) ≡ row-width * most-terms) × (length (now rows) ≡ 4 * most-modes) × (length (now journal) ≡ 16 + 21 * most-modes) ⌝ }
+    ensures { λ r. ⌜ Runs most-modes (ran-by program-rooms (given modes (now (numbers .entry)))) (now (rows .exit)) r ⌝ }
 {
     match resuming::hatt(modes, numbers, work, rows, journal) {
         Answer::Refused(refusal) => Ran::Refused(refusal),
@@ -35,8 +37,8 @@ fn run_terms(
 
 // The same with work and journal of its own.
 fn run_given(modes: usize, numbers: &[u16], rows: &mut [u16]) -> Ran
-    requires { ⌜ length (now rows) ≡ 1024 ⌝ }
-    ensures { λ r. ⌜ Runs 256 (ran-by program-rooms (given modes (now (numbers .entry)))) (now (rows .exit)) r ⌝ }
+    requires { ⌜ length (now rows) ≡ 4 * most-modes ⌝ }
+    ensures { λ r. ⌜ Runs most-modes (ran-by program-rooms (given modes (now (numbers .entry)))) (now (rows .exit)) r ⌝ }
 {
     let mut work = [0u16; 16384];
     let mut journal = [0u8; 5392];
@@ -45,8 +47,8 @@ fn run_given(modes: usize, numbers: &[u16], rows: &mut [u16]) -> Ran
 
 // The run that a text asks for, in lent room for its terms.
 fn run_read(input: &[u8], numbers: &mut [u16], rows: &mut [u16]) -> Ran
-    requires { ⌜ (length (now numbers) ≡ 16384) × (length (now rows) ≡ 1024) ⌝ }
-    ensures { λ r. ⌜ Runs 256 (ran program-rooms (now (input .entry))) (now (rows .exit)) r ⌝ }
+    requires { ⌜ (length (now numbers) ≡ row-width * most-terms) × (length (now rows) ≡ 4 * most-modes) ⌝ }
+    ensures { λ r. ⌜ Runs most-modes (ran program-rooms (now (input .entry))) (now (rows .exit)) r ⌝ }
 {
     match input::read_input(input, numbers) {
         Said::Malformed(line) => Ran::Refused(Refusal::Malformed(line)),
@@ -59,8 +61,8 @@ fn run_read(input: &[u8], numbers: &mut [u16], rows: &mut [u16]) -> Ran
 
 // The run that a text asks for, its rows put over the front of the lent ones.
 pub fn run_text(input: &[u8], rows: &mut [u16]) -> Ran
-    requires { ⌜ length (now rows) ≡ 1024 ⌝ }
-    ensures { λ r. ⌜ Runs 256 (ran program-rooms (now (input .entry))) (now (rows .exit)) r ⌝ }
+    requires { ⌜ length (now rows) ≡ 4 * most-modes ⌝ }
+    ensures { λ r. ⌜ Runs most-modes (ran program-rooms (now (input .entry))) (now (rows .exit)) r ⌝ }
 {
     let mut numbers = [0u16; 16384];
     run_read(input, &mut numbers, rows)

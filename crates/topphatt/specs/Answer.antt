@@ -7,6 +7,7 @@ use lib.ListN.{length}
 use Rattle.refusal.specs.declared.Refusal.{Refusal}
 use Rattle.refusal.specs.declared.Refusal.the-variants.{Room, Heuristic}
 use Rattle.entities.specs.Codes.{code}
+use Rattle.entities.specs.Limits.{row-width}
 use Rattle.terms.specs.Job.{job-of}
 use Rattle.terms.specs.Good.{checked}
 use Rattle.terms.specs.declared.checking.Checked.{Checked}
@@ -55,7 +56,7 @@ done-by task =
 -- 5: "any buffer below its room": "work 8T numbers; … assignment tables 3n".
 unfoldable pub with-room : Rooms → Task → Outcome
 with-room rooms task =
-    cond (not (leb (8 * length (task .job .terms)) (rooms .work) && leb (3 * task .job .modes) (rooms .table))) (refused Room) (done-by task)
+    cond (not (leb (row-width * length (task .job .terms)) (rooms .work) && leb (3 * task .job .modes) (rooms .table))) (refused Room) (done-by task)
 
 -- 2, 3, 4 of the terms.
 unfoldable pub with-terms : Rooms → Asked → Checked → Outcome

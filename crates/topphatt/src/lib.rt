@@ -4,6 +4,7 @@ ghost use Prim.Native.Nat.{_*_, _≤_, _<_};
 ghost use lib.ListN.{length, replicate};
 ghost use Rattle.lists.specs.Written.{«written-at»};
 ghost use Rattle.entities.specs.Codes.{code};
+ghost use Rattle.entities.specs.Limits.{«most-modes», «most-terms», «row-width»};
 ghost use Rattle.terms.specs.Rows.{Held, «terms-of»};
 ghost use Rattle.terms.specs.Good.{checked};
 ghost use Rattle.slots.specs.Slots.{«slot-of»};
@@ -30,7 +31,7 @@ pub enum Assigned {
 
 // The code of the slot that stands where the given tree has this code.
 fn answer_code(modes: usize, assigned: &[u16], given: u16) -> u16
-    requires { ⌜ (modes ≤ 256) × (length (now assigned) ≡ modes) ⌝ }
+    requires { ⌜ (modes ≤ most-modes) × (length (now assigned) ≡ modes) ⌝ }
     ensures { λ r. ⌜ r ≡ code modes (2 * modes) (slot-of modes (now (assigned .entry)) given) ⌝ }
 {
     let slot = slots::slot_of(modes, assigned, entities::wide(given));
@@ -39,7 +40,7 @@ fn answer_code(modes: usize, assigned: &[u16], given: u16) -> u16
 
 // The codes of the slots, where the given tree has its own, into the front of the table.
 fn write_table(modes: usize, tree: &[u16], assigned: &[u16], table: &mut [u16])
-    requires { ⌜ (modes ≤ 256) × (length (now assigned) ≡ modes) × (length (now tree) ≤ length (now table)) ⌝ }
+    requires { ⌜ (modes ≤ most-modes) × (length (now assigned) ≡ modes) × (length (now tree) ≤ length (now table)) ⌝ }
     ensures { λ r. ⌜ now (table .exit) ≡ written-at 0 (answer-table modes (now (assigned .entry)) (now (tree .entry))) (now (table .entry)) ⌝ }
 {
     let mut at = 0;
@@ -60,10 +61,10 @@ fn assign_pairs<'a>(
     assigned: &mut [u16],
     table: &mut [u16],
 ) -> usize
-    requires { ⌜ (1 ≤ modes) × (modes ≤ 256) × (count ≤ 2048) × (length (now tree) ≡ 3 * modes) × (now assigned ≡ replicate modes modes) × (3 * modes ≤ length (now table)) ⌝ }
+    requires { ⌜ (1 ≤ modes) × (modes ≤ most-modes) × (count ≤ most-terms) × (length (now tree) ≡ 3 * modes) × (now assigned ≡ replicate modes modes) × (3 * modes ≤ length (now table)) ⌝ }
     requires { ⌜ Distances modes (now tree) (now distances) ⌝ }
-    requires { ⌜ Held 8 count (now rows) ⌝ }
-    ensures { λ r. ⌜ Tabled modes count (now (tree .entry)) (ended (task-with modes (now (tree .entry)) heuristic (terms-of 8 count (now (rows .entry))))) (now (rows .entry)) (now (table .entry)) (now (rows .exit)) (now (table .exit)) r ⌝ }
+    requires { ⌜ Held row-width count (now rows) ⌝ }
+    ensures { λ r. ⌜ Tabled modes count (now (tree .entry)) (ended (task-with modes (now (tree .entry)) heuristic (terms-of row-width count (now (rows .entry))))) (now (rows .entry)) (now (table .entry)) (now (rows .exit)) (now (table .exit)) r ⌝ }
 {
     let weight = rounds::topphatt(modes, tree, distances, heuristic, rows, count, assigned);
     write_table(modes, tree, assigned, table);
@@ -79,9 +80,9 @@ fn assign_rows(
     count: usize,
     table: &mut [u16],
 ) -> usize
-    requires { ⌜ (1 ≤ modes) × (modes ≤ 256) × (count ≤ 2048) × (length (now tree) ≡ 3 * modes) × (3 * modes ≤ length (now table)) ⌝ }
-    requires { ⌜ Held 8 count (now rows) ⌝ }
-    ensures { λ r. ⌜ Tabled modes count (now (tree .entry)) (ended (task-with modes (now (tree .entry)) heuristic (terms-of 8 count (now (rows .entry))))) (now (rows .entry)) (now (table .entry)) (now (rows .exit)) (now (table .exit)) r ⌝ }
+    requires { ⌜ (1 ≤ modes) × (modes ≤ most-modes) × (count ≤ most-terms) × (length (now tree) ≡ 3 * modes) × (3 * modes ≤ length (now table)) ⌝ }
+    requires { ⌜ Held row-width count (now rows) ⌝ }
+    ensures { λ r. ⌜ Tabled modes count (now (tree .entry)) (ended (task-with modes (now (tree .entry)) heuristic (terms-of row-width count (now (rows .entry))))) (now (rows .entry)) (now (table .entry)) (now (rows .exit)) (now (table .exit)) r ⌝ }
 {
     let mut distances = [0usize; 256];
     nodes::fill_distances(modes, tree, &mut distances);
@@ -108,10 +109,10 @@ fn assign_in(
     work: &mut [u16],
     table: &mut [u16],
 ) -> Assigned
-    requires { ⌜ (1 ≤ modes) × (modes ≤ 256) × (count ≤ 2048) × (length (now tree) ≡ 3 * modes) ⌝ }
-    requires { ⌜ (length (now terms) ≡ 8 * count) × Held 8 count (now terms) ⌝ }
-    requires { ⌜ (8 * count ≤ length (now work)) × (3 * modes ≤ length (now table)) ⌝ }
-    ensures { λ r. ⌜ Assigns (λ given. done-by (task-with modes (now (tree .entry)) heuristic (terms-of 8 count (now (terms .entry))))) (lent (now (work .entry)) (now (table .entry))) (lent (now (work .exit)) (now (table .exit))) r ⌝ }
+    requires { ⌜ (1 ≤ modes) × (modes ≤ most-modes) × (count ≤ most-terms) × (length (now tree) ≡ 3 * modes) ⌝ }
+    requires { ⌜ (length (now terms) ≡ row-width * count) × Held row-width count (now terms) ⌝ }
+    requires { ⌜ (row-width * count ≤ length (now work)) × (3 * modes ≤ length (now table)) ⌝ }
+    ensures { λ r. ⌜ Assigns (λ given. done-by (task-with modes (now (tree .entry)) heuristic (terms-of row-width count (now (terms .entry))))) (lent (now (work .entry)) (now (table .entry))) (lent (now (work .exit)) (now (table .exit))) r ⌝ }
 {
     slices::put_front(terms, work);
     let weight = assign_rows(modes, tree, heuristic, work, count, table);
@@ -129,9 +130,9 @@ fn assign_good(
     work: &mut [u16],
     table: &mut [u16],
 ) -> Assigned
-    requires { ⌜ (1 ≤ modes) × (modes ≤ 256) × (count ≤ 2048) × (length (now tree) ≡ 3 * modes) ⌝ }
-    requires { ⌜ (length (now terms) ≡ 8 * count) × Held 8 count (now terms) ⌝ }
-    ensures { λ r. ⌜ Assigns (λ given. with-room (rooms-of 256 given) (task-of (asked modes (now (tree .entry)) heuristic (now (terms .entry))) count)) (lent (now (work .entry)) (now (table .entry))) (lent (now (work .exit)) (now (table .exit))) r ⌝ }
+    requires { ⌜ (1 ≤ modes) × (modes ≤ most-modes) × (count ≤ most-terms) × (length (now tree) ≡ 3 * modes) ⌝ }
+    requires { ⌜ (length (now terms) ≡ row-width * count) × Held row-width count (now terms) ⌝ }
+    ensures { λ r. ⌜ Assigns (λ given. with-room (rooms-of most-modes given) (task-of (asked modes (now (tree .entry)) heuristic (now (terms .entry))) count)) (lent (now (work .entry)) (now (table .entry))) (lent (now (work .exit)) (now (table .exit))) r ⌝ }
 {
     if work.len() < 8 * count {
         return Assigned::Unassigned(Refusal::Room);
@@ -151,8 +152,8 @@ fn assign_accepted(
     work: &mut [u16],
     table: &mut [u16],
 ) -> Assigned
-    requires { ⌜ (1 ≤ modes) × (modes ≤ 256) × (length (now tree) ≡ 3 * modes) ⌝ }
-    ensures { λ r. ⌜ Assigns (λ given. with-terms (rooms-of 256 given) (asked modes (now (tree .entry)) heuristic (now (terms .entry))) (checked modes (now (terms .entry)))) (lent (now (work .entry)) (now (table .entry))) (lent (now (work .exit)) (now (table .exit))) r ⌝ }
+    requires { ⌜ (1 ≤ modes) × (modes ≤ most-modes) × (length (now tree) ≡ 3 * modes) ⌝ }
+    ensures { λ r. ⌜ Assigns (λ given. with-terms (rooms-of most-modes given) (asked modes (now (tree .entry)) heuristic (now (terms .entry))) (checked modes (now (terms .entry)))) (lent (now (work .entry)) (now (table .entry))) (lent (now (work .exit)) (now (table .exit))) r ⌝ }
 {
     match checking::check_terms(modes, terms) {
         Checked::Refused(refusal) => Assigned::Unassigned(refusal),
@@ -169,7 +170,7 @@ pub fn assign(
     work: &mut [u16],
     table: &mut [u16],
 ) -> Assigned
-    ensures { λ r. ⌜ Assigns (λ given. outcome (rooms-of 256 given) (asked modes (now (tree .entry)) heuristic (now (terms .entry)))) (lent (now (work .entry)) (now (table .entry))) (lent (now (work .exit)) (now (table .exit))) r ⌝ }
+    ensures { λ r. ⌜ Assigns (λ given. outcome (rooms-of most-modes given) (asked modes (now (tree .entry)) heuristic (now (terms .entry)))) (lent (now (work .entry)) (now (table .entry))) (lent (now (work .exit)) (now (table .exit))) r ⌝ }
 {
     match tree::check_tree(modes, tree) {
         TreeChecked::Refused(refusal) => Assigned::Unassigned(refusal),

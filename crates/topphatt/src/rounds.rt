@@ -3,6 +3,7 @@ ghost use mathlib.Core.Path.{_≡_};
 ghost use Prim.Native.Nat.{_+_, _*_, _≤_, _<_};
 ghost use lib.Dec.{eqb};
 ghost use lib.ListN.{length, replicate};
+ghost use Rattle.entities.specs.Limits.{«most-modes», «most-terms», «row-width»};
 ghost use Rattle.terms.specs.Rows.{Held, «terms-of»};
 ghost use Rattle.terms.specs.Weight.{«weight-of»};
 ghost use Rattle.slots.specs.code.Promises.{Distances};
@@ -28,7 +29,7 @@ pub struct Progress {
 
 // A leaf that isn't fixed yet is fixed as this number: its pair gets the number's mode.
 fn fix(modes: usize, tree: &[u16], node: usize, edge: usize, number: u16, assigned: &mut [u16])
-    requires { ⌜ (modes ≤ 256) × (length (now assigned) ≡ modes) × (3 * node + edge < length (now tree)) ⌝ }
+    requires { ⌜ (modes ≤ most-modes) × (length (now assigned) ≡ modes) × (3 * node + edge < length (now tree)) ⌝ }
     ensures { λ r. ⌜ (length (now (assigned .exit)) ≡ modes) × (now (assigned .exit) ≡ fixed modes (now (tree .entry)) node edge number (now (assigned .entry))) ⌝ }
 {
     let code = table::child(tree, node, edge);
@@ -41,7 +42,7 @@ fn fix(modes: usize, tree: &[u16], node: usize, edge: usize, number: u16, assign
 
 // The X, Y and Z leaf of a choice fixed.
 fn fix_all(modes: usize, tree: &[u16], selection: Selection, assigned: &mut [u16])
-    requires { ⌜ (modes ≤ 256) × (length (now assigned) ≡ modes) × (length (now tree) ≡ 3 * modes) × (selection .«min_parent» < modes) ⌝ }
+    requires { ⌜ (modes ≤ most-modes) × (length (now assigned) ≡ modes) × (length (now tree) ≡ 3 * modes) × (selection .«min_parent» < modes) ⌝ }
     ensures { λ r. ⌜ Fixed modes (now (tree .entry)) (choice-of selection) (now (assigned .entry)) (now (assigned .exit)) ⌝ }
 {
     let node = entities::wide(selection.min_parent);
@@ -60,7 +61,7 @@ fn choose<'a>(
     assigned: &'a [u16],
     progress: Progress,
 ) -> Selection
-    requires { ⌜ Going 256 modes (now tree) (now distances) (now rows) (now assigned) progress ⌝ }
+    requires { ⌜ Going most-modes modes (now tree) (now distances) (now rows) (now assigned) progress ⌝ }
     ensures { λ r. ⌜ Chose modes (now (tree .entry)) heuristic (now (rows .entry)) (now (assigned .entry)) progress r ⌝ }
 {
     let mut free = [0u16; 256];
@@ -88,9 +89,9 @@ fn choose<'a>(
 
 // The weight of the choice of a round; where there was no choice, which never is, that of three zeros.
 fn chosen_weight(rows: &[u16], count: usize, selection: Selection) -> usize
-    requires { ⌜ Held 8 count (now rows) ⌝ }
-    requires { ⌜ (selection .«min_weight» ≤ count → selection .«min_weight» ≡ weight-of (selection .«leaf_indices») (terms-of 8 count (now rows))) ⌝ }
-    ensures { λ r. ⌜ (r ≡ weight-of (selection .«leaf_indices») (terms-of 8 count (now (rows .entry)))) × (r ≤ count) ⌝ }
+    requires { ⌜ Held row-width count (now rows) ⌝ }
+    requires { ⌜ (selection .«min_weight» ≤ count → selection .«min_weight» ≡ weight-of (selection .«leaf_indices») (terms-of row-width count (now rows))) ⌝ }
+    ensures { λ r. ⌜ (r ≡ weight-of (selection .«leaf_indices») (terms-of row-width count (now (rows .entry)))) × (r ≤ count) ⌝ }
 {
     // no weight is above the rows
     if count < selection.min_weight {
@@ -109,9 +110,9 @@ fn round<'a>(
     assigned: &mut [u16],
     progress: Progress,
 ) -> Progress
-    requires { ⌜ Going 256 modes (now tree) (now distances) (now rows) (now assigned) progress ⌝ }
+    requires { ⌜ Going most-modes modes (now tree) (now distances) (now rows) (now assigned) progress ⌝ }
     requires { ⌜ progress .round < modes ⌝ }
-    ensures { λ r. ⌜ RoundMade 256 modes (now (tree .entry)) (now (distances .entry)) heuristic (now (rows .entry)) (now (assigned .entry)) progress (now (rows .exit)) (now (assigned .exit)) r ⌝ }
+    ensures { λ r. ⌜ RoundMade most-modes modes (now (tree .entry)) (now (distances .entry)) heuristic (now (rows .entry)) (now (assigned .entry)) progress (now (rows .exit)) (now (assigned .exit)) r ⌝ }
 {
     let mut live = [0u16; 16384];
     let kept = live_rows::put_live(rows, progress.count, &mut live);
@@ -134,7 +135,7 @@ fn round<'a>(
 
 // No mode is unassigned.
 fn is_finished(modes: usize, assigned: &[u16]) -> bool
-    requires { ⌜ modes ≤ 256 ⌝ }
+    requires { ⌜ modes ≤ most-modes ⌝ }
     ensures { λ r. ⌜ r ≡ eqb (length (unassigned modes (now (assigned .entry)))) 0 ⌝ }
 {
     let mut free = [0u16; 256];
@@ -151,10 +152,10 @@ pub fn topphatt<'a>(
     count: usize,
     assigned: &mut [u16],
 ) -> usize
-    requires { ⌜ (1 ≤ modes) × (modes ≤ 256) × (count ≤ 2048) × (length (now tree) ≡ 3 * modes) × (now assigned ≡ replicate modes modes) ⌝ }
+    requires { ⌜ (1 ≤ modes) × (modes ≤ most-modes) × (count ≤ most-terms) × (length (now tree) ≡ 3 * modes) × (now assigned ≡ replicate modes modes) ⌝ }
     requires { ⌜ Distances modes (now tree) (now distances) ⌝ }
-    requires { ⌜ Held 8 count (now rows) ⌝ }
-    ensures { λ r. ⌜ Ended modes count (ended (task-with modes (now (tree .entry)) heuristic (terms-of 8 count (now (rows .entry))))) (now (rows .entry)) (now (rows .exit)) (now (assigned .exit)) r ⌝ }
+    requires { ⌜ Held row-width count (now rows) ⌝ }
+    ensures { λ r. ⌜ Ended modes count (ended (task-with modes (now (tree .entry)) heuristic (terms-of row-width count (now (rows .entry))))) (now (rows .entry)) (now (rows .exit)) (now (assigned .exit)) r ⌝ }
 {
     let mut progress = Progress {
         round: 0,

@@ -5,6 +5,7 @@ use Prim.Native.Nat.{ℕ, zero, suc, _+_, _%_, _/_}
 use lib.Dec.{eqb, ltb}
 use lib.ListN.{length}
 use Rattle.lists.specs.Counting.{sum, occurrences}
+use Rattle.entities.specs.Limits.{row-width}
 use Rattle.terms.specs.Rows.{terms-of}
 use Rattle.terms.specs.Good.{checked}
 use Rattle.terms.specs.declared.checking.Checked.{Checked}
@@ -43,7 +44,7 @@ tree-weight modes table terms = sum (map (row-weight modes table) terms)
 
 -- The weight where the terms are good too: "Tree weight continues 2, 3, 4."
 unfoldable pub weighed-terms : ℕ → List ℕ → List ℕ → Checked → TreeWeighed
-weighed-terms modes table numbers (Good count) = Weight (tree-weight modes table (terms-of 8 count numbers))
+weighed-terms modes table numbers (Good count) = Weight (tree-weight modes table (terms-of row-width count numbers))
 weighed-terms modes table numbers (BadTerms refusal) = Unweighed refusal
 
 -- The answer of the call.

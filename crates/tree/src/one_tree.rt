@@ -5,6 +5,7 @@ ghost use Prim.Native.Nat.{_≤_};
 ghost use lib.Dec.{eqb};
 ghost use Rattle.lists.specs.Counting.{occurrences};
 ghost use Rattle.lists.specs.Members.{every};
+ghost use Rattle.entities.specs.Limits.{«most-modes»};
 ghost use Rattle.tree.specs.Table.{nodes, climb as climbed};
 ghost use Rattle.tree.specs.OneTree.{«leaves-once», «one-tree»};
 use crate::table;
@@ -12,7 +13,7 @@ use entities::codes;
 
 // Each leaf stands once.
 fn leaves_once(modes: usize, tree: &[u16]) -> bool
-    requires { ⌜ modes ≤ 256 ⌝ }
+    requires { ⌜ modes ≤ most-modes ⌝ }
     ensures { λ r. ⌜ r ≡ leaves-once modes (now (tree .entry)) ⌝ }
 {
     let end = 3 * modes;
@@ -63,7 +64,7 @@ fn all_reached(modes: usize, tree: &[u16], root: usize) -> bool
 
 // One root, every node reached, each other node and each leaf exactly once, one absent child.
 pub fn one_tree(modes: usize, tree: &[u16]) -> bool
-    requires { ⌜ modes ≤ 256 ⌝ }
+    requires { ⌜ modes ≤ most-modes ⌝ }
     ensures { λ r. ⌜ r ≡ one-tree modes (now (tree .entry)) ⌝ }
 {
     if !leaves_once(modes, tree) {

@@ -6,13 +6,14 @@ ghost use lib.Dec.{eqb, ltb};
 ghost use lib.ListN.{length};
 ghost use Rattle.lists.specs.Counting.{same as «one-if-same», occurrences};
 ghost use Rattle.entities.specs.Codes.{absent};
+ghost use Rattle.entities.specs.Limits.{«most-modes»};
 ghost use Rattle.tree.specs.Table.{child as «child-of», «place-of», «parent-of», climb as climbed};
 ghost use Rattle.tree.specs.Check.{«codes-good»};
 use entities::codes;
 
 // The code is below 3n or absent.
 fn good_code(modes: usize, code: usize) -> bool
-    requires { ⌜ modes ≤ 256 ⌝ }
+    requires { ⌜ modes ≤ most-modes ⌝ }
     ensures { λ r. ⌜ r ≡ (ltb code (3 * modes) || eqb code absent) ⌝ }
 {
     if code < 3 * modes {
@@ -23,7 +24,7 @@ fn good_code(modes: usize, code: usize) -> bool
 
 // How many codes are good before the first bad one.
 pub fn codes_good(modes: usize, table: &[u16]) -> usize
-    requires { ⌜ modes ≤ 256 ⌝ }
+    requires { ⌜ modes ≤ most-modes ⌝ }
     ensures { λ r. ⌜ r ≡ codes-good modes (now (table .entry)) ⌝ }
 {
     let mut at = 0;

@@ -5,6 +5,7 @@ ghost use Prim.Native.Nat.{_*_, _≤_, _<_};
 ghost use lib.Dec.{ltb};
 ghost use lib.ListN.{length};
 ghost use Rattle.lists.specs.Members.{every};
+ghost use Rattle.entities.specs.Limits.{«most-modes», «row-width»};
 ghost use Rattle.terms.specs.Rows.{«terms-of»};
 ghost use Rattle.tree.specs.Check.{«tree-checked»};
 ghost use Rattle.tree.specs.code.Promises.{Places, GoodRows};
@@ -102,9 +103,9 @@ fn row_weight(modes: usize, tree: &[u16], places: &[usize], term: &[u16]) -> u64
 // The weight of the first rows.
 fn rows_weight(modes: usize, tree: &[u16], places: &[usize], terms: &[u16], count: usize) -> u64
     requires { ⌜ Places (now tree) (now places) ⌝ }
-    requires { ⌜ (length (now tree) ≡ 3 * modes) × (modes ≤ 256) ⌝ }
+    requires { ⌜ (length (now tree) ≡ 3 * modes) × (modes ≤ most-modes) ⌝ }
     requires { ⌜ GoodRows modes count (now terms) ⌝ }
-    ensures { λ r. ⌜ r ≡ tree-weight modes (now (tree .entry)) (terms-of 8 count (now (terms .entry))) ⌝ }
+    ensures { λ r. ⌜ r ≡ tree-weight modes (now (tree .entry)) (terms-of row-width count (now (terms .entry))) ⌝ }
 {
     let mut sum: u64 = 0;
     let mut place = 0;
@@ -117,9 +118,9 @@ fn rows_weight(modes: usize, tree: &[u16], places: &[usize], terms: &[u16], coun
 
 // The weight of so many good rows in an accepted tree.
 fn accepted_weight(modes: usize, tree: &[u16], terms: &[u16], count: usize) -> u64
-    requires { ⌜ (length (now tree) ≡ 3 * modes) × (modes ≤ 256) ⌝ }
+    requires { ⌜ (length (now tree) ≡ 3 * modes) × (modes ≤ most-modes) ⌝ }
     requires { ⌜ GoodRows modes count (now terms) ⌝ }
-    ensures { λ r. ⌜ r ≡ tree-weight modes (now (tree .entry)) (terms-of 8 count (now (terms .entry))) ⌝ }
+    ensures { λ r. ⌜ r ≡ tree-weight modes (now (tree .entry)) (terms-of row-width count (now (terms .entry))) ⌝ }
 {
     let mut places = [0usize; 768];
     fill_places(tree, &mut places);
@@ -128,7 +129,7 @@ fn accepted_weight(modes: usize, tree: &[u16], terms: &[u16], count: usize) -> u
 
 // The tree weight of the terms, or why tree or terms are refused.
 pub fn tree_weight(modes: usize, tree: &[u16], terms: &[u16]) -> TreeWeighed
-    ensures { λ r. ⌜ r ≡ tree-weighed 256 modes (now (tree .entry)) (now (terms .entry)) (tree-checked 256 modes (now (tree .entry))) ⌝ }
+    ensures { λ r. ⌜ r ≡ tree-weighed most-modes modes (now (tree .entry)) (now (terms .entry)) (tree-checked most-modes modes (now (tree .entry))) ⌝ }
 {
     match crate::check_tree(modes, tree) {
         TreeChecked::Refused(refusal) => TreeWeighed::Unweighed(refusal),

@@ -4,6 +4,7 @@ use mathlib.Core.Bool.{true}
 use mathlib.Core.List.{List}
 use Prim.Native.Nat.{ℕ, _+_, _*_, _≤_}
 use lib.ListN.{length}
+use Rattle.entities.specs.Limits.{most-modes, most-terms}
 use Rattle.terms.specs.Job.{Job}
 use Rattle.merging.specs.declared.run.Run.{Run}
 use Rattle.merging.specs.code.Runs.{Holds}
@@ -15,15 +16,15 @@ use Rattle.journal.specs.code.Sized.{Sized}
 pub record FromOwn (job : Job) (run : Run) (modes count : ℕ) (own : List ℕ) (given : Lent) : Type 0 where
   pub holds : Holds job own run
   pub sized : Sized job modes count
-  pub few : modes ≤ 256
-  pub light : count ≤ 2048
-  pub room : roomy (rooms-of 256 given) modes count ≡ true
+  pub few : modes ≤ most-modes
+  pub light : count ≤ most-terms
+  pub room : roomy (rooms-of most-modes given) modes count ≡ true
 
 -- The run's rows stand at the front of the lent work, and there is room for what it writes.
 pub record Finishing (job : Job) (run : Run) (modes count : ℕ) (given : Lent) : Type 0 where
   pub holds : Holds job (given .work) run
   pub sized : Sized job modes count
-  pub few : modes ≤ 256
-  pub light : count ≤ 2048
+  pub few : modes ≤ most-modes
+  pub light : count ≤ most-terms
   pub rows-room : 4 * modes ≤ length (given .rows)
   pub journal-room : 16 + 21 * modes ≤ length (given .journal)

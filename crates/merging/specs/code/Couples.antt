@@ -9,6 +9,7 @@ use Rattle.lists.specs.Least.{least}
 use Rattle.lists.specs.Members.{keep}
 use Rattle.lists.specs.Ranges.{listed}
 use Rattle.entities.specs.declared.Triple.{Triple}
+use Rattle.entities.specs.Limits.{row-width}
 use Rattle.terms.specs.Rows.{terms-of}
 use Rattle.terms.specs.Weight.{weight-of}
 use Rattle.merging.specs.declared.choice.Best.{Best}
@@ -58,7 +59,7 @@ beside-couple modes history count Nothing = []
 
 -- The weight of a triple in the first rows.
 unfoldable pub weight-here : ℕ → List ℕ → Triple → ℕ
-weight-here count rows triple = weight-of triple (terms-of 8 count rows)
+weight-here count rows triple = weight-of triple (terms-of row-width count rows)
 
 -- A triple with its weight.
 unfoldable pub weighed : (Triple → ℕ) → Triple → Best

@@ -5,6 +5,7 @@ use mathlib.Core.List.{List}
 use Prim.Native.Nat.{ℕ, _+_, _*_, _≤_, _<_}
 use lib.ListN.{length, getD, set, drop}
 use Rattle.entities.specs.declared.Triple.{Triple}
+use Rattle.entities.specs.Limits.{most-terms, row-width}
 use Rattle.terms.specs.Rows.{Held, terms-of}
 use Rattle.terms.specs.Job.{Job}
 use Rattle.merging.specs.declared.run.Run.{Run}
@@ -36,14 +37,14 @@ pub record HoldsIn (entities steps : ℕ) (job : Job) (rows : List ℕ) (run : R
   pub count-is : run .count ≡ length (job .terms)
   pub some : 1 ≤ job .modes
   pub few : job .modes ≤ steps
-  pub light : length (job .terms) ≤ 2048
+  pub light : length (job .terms) ≤ most-terms
   pub inside : run .step ≤ job .modes
   pub lawful : LawfulHistory (job .modes) (history-of run)
   pub tied : Tied entities (job .modes) (history-of run) (run .opens) (run .ends) (run .holders)
-  pub held : Held 8 (run .count) rows
-  pub rows-are : terms-of 8 (run .count) rows ≡ rows-after job (history-of run)
+  pub held : Held row-width (run .count) rows
+  pub rows-are : terms-of row-width (run .count) rows ≡ rows-after job (history-of run)
   pub weight-is : run .weight ≡ run-weight job (history-of run)
-  pub bounded : run .weight ≤ 2048 * run .step
+  pub bounded : run .weight ≤ most-terms * run .step
   pub weights-are : (step : ℕ) → step < run .step
       → getD (run .weights) step 0
       ≡ weight-in job (recorded (run .xs) (run .ys) (run .zs) step) (merge-at (run .xs) (run .ys) (run .zs) step)
@@ -86,4 +87,4 @@ pub record ReadyIn (entities steps : ℕ) (job : Job) (rows : List ℕ) (run : R
 pub record WentIn (entities steps : ℕ) (job : Job) (history : List Triple) (rows : List ℕ) (after : Run) (now-rows : List ℕ) : Type 0 where
   pub holds : HoldsIn entities steps job now-rows after
   pub merges : history-of after ≡ history
-  pub rest : drop (8 * length (job .terms)) now-rows ≡ drop (8 * length (job .terms)) rows
+  pub rest : drop (row-width * length (job .terms)) now-rows ≡ drop (row-width * length (job .terms)) rows

@@ -6,6 +6,10 @@ use Prim.Native.Nat.{ℕ, _+_, _*_, _%_}
 use lib.ListN.{getD}
 use Rattle.lists.specs.Members.{every}
 
+-- How many marks there are.
+abbrev pub mark-room : ℕ
+mark-room = 16384
+
 -- The mark after one number more. Any factor would be right; under this one short terms seldom share a mark.
 unfoldable pub next-mark : ℕ → ℕ → ℕ → ℕ
 next-mark size mark number = (773 * mark + number) % size

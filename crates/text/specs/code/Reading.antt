@@ -6,6 +6,7 @@ use Prim.Native.Nat.{ℕ, _-_, _*_, _≤_}
 use lib.Dec.{eqb}
 use lib.ListN.{length, getD, take, replicate}
 use Rattle.lists.specs.Written.{written-at}
+use Rattle.entities.specs.Limits.{row-width}
 use Rattle.fields.specs.Decimal.{value}
 use Rattle.fields.specs.Lines.{lines, kept-of}
 use Rattle.fields.specs.Fields.{fields}
@@ -49,11 +50,11 @@ pub record TermsRead (most : ℕ) (text numbers : List ℕ) (r : Terms) : Type 0
   pub formed : r .count ≡ formed-from most 1 (lines text)
   pub few : r .count ≤ most
   pub whole : r .all ≡ all-terms most text
-  pub rows : r .all ≡ true → take (8 * r .count) numbers ≡ flatMap term-row (lines text)
+  pub rows : r .all ≡ true → take (row-width * r .count) numbers ≡ flatMap term-row (lines text)
 
 -- What the answer and the numbers' front say.
 unfoldable pub meant-by : Said → List ℕ → Meant
-meant-by (Given modes count) numbers = given modes (take (8 * count) numbers)
+meant-by (Given modes count) numbers = given modes (take (row-width * count) numbers)
 meant-by (Malformed line) numbers = malformed line
 
 -- How many terms an answer gives.

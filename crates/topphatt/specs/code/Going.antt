@@ -4,6 +4,7 @@ use mathlib.Core.List.{List}
 use Prim.Native.Nat.{ℕ, suc, _*_, _≤_, _<_}
 use lib.ListN.{length, drop}
 use Rattle.lists.specs.Written.{written-at}
+use Rattle.entities.specs.Limits.{most-terms, row-width}
 use Rattle.terms.specs.Rows.{Held, terms-of}
 use Rattle.terms.specs.Weight.{weight-of}
 use Rattle.slots.specs.code.Promises.{Distances}
@@ -23,7 +24,7 @@ unfoldable pub state-of : List ℕ → List ℕ → Progress → Rounds
 state-of rows assigned progress = record {
   round = progress .round;
   assigned = assigned;
-  rows = terms-of 8 (progress .count) rows;
+  rows = terms-of row-width (progress .count) rows;
   weight = progress .weight;
 }
 
@@ -34,15 +35,15 @@ pub record Going (most modes : ℕ) (table distances rows assigned : List ℕ) (
   pub whole : length table ≡ 3 * modes
   pub far : Distances modes table distances
   pub pairs : length assigned ≡ modes
-  pub fits : progress .count ≤ 2048
-  pub held : Held 8 (progress .count) rows
-  pub light : progress .weight ≤ 2048 * progress .round
+  pub fits : progress .count ≤ most-terms
+  pub held : Held row-width (progress .count) rows
+  pub light : progress .weight ≤ most-terms * progress .round
 
 -- The choice of a round was found, and its weight, where there is a choice.
 pub record Chose (modes : ℕ) (table : List ℕ) (heuristic : ℕ) (rows assigned : List ℕ) (progress : Progress) (r : Selection) : Type 0 where
-  pub right : choice-of r ≡ chosen modes table heuristic (progress .round) assigned (terms-of 8 (progress .count) rows)
+  pub right : choice-of r ≡ chosen modes table heuristic (progress .round) assigned (terms-of row-width (progress .count) rows)
   pub within : r .«min_parent» < modes
-  pub weighs : r .«min_weight» ≤ progress .count → r .«min_weight» ≡ weight-of (r .«leaf_indices») (terms-of 8 (progress .count) rows)
+  pub weighs : r .«min_weight» ≤ progress .count → r .«min_weight» ≡ weight-of (r .«leaf_indices») (terms-of row-width (progress .count) rows)
 
 -- A choice's leaves were fixed.
 pub record Fixed (modes : ℕ) (table : List ℕ) (choice : Choice) (assigned after : List ℕ) : Type 0 where
@@ -56,17 +57,17 @@ pub record RoundMade (most modes : ℕ) (table distances : List ℕ) (heuristic 
   pub right : (terms : List (List ℕ))
       → state-of now-rows now-assigned r ≡ next (task-with modes table heuristic terms) (state-of rows assigned progress)
   pub going : Going most modes table distances now-rows now-assigned r
-  pub rest : drop (8 * progress .count) now-rows ≡ drop (8 * progress .count) rows
+  pub rest : drop (row-width * progress .count) now-rows ≡ drop (row-width * progress .count) rows
 
 -- All rounds were made.
 pub record Ended (modes count : ℕ) (end : Rounds) (rows now-rows assigned : List ℕ) (r : ℕ) : Type 0 where
   pub weight-is : r ≡ end .weight
   pub assigned-is : assigned ≡ end .assigned
   pub pairs : length assigned ≡ modes
-  pub rest : drop (8 * count) now-rows ≡ drop (8 * count) rows
+  pub rest : drop (row-width * count) now-rows ≡ drop (row-width * count) rows
 
 -- All rounds were made, and the table written.
 pub record Tabled (modes count : ℕ) (tree : List ℕ) (end : Rounds) (rows table now-rows now-table : List ℕ) (r : ℕ) : Type 0 where
   pub weight-is : r ≡ end .weight
   pub table-is : now-table ≡ written-at 0 (answer-table modes (end .assigned) tree) table
-  pub rest : drop (8 * count) now-rows ≡ drop (8 * count) rows
+  pub rest : drop (row-width * count) now-rows ≡ drop (row-width * count) rows

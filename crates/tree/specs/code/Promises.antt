@@ -5,6 +5,7 @@ use mathlib.Core.List.{List}
 use Prim.Native.Nat.{ℕ, _*_, _≤_, _<_}
 use lib.ListN.{length, getD}
 use Rattle.lists.specs.Members.{every}
+use Rattle.entities.specs.Limits.{most-terms, row-width}
 use Rattle.terms.specs.Rows.{Held, terms-of}
 use Rattle.terms.specs.Good.{good-term}
 use Rattle.tree.specs.Table.{place-of}
@@ -16,6 +17,6 @@ pub record Places (table places : List ℕ) : Type 0 where
 
 -- So many rows stand in the numbers, no more than 01 takes, and their terms are good.
 pub record GoodRows (modes count : ℕ) (numbers : List ℕ) : Type 0 where
-  pub few : count ≤ 2048
-  pub held : Held 8 count numbers
-  pub good : every (good-term (2 * modes)) (terms-of 8 count numbers) ≡ true
+  pub few : count ≤ most-terms
+  pub held : Held row-width count numbers
+  pub good : every (good-term (2 * modes)) (terms-of row-width count numbers) ≡ true
