@@ -1,4 +1,5 @@
 -- "Each returns its number and a place": the table of document 01, "Refusal numbers", a line for each refusal, and document 02's 19.
+use mathlib.Core.Path.{_≡_}
 use mathlib.Core.List.{List, _∷_}
 use Prim.Native.Nat.{ℕ}
 use lib.ListN.{replicate}
@@ -79,3 +80,8 @@ refused-numbers others refusal = numberOf refusal ∷ (placeOf refusal ∷ repli
 -- The numbers of an answer that isn't refused: no refusal, no place, and the others.
 unfoldable pub done-numbers : List ℕ → List ℕ
 done-numbers others = 0 ∷ (0 ∷ others)
+
+-- What a call answers is what was meant, and so are the numbers of the answer.
+pub record Tells {Answer : Type 0} (numbers-of : Answer → List ℕ) (meant r : Answer) : Type 0 where
+  pub answer : r ≡ meant
+  pub numbers : numbers-of r ≡ numbers-of meant
