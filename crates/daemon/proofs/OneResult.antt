@@ -1,6 +1,5 @@
 -- Two results that the promise of a call from C allows are equal, and so is every byte that they leave.
 use mathlib.Core.Path.{_≡_, sym, _∙_}
-use mathlib.Core.List.{List}
 use Prim.Native.Nat.{ℕ}
 use Rattle.journal.specs.Resuming.{Outcome}
 use Rattle.topphatt.specs.Answer.{Outcome as Assignment}

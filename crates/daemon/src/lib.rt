@@ -1,5 +1,4 @@
 // The calls of the queue daemon, which is C: numbers and slices of bytes.
-ghost use lib.ListN.{length};
 ghost use Rattle.daemon.specs.Calls.{«call-own», lent, «resume-called», «hatt-called», «assign-own», «lent-table», «assign-called»};
 ghost use Rattle.daemon.specs.Promises.{Called, AssignCalled};
 

@@ -1,12 +1,13 @@
 -- "Indices are below 2n and never descend; equal indices and equal rows are allowed. … here empty terms are refused everywhere."
 use mathlib.Core.Bool.{Bool, cond, not, _&&_}
-use mathlib.Core.List.{List}
+use mathlib.Core.List.{List, [], _∷_}
 use Prim.Native.Nat.{ℕ, suc, _*_, _/_, _%_}
 use lib.Dec.{eqb, ltb, leb}
 use lib.ListN.{length, getD, drop}
 use Rattle.lists.specs.Members.{every, leading}
 use Rattle.lists.specs.Ranges.{ascends}
 use Rattle.refusal.specs.declared.Refusal.the-variants.{TermNumbers, TooManyTerms, BadRow}
+use Rattle.refusal.specs.Numbers.{refused-numbers, done-numbers}
 use Rattle.entities.specs.Limits.{most-terms, row-width}
 use Rattle.terms.specs.declared.checking.Checked.{Checked}
 use Rattle.terms.specs.declared.checking.Checked.the-variants.{Good, Refused}
@@ -33,6 +34,11 @@ good-term bound term = leb 1 (length term) && (leb (length term) 7 && good-indic
 -- How many rows are good before the first bad one.
 unfoldable pub good-rows : ℕ → ℕ → List ℕ → ℕ
 good-rows bound count numbers = leading (good-row bound) (rows-of row-width count numbers)
+
+-- The numbers of an answer: refusal, place, and how many terms there are.
+unfoldable pub check-numbers : Checked → List ℕ
+check-numbers (Good count) = done-numbers (count ∷ [])
+check-numbers (Refused refusal) = refused-numbers 1 refusal
 
 -- Refusals 2, 3 and 4, in this order: "term numbers not a multiple of 8", "T above 2048", "first bad row".
 unfoldable pub checked : ℕ → List ℕ → Checked

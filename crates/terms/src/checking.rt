@@ -2,8 +2,9 @@
 ghost use mathlib.Core.Path.{_≡_};
 ghost use Prim.Native.Nat.{_*_, _≤_};
 ghost use lib.ListN.{length, take};
+ghost use Rattle.refusal.specs.Numbers.{Tells};
 ghost use Rattle.entities.specs.Limits.{«most-terms», «row-width»};
-ghost use Rattle.terms.specs.Good.{«good-indices», «good-row», «good-rows», checked};
+ghost use Rattle.terms.specs.Good.{«good-indices», «good-row», «good-rows», «check-numbers», checked};
 use crate::row;
 use crate::slices;
 use refusal::Refusal;
@@ -71,7 +72,7 @@ fn good_rows(modes: usize, terms: &[u16], count: usize) -> usize
 
 // The terms are rows of eight, at most 2048, all good; or the first of these that fails.
 pub fn check_terms(modes: usize, terms: &[u16]) -> Checked
-    ensures { λ r. ⌜ r ≡ checked modes (now (terms .entry)) ⌝ }
+    ensures { λ r. ⌜ Tells check-numbers (checked modes (now (terms .entry))) r ⌝ }
 {
     if terms.len() % 8 != 0 {
         return Checked::Refused(Refusal::TermNumbers);

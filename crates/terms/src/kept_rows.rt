@@ -39,18 +39,18 @@ fn has_term(rows: &[u16], count: usize, term: &[u16]) -> bool
     false
 }
 
-// One of the rows kept has this term. Their marks are set, so a term whose mark is not is none of theirs, and they aren't searched.
-pub fn is_kept<'a>(rows: &'a [u16], kept: usize, marks: &'a [bool], term: &[u16]) -> bool
-    requires { ⌜ Held row-width kept (now rows) ⌝ }
+// One of the first `count` rows has this term. Their marks are set, so a term whose mark is not is none of theirs, and they aren't searched.
+pub fn is_kept<'a>(rows: &'a [u16], count: usize, marks: &'a [bool], term: &[u16]) -> bool
+    requires { ⌜ Held row-width count (now rows) ⌝ }
     requires { ⌜ length (now marks) ≡ mark-room ⌝ }
-    requires { ⌜ Marked mark-room (terms-of row-width kept (now rows)) (now marks) ⌝ }
-    ensures { λ r. ⌜ r ≡ some-of (alike (now (term .entry))) (terms-of row-width kept (now (rows .entry))) ⌝ }
+    requires { ⌜ Marked mark-room (terms-of row-width count (now rows)) (now marks) ⌝ }
+    ensures { λ r. ⌜ r ≡ some-of (alike (now (term .entry))) (terms-of row-width count (now (rows .entry))) ⌝ }
 {
     let mark = mark_of(term);
     if !marks[mark] {
         return false;
     }
-    has_term(rows, kept, term)
+    has_term(rows, count, term)
 }
 
 // The row written over the one at this place.

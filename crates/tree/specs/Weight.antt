@@ -1,10 +1,11 @@
 -- "For an accepted tree: over every listed row and every node, 1 where the parities of the row's indices under X, Y, Z aren't all equal."
 use mathlib.Core.Bool.{cond, _&&_}
-use mathlib.Core.List.{List, map}
+use mathlib.Core.List.{List, [], _∷_, map}
 use Prim.Native.Nat.{ℕ, zero, suc, _+_, _%_, _/_}
 use lib.Dec.{eqb, ltb}
 use lib.ListN.{length}
 use Rattle.lists.specs.Counting.{sum, occurrences}
+use Rattle.refusal.specs.Numbers.{refused-numbers, done-numbers}
 use Rattle.entities.specs.Limits.{row-width}
 use Rattle.terms.specs.Rows.{terms-of}
 use Rattle.terms.specs.Good.{checked}
@@ -15,6 +16,7 @@ use Rattle.tree.specs.declared.TreeChecked.the-variants.{Accepted, Refus
 use Rattle.tree.specs.declared.TreeWeighed.{TreeWeighed}
 use Rattle.tree.specs.declared.TreeWeighed.the-variants.{Weight, Unweighed}
 use Rattle.tree.specs.Table.{nodes, place-of}
+use Rattle.tree.specs.Check.{tree-checked}
 
 -- The edge of a node under which a code stands, 0, 1 or 2, found by climbing; 3 where it stands under none.
 unfoldable pub edge-under : List ℕ → ℕ → ℕ → ℕ → ℕ
@@ -47,7 +49,16 @@ unfoldable pub weighed-terms : ℕ → List ℕ → List ℕ → Checked → Tre
 weighed-terms modes table numbers (Good count) = Weight (tree-weight modes table (terms-of row-width count numbers))
 weighed-terms modes table numbers (BadTerms refusal) = Unweighed refusal
 
--- The answer of the call.
-unfoldable pub tree-weighed : ℕ → ℕ → List ℕ → List ℕ → TreeChecked → TreeWeighed
-tree-weighed most modes table numbers Accepted = weighed-terms modes table numbers (checked modes numbers)
-tree-weighed most modes table numbers (Refused refusal) = Unweighed refusal
+-- 1 and 13 to 16 of the tree.
+unfoldable pub weighed-tree : ℕ → List ℕ → List ℕ → TreeChecked → TreeWeighed
+weighed-tree modes table numbers Accepted = weighed-terms modes table numbers (checked modes numbers)
+weighed-tree modes table numbers (Refused refusal) = Unweighed refusal
+
+-- The meaning of `tree_weight`.
+unfoldable pub tree-weighed : ℕ → ℕ → List ℕ → List ℕ → TreeWeighed
+tree-weighed most modes table numbers = weighed-tree modes table numbers (tree-checked most modes table)
+
+-- The numbers of an answer: refusal, place, weight.
+unfoldable pub weight-numbers : TreeWeighed → List ℕ
+weight-numbers (Weight weight) = done-numbers (weight ∷ [])
+weight-numbers (Unweighed refusal) = refused-numbers 1 refusal

@@ -1,7 +1,7 @@
 // The tree table: rows laid out as one, its check, refusals 1 and 13 to 16 of document 01, and the tree weight.
-ghost use mathlib.Core.Path.{_≡_};
+ghost use Rattle.refusal.specs.Numbers.{Tells};
 ghost use Rattle.entities.specs.Limits.{«most-modes»};
-ghost use Rattle.tree.specs.Check.{«tree-checked»};
+ghost use Rattle.tree.specs.Check.{«check-numbers», «tree-checked»};
 use refusal::Refusal;
 
 pub mod laying;
@@ -24,7 +24,7 @@ pub enum TreeWeighed {
 
 // The table is 3n good codes that make one tree with its pairs right; or the first of these that fails.
 pub fn check_tree(modes: usize, tree: &[u16]) -> TreeChecked
-    ensures { λ r. ⌜ r ≡ tree-checked most-modes modes (now (tree .entry)) ⌝ }
+    ensures { λ r. ⌜ Tells check-numbers (tree-checked most-modes modes (now (tree .entry))) r ⌝ }
 {
     if modes < 1 {
         return TreeChecked::Refused(Refusal::Modes);

@@ -5,11 +5,11 @@ ghost use Prim.Native.Nat.{_*_, _≤_, _<_};
 ghost use lib.Dec.{ltb};
 ghost use lib.ListN.{length};
 ghost use Rattle.lists.specs.Members.{every};
+ghost use Rattle.refusal.specs.Numbers.{Tells};
 ghost use Rattle.entities.specs.Limits.{«most-modes», «row-width»};
 ghost use Rattle.terms.specs.Rows.{«terms-of»};
-ghost use Rattle.tree.specs.Check.{«tree-checked»};
 ghost use Rattle.tree.specs.code.Promises.{Places, GoodRows};
-ghost use Rattle.tree.specs.Weight.{«edge-under», «node-weight», «row-weight», «tree-weight», «tree-weighed»};
+ghost use Rattle.tree.specs.Weight.{«edge-under», «node-weight», «row-weight», «tree-weight», «tree-weighed», «weight-numbers»};
 use crate::TreeChecked;
 use crate::TreeWeighed;
 use crate::table;
@@ -129,7 +129,7 @@ fn accepted_weight(modes: usize, tree: &[u16], terms: &[u16], count: usize) -> u
 
 // The tree weight of the terms, or why tree or terms are refused.
 pub fn tree_weight(modes: usize, tree: &[u16], terms: &[u16]) -> TreeWeighed
-    ensures { λ r. ⌜ r ≡ tree-weighed most-modes modes (now (tree .entry)) (now (terms .entry)) (tree-checked most-modes modes (now (tree .entry))) ⌝ }
+    ensures { λ r. ⌜ Tells weight-numbers (tree-weighed most-modes modes (now (tree .entry)) (now (terms .entry))) r ⌝ }
 {
     match crate::check_tree(modes, tree) {
         TreeChecked::Refused(refusal) => TreeWeighed::Unweighed(refusal),

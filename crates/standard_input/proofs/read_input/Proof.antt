@@ -1,7 +1,6 @@
 -- Standard input is read to its end: the place lies within the buffer, and the bytes that are left grow fewer with each read.
 use Prim.Native.Nat.{_-_, _≤_}
 use mathlib.Core.Path.{_≡_}
-use native.Mathlib.Omega.{arith}
 use borrow.Author.Needs.{needs}
 use lib.ListN.{length}
 use Rattle.io.proofs.Counting.{counts}

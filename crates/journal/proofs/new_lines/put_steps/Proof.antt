@@ -1,5 +1,4 @@
 -- The lines of the steps passed stand behind the start; at the end they are all.
-use mathlib.Core.Path.{_≡_, _∙_}
 use mathlib.Core.List.{List}
 use Prim.Native.Nat.{ℕ, _-_, _<_, _≤_}
 use native.Mathlib.Omega.{arith}

@@ -1,8 +1,6 @@
 -- The merge of a line that was judged good is ready to be made.
-use mathlib.Core.Path.{_≡_, _∙_, sym}
+use mathlib.Core.Path.{_∙_, sym}
 use borrow.Author.Needs.{needs}
-use Rattle.terms.specs.Job.{Job}
-use Rattle.merging.specs.code.State.{history-of}
 use Rattle.journal.proofs.LineObeyed.{line-refused, line-ready, line-made}
 use Rattle.journal.proofs.obeying.obey_line.Statement.{statement}
 use Rattle.journal.proofs.obeying.obey_line.Tie as tie

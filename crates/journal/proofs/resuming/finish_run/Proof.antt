@@ -1,5 +1,4 @@
 -- The run goes on to its end; its rows, its new lines and the zeros are written, and nothing refuses.
-use mathlib.Core.Path.{_≡_, refl}
 use Prim.Native.Nat.{_*_, _<_, _≤_}
 use native.Mathlib.Omega.{arith}
 use borrow.Author.Needs.{needs}

@@ -1,4 +1,4 @@
--- A term whose mark is not set is like none of the rows kept; of any other the search decides.
+-- A term whose mark is not set is like none of the first `count` rows; of any other the search decides.
 use mathlib.Core.Path.{_∙_, sym, ap}
 use mathlib.Core.Bool.{false}
 use borrow.Author.Tests.{not-true}
@@ -21,7 +21,7 @@ returns c =
     let start = marked .before .before .before .before in
     let args = start .args in
     sym
-    (unmarked-none 16384 (terms-of 8 (args .kept) (args .rows .now)) (args .marks .now) (start .pre .1 .1) (args .term .now)
+    (unmarked-none 16384 (terms-of 8 (args .count) (args .rows .now)) (args .marks .now) (start .pre .1 .1) (args .term .now)
     (ap (λ mark. getD (args .marks .now) mark false) (sym (marked .mark-of .ensures .0)) ∙ not-true _ (c .if1 .taken)))
 
 has-term-requires : tie.Need-has-term-requires

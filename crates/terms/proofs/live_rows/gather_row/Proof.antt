@@ -1,7 +1,5 @@
 -- A row of no term is passed over, and any other is put behind those gathered.
 use mathlib.Core.Path.{refl}
-use Prim.Native.Nat.{_+_, _*_, _≤_}
-use native.Mathlib.Omega.{arith}
 use borrow.Author.Needs.{needs}
 use lib.ListN.{length}
 use Rattle.terms.proofs.RowSteps.{row-length}

@@ -2,7 +2,6 @@
 use mathlib.Core.Path.{_∙_, ap, sym}
 use Prim.Native.Nat.{_+_, _*_, _<_, _≤_}
 use native.Mathlib.Omega.{arith}
-use borrow.Author.Tests.{not-true}
 use borrow.Author.Needs.{needs}
 use lib.ListN.{length, getD, take, drop}
 use Rattle.terms.specs.code.Promises.{Rewritten}

@@ -1,12 +1,13 @@
 -- Each return is one arm of the definition, by what the tree's check and the terms' check answered.
 use mathlib.Core.Path.{_≡_, _∙_, sym, ap}
 use borrow.Author.Needs.{needs}
+use Rattle.refusal.proofs.Told.{tells}
 use Rattle.terms.specs.Good.{checked}
 use Rattle.terms.specs.declared.checking.Checked.the-variants.{Good}
 use Rattle.terms.proofs.StaysGood.{accepted}
 use Rattle.tree.specs.declared.TreeChecked.the-variants.{Accepted}
 use Rattle.tree.specs.Check.{tree-checked}
-use Rattle.tree.specs.Weight.{tree-weighed, weighed-terms}
+use Rattle.tree.specs.Weight.{tree-weighed, weighed-tree, weighed-terms}
 use Rattle.tree.specs.declared.TreeWeighed.the-variants.{Weight}
 use Rattle.tree.proofs.AcceptedParts.{accepted-parts}
 use Rattle.tree.proofs.weight.tree_weight.Statement.{statement}
@@ -42,22 +43,22 @@ accepted-weight-requires c κs =
     ((parts .whole, parts .few), record { few = rows .at-most; held = rows .held; good = rows .good })
 
 returns : tie.Need-returns
-unfolding tree-weighed
-returns c = rw (sym (c .before .before .before .check-tree .ensures) ∙ c .before .refusal .given .1)
+unfolding tree-weighed weighed-tree
+returns c = tells (rw (sym (c .before .before .before .check-tree .ensures .answer) ∙ c .before .refusal .given .1))
 
 returns-2 : tie.Need-returns-2
-unfolding tree-weighed weighed-terms
+unfolding tree-weighed weighed-tree weighed-terms
 returns-2 c =
     let start = c .before .before .before .before .before .before .before .before .before in
     let told : tree-checked 256 (start .args .modes) (start .args .tree .now) ≡ Accepted = cc in
-    rw (told, sym (c .before .before .before .check-terms .ensures) ∙ c .before .refusal2 .given .1)
+    tells (rw (told, sym (c .before .before .before .check-terms .ensures .answer) ∙ c .before .refusal2 .given .1))
 
 returns-3 : tie.Need-returns-3
-unfolding tree-weighed weighed-terms
+unfolding tree-weighed weighed-tree weighed-terms
 returns-3 c =
     let start = c .before .before .before .before .before .before .before .before .before .before in
     let told : tree-checked 256 (start .args .modes) (start .args .tree .now) ≡ Accepted = cc in
-    rw (told, sym (c .before .before .before .before .check-terms .ensures) ∙ c .before .before .count .given .1) (ap Weight (c .accepted-weight .ensures))
+    tells (rw (told, sym (c .before .before .before .before .check-terms .ensures .answer) ∙ c .before .before .count .given .1) (ap Weight (c .accepted-weight .ensures)))
 
 pub tree-weight-spec : {M : Type 1} → statement M
 tree-weight-spec =
