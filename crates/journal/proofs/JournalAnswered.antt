@@ -1,5 +1,5 @@
 -- A refusal's answer leaves everything as it was, and a call answers what its part of the meaning says.
-use mathlib.Core.Path.{_≡_, refl, ap, _∙_, sym}
+use mathlib.Core.Path.{_≡_, ap, sym}
 use mathlib.Core.List.{List}
 use Prim.Native.Nat.{ℕ}
 use Rattle.refusal.specs.declared.Refusal.{Refusal}
@@ -13,17 +13,11 @@ use Rattle.journal.specs.declared.resuming.Answer.the-variants.{Refused 
 use Rattle.journal.specs.Obeying.{Obeyed}
 use Rattle.journal.specs.Resuming.{Outcome, done, refuses, ending, with-journal}
 use Rattle.journal.specs.code.Obeys.{came-to}
-use Rattle.journal.specs.Promises.{numbers-of, told-numbers, returned, Lent, lent-then, Answers}
-
--- The numbers of an answer are those of its meaning.
-numbers-so : (outcome : Outcome) → numbers-of (returned outcome) ≡ told-numbers outcome
-unfolding numbers-of told-numbers returned
-numbers-so (done ending) = refl
-numbers-so (refuses refusal) = refl
+use Rattle.journal.specs.Promises.{numbers-of, returned, Lent, lent-then, Answers}
 
 module _ (meant : Lent → Outcome) (before : Lent) where
   pub answers : (after : Lent) (r : Answer) → r ≡ returned (meant before) → after ≡ lent-then (meant before) before → Answers meant before after r
-  answers after r e l = record { answer = e; numbers = ap numbers-of e ∙ numbers-so (meant before); leaves = l }
+  answers after r e l = record { answer = e; numbers = ap numbers-of e; leaves = l }
 
   pub nothing-altered : (refusal : Refusal) → meant before ≡ refuses refusal → Answers meant before before (Refuses refusal)
   unfolding returned lent-then

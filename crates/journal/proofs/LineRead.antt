@@ -11,6 +11,7 @@ use Rattle.lists.specs.Members.{every}
 use Rattle.lists.specs.Ranges.{listed}
 use Rattle.lists.proofs.Tests.{both}
 use Rattle.lists.proofs.Alike.{alike-self}
+use Rattle.fields.specs.Texts.{spelt}
 use Rattle.fields.specs.Decimal.{is-number, value, decimal}
 use Rattle.fields.specs.Fields.{fields, tabbed}
 use Rattle.fields.specs.code.Reading.{numbers-good}
@@ -20,20 +21,20 @@ use Rattle.fields.proofs.NumbersTabbed.{decimal-no-tab, fits, decimals-no-tab, 
 use Rattle.journal.specs.declared.header.Header.the-variants.{Is as HeaderIs, Broken as HeaderBroken}
 use Rattle.journal.specs.declared.merge_line.MergeLine.{MergeLine}
 use Rattle.journal.specs.declared.merge_line.Merge.the-variants.{Is as MergeIs, Broken as MergeBroken}
-use Rattle.journal.specs.LineForms.{word, version, header-good, header-of, merge-good, merge-of-line, header-text, merge-text}
+use Rattle.journal.specs.LineForms.{header-good, header-of, merge-good, merge-of-line, header-text, merge-text}
 use Rattle.journal.proofs.LineSaid.{merge-said, header-fields}
 
 module _ (modes terms : ℕ) (m : modes ≤ 65535) (t : terms ≤ 65535) where
-  header-parts : fields (header-text modes terms) ≡ word ∷ (version ∷ (decimal modes ∷ (decimal terms ∷ [])))
-  unfolding header-text every word version no-tab
+  header-parts : fields (header-text modes terms) ≡ spelt "hatt" ∷ (spelt "1" ∷ (decimal modes ∷ (decimal terms ∷ [])))
+  unfolding header-text every no-tab
   header-parts =
-      fields-line word (version ∷ (decimal modes ∷ (decimal terms ∷ []))) (rw (decimal-no-tab modes, decimal-no-tab terms))
+      fields-line (spelt "hatt") ((spelt "1") ∷ (decimal modes ∷ (decimal terms ∷ []))) (rw (decimal-no-tab modes, decimal-no-tab terms))
 
   -- A header that was written is read back.
   pub header-read : header-of (header-text modes terms) ≡ HeaderIs modes terms
   unfolding header-of header-good every
   header-read =
-      rw (header-parts, alike-self word, alike-self version, decimal-is-number modes m, decimal-is-number terms t)
+      rw (header-parts, alike-self (spelt "hatt"), alike-self (spelt "1"), decimal-is-number modes m, decimal-is-number terms t)
       (rw (value-decimal modes m, value-decimal terms t))
 
 module _ (said : MergeLine) where

@@ -11,6 +11,7 @@ use Rattle.lists.specs.Members.{every, alike}
 use Rattle.lists.specs.Ranges.{listed}
 use Rattle.lists.proofs.Tests.{both, not-so}
 use Rattle.lists.proofs.Alike.{alike-self, alike-same}
+use Rattle.fields.specs.Texts.{spelt}
 use Rattle.fields.specs.Decimal.{is-number, value, decimal}
 use Rattle.fields.specs.Fields.{fields-after, fields}
 use Rattle.fields.specs.code.Reading.{numbers-good, opens, fields-behind, says-numbers}
@@ -19,7 +20,7 @@ use Rattle.fields.proofs.NumbersTabbed.{numbers-are, value-at}
 use Rattle.fields.proofs.Openings.{opening, opened-fields, opens-with}
 use Rattle.journal.specs.declared.header.Header.the-variants.{Is as HeaderIs, Broken as HeaderBroken}
 use Rattle.journal.specs.declared.merge_line.Merge.the-variants.{Is as MergeIs, Broken as MergeBroken}
-use Rattle.journal.specs.LineForms.{word, version, header-good, header-of, merge-good, merge-of-line}
+use Rattle.journal.specs.LineForms.{header-good, header-of, merge-good, merge-of-line}
 
 pub merge-empty : (line : List ℕ) → length line ≡ 0 → merge-of-line line ≡ MergeBroken
 unfolding merge-of-line merge-good fields fields-after
@@ -45,33 +46,33 @@ merge-said line found e f =
 
 -- A header's fields: the word, the version and the two numbers, as they would be written.
 pub header-fields : (parts : List (List ℕ)) → header-good parts ≡ true
-    → parts ≡ word ∷ (version ∷ (decimal (value (getD parts 2 [])) ∷ (decimal (value (getD parts 3 [])) ∷ [])))
+    → parts ≡ spelt "hatt" ∷ (spelt "1" ∷ (decimal (value (getD parts 2 [])) ∷ (decimal (value (getD parts 3 [])) ∷ [])))
 unfolding header-good listed
 header-fields [] e = absurd (true≢false (sym e))
 header-fields (a ∷ []) e = absurd (true≢false (sym e))
 header-fields (a ∷ (b ∷ rest)) e =
-    let p = both (eqb (suc (suc (length rest))) 4) (alike a word && (alike b version && every is-number rest)) e in
-    let q = both (alike a word) (alike b version && every is-number rest) (p .1) in
-    let r = both (alike b version) (every is-number rest) (q .1) in
+    let p = both (eqb (suc (suc (length rest))) 4) (alike a (spelt "hatt") && (alike b (spelt "1") && every is-number rest)) e in
+    let q = both (alike a (spelt "hatt")) (alike b (spelt "1") && every is-number rest) (p .1) in
+    let r = both (alike b (spelt "1")) (every is-number rest) (q .1) in
     let l = eqb-true (suc (suc (length rest))) 4 (p .0) in
-    let f = alike-same a word (q .0) in
-    let g = alike-same b version (r .0) in
+    let f = alike-same a (spelt "hatt") (q .0) in
+    let g = alike-same b (spelt "1") (r .0) in
     let n = numbers-are 2 rest (omega arith) (r .1) in
     cc
 
 -- A header's first bytes: the word, a tab, the version and a tab.
 abbrev pub header-opening : List ℕ
-header-opening = 104 ∷ (97 ∷ (116 ∷ (116 ∷ (9 ∷ (49 ∷ (9 ∷ []))))))
+header-opening = spelt "hatt\t1\t"
 
 -- With its opening a line says what the two numbers behind it say, and without it nothing.
 module _ (line : List ℕ) where
-  opened-header : opens header-opening line ≡ true → fields line ≡ word ∷ (version ∷ fields-behind header-opening line)
-  unfolding opening word version every no-tab
-  opened-header e = opened-fields (word ∷ (version ∷ [])) line refl e
+  opened-header : opens header-opening line ≡ true → fields line ≡ spelt "hatt" ∷ (spelt "1" ∷ fields-behind header-opening line)
+  unfolding opening every no-tab
+  opened-header e = opened-fields (spelt "hatt" ∷ (spelt "1" ∷ [])) line refl e
 
   header-opens : header-good (fields line) ≡ true → opens header-opening line ≡ true
-  unfolding opening word version
-  header-opens e = opens-with word (version ∷ []) line _ _ (header-fields (fields line) e)
+  unfolding opening
+  header-opens e = opens-with (spelt "hatt") ((spelt "1") ∷ []) line _ _ (header-fields (fields line) e)
 
   header-says : header-good (fields line) ≡ says-numbers header-opening 2 line
   unfolding header-good numbers-good says-numbers
@@ -81,7 +82,7 @@ module _ (line : List ℕ) where
       go true e =
           let parts = fields-behind header-opening line in
           let count : eqb (suc (suc (length parts))) 4 ≡ eqb (length parts) 2 = eqb·suc-suc (suc (length parts)) 3 ∙ eqb·suc-suc (length parts) 2 in
-          rw (opened-header e, alike-self word, alike-self version, count)
+          rw (opened-header e, alike-self (spelt "hatt"), alike-self (spelt "1"), count)
       go false e = not-so (header-good (fields line)) (λ f. true≢false (sym (header-opens f) ∙ e))
 
   pub header-broken : says-numbers header-opening 2 line ≡ false → header-of line ≡ HeaderBroken

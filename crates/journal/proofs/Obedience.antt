@@ -18,6 +18,7 @@ use Rattle.terms.specs.Job.{Job}
 use Rattle.merging.specs.History.{merge-of}
 use Rattle.merging.specs.Lawful.{Lawful, LawfulHistory}
 use Rattle.merging.specs.Choice.{weight-in}
+use Rattle.merging.proofs.Amounts.{merge-getD}
 use Rattle.journal.specs.declared.header.Header.{Header}
 use Rattle.journal.specs.declared.header.Header.the-variants.{Is as HeaderIs, Broken as HeaderBroken}
 use Rattle.journal.specs.declared.merge_line.Merge.{Merge}
@@ -172,7 +173,6 @@ module _ (job : Job) where
 
   rest-obedient : (first : List ℕ) (rest : List (List ℕ)) (history : List Triple)
       → header-of first ≡ HeaderIs (job .modes) (length (job .terms)) → Added-all job [] rest history → Obedient job (first ∷ rest) history
-  unfolding merge-of
   rest-obedient first rest history h all =
       let size : length rest ≡ length history = omega (arith, all .longer) in
       record {
@@ -180,7 +180,7 @@ module _ (job : Job) where
         within = all .within;
         a-line-each = omega arith;
         header = λ some. h;
-        says = λ i l. (let said = all .says i (omega arith) in rw (zero-add i, size) at said);
+        says = λ i l. (let said = all .says i (omega arith) in rw (merge-getD history i l) (rw (zero-add i, size) at said));
       }
 
   texts-obedient : (texts : List (List ℕ)) (history : List Triple) → obeyed-texts job texts ≡ went history → Obedient job texts history

@@ -5,18 +5,19 @@ use mathlib.Core.List.{[], _∷_, map}
 use Prim.Native.Nat.{ℕ}
 use Rattle.lists.specs.Members.{every}
 use Rattle.entities.specs.declared.Triple.{Triple}
+use Rattle.fields.specs.Texts.{spelt}
 use Rattle.fields.specs.Decimal.{decimal}
 use Rattle.fields.specs.Lines.{is-line}
 use Rattle.fields.specs.Fields.{tabbed}
 use Rattle.fields.proofs.LinesJoined.{no-feed, line-ended}
 use Rattle.fields.proofs.NumbersTabbed.{tabbed-free, decimals-free}
-use Rattle.journal.specs.LineForms.{word, version, header-text, merge-text}
+use Rattle.journal.specs.LineForms.{header-text, merge-text}
 
 pub header-is-line : (modes terms : ℕ) → is-line (header-text modes terms) ≡ true
-unfolding header-text no-feed every word version
+unfolding header-text no-feed every
 header-is-line modes terms =
-    line-ended (tabbed (word ∷ (version ∷ map decimal (modes ∷ (terms ∷ [])))))
-    (tabbed-free (word ∷ (version ∷ map decimal (modes ∷ (terms ∷ [])))) (decimals-free (modes ∷ (terms ∷ []))))
+    line-ended (tabbed (spelt "hatt" ∷ (spelt "1" ∷ map decimal (modes ∷ (terms ∷ [])))))
+    (tabbed-free (spelt "hatt" ∷ (spelt "1" ∷ map decimal (modes ∷ (terms ∷ [])))) (decimals-free (modes ∷ (terms ∷ []))))
 
 pub merge-is-line : (step : ℕ) (triple : Triple) (weight : ℕ) → is-line (merge-text step triple weight) ≡ true
 unfolding merge-text

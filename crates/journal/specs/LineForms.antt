@@ -6,6 +6,7 @@ use lib.Dec.{eqb}
 use lib.ListN.{length, getD, drop}
 use Rattle.lists.specs.Members.{every, alike}
 use Rattle.entities.specs.declared.Triple.{Triple}
+use Rattle.fields.specs.Texts.{spelt}
 use Rattle.fields.specs.Decimal.{is-number, value, decimal}
 use Rattle.fields.specs.Fields.{fields, tabbed}
 use Rattle.journal.specs.declared.header.Header.{Header}
@@ -13,19 +14,11 @@ use Rattle.journal.specs.declared.header.Header.the-variants.{Is as Head
 use Rattle.journal.specs.declared.merge_line.Merge.{Merge}
 use Rattle.journal.specs.declared.merge_line.Merge.the-variants.{Is as MergeIs, Broken as MergeBroken}
 
--- `hatt`.
-unfoldable pub word : List ℕ
-word = 104 ∷ (97 ∷ (116 ∷ (116 ∷ [])))
-
--- `1`.
-unfoldable pub version : List ℕ
-version = 49 ∷ []
-
 -- The line says a header: the word, the version and two numbers.
 unfoldable pub header-good : List (List ℕ) → Bool
 header-good parts =
     eqb (length parts) 4
-    && (alike (getD parts 0 []) word && (alike (getD parts 1 []) version && every is-number (drop 2 parts)))
+    && (alike (getD parts 0 []) (spelt "hatt") && (alike (getD parts 1 []) (spelt "1") && every is-number (drop 2 parts)))
 
 unfoldable pub header-of : List ℕ → Header
 header-of line =
@@ -48,9 +41,9 @@ merge-of-line line =
 
 -- The header as it is written.
 unfoldable pub header-text : ℕ → ℕ → List ℕ
-header-text modes terms = tabbed (word ∷ (version ∷ (decimal modes ∷ (decimal terms ∷ [])))) ++ (10 ∷ [])
+header-text modes terms = tabbed (spelt "hatt" ∷ (spelt "1" ∷ (decimal modes ∷ (decimal terms ∷ [])))) ++ spelt "\n"
 
 -- A merge line as it is written.
 unfoldable pub merge-text : ℕ → Triple → ℕ → List ℕ
 merge-text step triple weight =
-    tabbed (map decimal (step ∷ (triple .x ∷ (triple .y ∷ (triple .z ∷ (weight ∷ [])))))) ++ (10 ∷ [])
+    tabbed (map decimal (step ∷ (triple .x ∷ (triple .y ∷ (triple .z ∷ (weight ∷ [])))))) ++ spelt "\n"

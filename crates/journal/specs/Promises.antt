@@ -10,15 +10,10 @@ use Rattle.journal.specs.declared.resuming.Answer.{Answer}
 use Rattle.journal.specs.declared.resuming.Answer.the-variants.{Done, Refused as Refuses}
 use Rattle.journal.specs.Resuming.{Outcome, done, refuses, Rooms}
 
--- The numbers of an answer: refusal, place, weight, trials, kept and new bytes.
+-- "Resuming returns …, weight, trials, kept bytes (through the last LF) and new bytes"; a refusal "its number and a place, zeros elsewhere".
 unfoldable pub numbers-of : Answer → List ℕ
 numbers-of (Done numbers) = done-numbers (numbers .weight ∷ (numbers .trials ∷ (numbers .kept ∷ (numbers .new ∷ []))))
 numbers-of (Refuses refusal) = refused-numbers 4 refusal
-
--- "Resuming returns rows, weight, trials, kept bytes (through the last LF) and new bytes"; a refusal "its number and a place, zeros elsewhere".
-unfoldable pub told-numbers : Outcome → List ℕ
-told-numbers (done ending) = done-numbers (ending .weight ∷ (ending .trials ∷ (ending .kept ∷ (length (ending .new) ∷ []))))
-told-numbers (refuses refusal) = refused-numbers 4 refusal
 
 -- What the call returns.
 unfoldable pub returned : Outcome → Answer
@@ -53,5 +48,5 @@ lent-then (refuses refusal) given = given
 -- The answer of the meaning and its numbers, and every element of what was lent after the call.
 pub record Answers (meant : Lent → Outcome) (before after : Lent) (r : Answer) : Type 0 where
   pub answer : r ≡ returned (meant before)
-  pub numbers : numbers-of r ≡ told-numbers (meant before)
+  pub numbers : numbers-of r ≡ numbers-of (returned (meant before))
   pub leaves : after ≡ lent-then (meant before) before

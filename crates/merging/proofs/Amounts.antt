@@ -8,7 +8,7 @@ use native.Mathlib.Nat.{add-zero}
 use native.Mathlib.Omega.{arith}
 use borrow.Author.Tests.{eq-eqb, ne-eqb}
 use lib.Dec.{eqb}
-use lib.ListN.{length}
+use lib.ListN.{length, getD}
 use Rattle.lists.proofs.Tests.{same-or-not}
 use Rattle.lists.proofs.Totals.{total}
 use Rattle.entities.specs.declared.Triple.{Triple}
@@ -76,13 +76,24 @@ amount-root modes history lawful all some-modes weight =
 module _ (merge : Triple) (history : List Triple) where
   pub newest-merge : (label : ℕ) → label ≡ length history → merge-of (merge ∷ history) label ≡ merge
   unfolding merge-of
-  newest-merge label e = let first : suc (length history) - suc label ≡ 0 = omega arith in rw first
+  newest-merge label e = rw (eq-eqb label (length history) e)
 
   pub older-merge : (label : ℕ) → label < length history → merge-of (merge ∷ history) label ≡ merge-of history label
   unfolding merge-of
-  older-merge label h =
-      let later : suc (length history) - suc label ≡ suc (length history - suc label) = omega arith in
-      rw later
+  older-merge label h = rw (ne-eqb label (length history) (λ e. absurd (omega arith)))
+
+-- The history is written newest first.
+pub merge-getD : (history : List Triple) (label : ℕ) → label < length history
+    → merge-of history label ≡ getD history (length history - suc label) (record { x = 0; y = 0; z = 0 })
+merge-getD [] label h = absurd (omega arith)
+merge-getD (merge ∷ history) label h =
+    ⊎-elim
+    (λ e. newest-merge merge history label e ∙ (let first : suc (length history) - suc label ≡ 0 = omega arith in rw first))
+    (λ other.
+    older-merge merge history label (omega arith)
+    ∙ merge-getD history label (omega arith)
+    ∙ (let later : suc (length history) - suc label ≡ suc (length history - suc label) = omega arith in rw later))
+    (same-or-not label (length history))
 
 -- These are a node's children: they were made before it, and what stands under it stands under them.
 pub record Node (modes : ℕ) (history : List Triple) (label : ℕ) (triple : Triple) : Type 0 where

@@ -11,6 +11,7 @@ use Rattle.terms.specs.Job.{Job}
 use Rattle.merging.specs.History.{merge-of, history-before}
 use Rattle.merging.specs.Choice.{chosen}
 use Rattle.merging.specs.Run.{greedy}
+use Rattle.merging.proofs.Amounts.{merge-getD}
 use Rattle.merging.proofs.RunLawful.{greedy-length}
 
 module _ (job : Job) where
@@ -46,12 +47,12 @@ module _ (job : Job) where
 
     -- The step itself.
     pub step-chosen : i < steps → merge-of (greedy job steps history) (length history + i) ≡ chosen job (greedy job i history)
-    unfolding merge-of
     step-chosen h =
         let none : Triple = record { x = 0; y = 0; z = 0 } in
         let all : length (greedy job steps history) - suc (length history + i) ≡ steps - suc i + 0 = omega (arith, greedy-length job steps history) in
         let more : suc i + (steps - suc i) ≡ steps = omega arith in
-        ap (λ n. getD (greedy job steps history) n none) all
+        merge-getD (greedy job steps history) (length history + i) (omega (arith, greedy-length job steps history))
+        ∙ ap (λ n. getD (greedy job steps history) n none) all
         ∙ sym (getD-drop (steps - suc i) (greedy job steps history) 0 none)
         ∙ ap (λ n. getD (drop (steps - suc i) (greedy job n history)) 0 none) (sym more)
         ∙ ap (λ l. getD l 0 none) (fewer-steps (suc i) (steps - suc i) history ∙ greedy-more i history)

@@ -1,19 +1,20 @@
 -- The state of a run is its history: the merges so far, newest first. Everything else is read off it.
 use mathlib.Core.Bool.{Bool, cond, not, _&&_, _||_}
 use mathlib.Core.List.{List, [], _∷_}
-use Prim.Native.Nat.{ℕ, suc, _-_, _*_}
+use Prim.Native.Nat.{ℕ, _-_, _*_}
 use lib.Dec.{eqb, leb}
-use lib.ListN.{length, getD, drop}
+use lib.ListN.{length, drop}
 use Rattle.entities.specs.declared.Triple.{Triple}
 use Rattle.entities.specs.Parents.{parent-number}
 use Rattle.terms.specs.Job.{Job}
 use Rattle.terms.specs.Reduction.{reduction}
 
--- The merge of a step.
+-- The merge of a step, counted from the oldest: the newest is that of as many steps as came before it.
 unfoldable pub merge-of : List Triple → ℕ → Triple
-merge-of history step = getD history (length history - suc step) (record { x = 0; y = 0; z = 0 })
+merge-of [] step = record { x = 0; y = 0; z = 0 }
+merge-of (merge ∷ history) step = cond (eqb step (length history)) merge (merge-of history step)
 
--- The merges before a step's.
+-- The merges before a step's: the oldest, as many as there were steps.
 abbrev pub history-before : List Triple → ℕ → List Triple
 history-before history step = drop (length history - step) history
 

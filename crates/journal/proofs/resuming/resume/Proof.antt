@@ -35,7 +35,7 @@ enum-known-count c = search needs
 resume-good-requires : tie.Need-resume-good-requires
 resume-good-requires c κs =
     let tests = c .before .before .before .before .before .before .before in
-    (tests .before .if1 .left, tests .if2 .left, sym (c .before .before .before .before .before .before .check-terms .ensures) ∙ c .before .before .before .before .count .given .1)
+    (tests .before .if1 .left, tests .if2 .left, sym (c .before .before .before .before .before .before .check-terms .ensures .answer) ∙ c .before .before .before .before .count .given .1)
 
 returns-3 : tie.Need-returns-3
 unfolding resumed modes-good with-terms
@@ -43,7 +43,7 @@ returns-3 c =
     let start = c .before .before .before .before .before .before .before .before .before .before .before in
     let args = start .args in
     let tests = c .before .before .before .before in
-    nothing-altered _ (lent (args .work .now) (args .rows .now) (args .journal .now)) _ (rw (le-leb _ _ (tests .before .if1 .left), le-leb _ _ (tests .if2 .left), sym (c .before .before .before .check-terms .ensures) ∙ c .before .refusal .given .1))
+    nothing-altered _ (lent (args .work .now) (args .rows .now) (args .journal .now)) _ (rw (le-leb _ _ (tests .before .if1 .left), le-leb _ _ (tests .if2 .left), sym (c .before .before .before .check-terms .ensures .answer) ∙ c .before .refusal .given .1))
 
 same-length : tie.Need-same-length
 same-length c = search needs
@@ -58,7 +58,7 @@ returns-4 : tie.Need-returns-4
 unfolding resumed modes-good
 returns-4 c =
     let tests = c .before .before .before .before .before .before .before .before .before .before .before .before .before .before in
-    rw (le-leb _ _ (tests .before .if1 .left), le-leb _ _ (tests .if2 .left), sym (c .before .before .before .before .before .before .before .before .before .before .before .before .before .check-terms .ensures) ∙ c .before .before .before .before .before .before .before .before .before .before .before .count .given .1)
+    rw (le-leb _ _ (tests .before .if1 .left), le-leb _ _ (tests .if2 .left), sym (c .before .before .before .before .before .before .before .before .before .before .before .before .before .check-terms .ensures .answer) ∙ c .before .before .before .before .before .before .before .before .before .before .before .count .given .1)
     (c .before .before .before .before .before .before .resume-good .ensures)
 
 pub resume-spec : {M : Type 1} → statement M

@@ -1,7 +1,6 @@
 -- What every header begins with, then two fields, each behind what is before it.
 use native.Mathlib.Omega.{arith}
 use borrow.Author.Needs.{needs}
-use Rattle.journal.specs.LineForms.{word, version}
 use Rattle.journal.proofs.Texts.{length-header, header-wrote}
 use Rattle.journal.proofs.writing.put_header.Statement.{statement}
 use Rattle.journal.proofs.writing.put_header.Tie as tie
@@ -30,7 +29,6 @@ same-length : tie.Need-same-length
 same-length c = search needs
 
 returns : tie.Need-returns
-unfolding word version
 returns c =
     let second = c .before .before in
     let first = second .before .before .before .before in
