@@ -20,7 +20,8 @@ use Rattle.topphatt.specs.Promises.{returned, Lent, lent, rooms-of, lent-then}
 use Rattle.topphatt.proofs.AssignDone.{assign-done}
 use Rattle.topphatt.proofs.OutcomeRight.{outcome-right}
 use Rattle.daemon.specs.Bytes.{two-bytes, eight-bytes}
-use Rattle.daemon.specs.Calls.{room-of, LentTable, lent-table, table-rooms-in, assign-called, term-numbers}
+use Rattle.daemon.specs.Calls.{LentTable, lent-table}
+use Rattle.daemon.specs.code.Handing.{room-of, term-numbers, table-rooms-in, assign-handed}
 use Rattle.daemon.specs.code.Reading.{TermsRead, TreeRead}
 use Rattle.daemon.specs.Promises.{AssignCalled, assign-result-of, table-then}
 use Rattle.daemon.proofs.CallAnswered.{room-fits}
@@ -94,9 +95,9 @@ assign-so meant same before after r e called = record { result = rw e (called .r
 pub assign-lent-means : (modes : ℕ) (tree codes : List ℕ) (nodes heuristic : ℕ) (terms numbers work own : List ℕ) (count room : ℕ) (given : LentTable)
     → TreeRead 256 modes tree codes nodes → TermsRead terms numbers count
     → room ≡ room-of 1 (length own) (length (given .table)) (length (given .answer))
-    → assign-called (rooms-of 256 (lent work own)) modes tree heuristic terms given
+    → assign-handed (rooms-of 256 (lent work own)) modes tree heuristic terms given
     ≡ outcome (rooms-of 256 (lent work (take room own))) (asked modes (take nodes codes) heuristic (take count numbers))
-unfolding assign-called table-rooms-in
+unfolding assign-handed table-rooms-in
 assign-lent-means modes tree codes nodes heuristic terms numbers work own count room given tree-read terms-read e =
     let table = length (given .table) in
     let answer = length (given .answer) in

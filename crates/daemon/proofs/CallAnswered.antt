@@ -19,7 +19,8 @@ use Rattle.journal.specs.Resuming.{Ending, Outcome, done, refuses, Rooms, resum
 use Rattle.journal.specs.Promises.{lent as run-lent, rooms-of, returned, lent-then as run-lent-then, Answers}
 use Rattle.journal.proofs.RowsFit.{RowsFit, rows-fit}
 use Rattle.daemon.specs.Bytes.{two-bytes, eight-bytes}
-use Rattle.daemon.specs.Calls.{room-of, Lent, lent, rooms-in, resume-called}
+use Rattle.daemon.specs.Calls.{Lent, lent}
+use Rattle.daemon.specs.code.Handing.{room-of, rooms-in, resume-handed}
 use Rattle.daemon.specs.code.Reading.{TermsRead}
 use Rattle.daemon.specs.Promises.{Called, result-of, answer-bytes, lent-then}
 
@@ -116,9 +117,9 @@ room-fits numbers own bytes answer = go (leb (8 * numbers) answer) refl
 -- The parts that the call lends to resuming mean what it was given.
 pub lent-means : (modes : ℕ) (terms read numbers work own : List ℕ) (count room : ℕ) (given : Lent) → TermsRead terms numbers count
     → room ≡ room-of 4 (length own) (length (given .rows)) (length (given .answer))
-    → resume-called (record { modes = 256; work = length work; rows = length own }) modes terms read given
+    → resume-handed (record { modes = 256; work = length work; rows = length own }) modes terms read given
     ≡ resumed (rooms-of 256 (run-lent work (take room own) (given .journal))) modes (take count numbers) read
-unfolding resume-called rooms-in
+unfolding resume-handed rooms-in
 lent-means modes terms read numbers work own count room given reads e =
     let fits = room-fits 4 (length own) (length (given .rows)) (length (given .answer)) in
     let l : length (take room own) ≡ room-of 4 (length own) (length (given .rows)) (length (given .answer)) =

@@ -1,5 +1,6 @@
 -- The laws of the calls from C.
 pub mod CallAnswered
+pub mod Outright
 pub mod OneResult
 pub mod RefusalPlaces
 pub mod ResultSays

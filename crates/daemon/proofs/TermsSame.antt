@@ -18,10 +18,10 @@ use Rattle.tree.specs.declared.TreeChecked.{TreeChecked}
 use Rattle.tree.specs.declared.TreeChecked.the-variants.{Accepted, Refused as BadTree}
 use Rattle.topphatt.specs.Answer.{asked, Rooms as AssignRooms, with-tree, with-terms as assign-terms, outcome}
 use Rattle.daemon.specs.Bytes.{word-at, words}
-use Rattle.daemon.specs.Calls.{term-numbers}
+use Rattle.daemon.specs.code.Handing.{term-numbers}
 use Rattle.daemon.specs.code.Reading.{TermsRead}
 
-not-eights : (modes : ℕ) (l : List ℕ) → length l ≡ 1 → checked modes l ≡ Refused TermNumbers
+pub not-eights : (modes : ℕ) (l : List ℕ) → length l ≡ 1 → checked modes l ≡ Refused TermNumbers
 unfolding checked
 not-eights modes l e = rw e
 

@@ -14,7 +14,7 @@ use Rattle.tree.specs.Check.{tree-checked}
 use Rattle.tree.specs.declared.TreeChecked.the-variants.{Refused as BadTree}
 use Rattle.topphatt.specs.Answer.{asked, with-tree, outcome}
 use Rattle.daemon.specs.Bytes.{word-at, words}
-use Rattle.daemon.specs.Calls.{tree-numbers}
+use Rattle.daemon.specs.code.Handing.{tree-numbers}
 use Rattle.daemon.specs.code.Reading.{TreeRead}
 
 too-many-modes : (most modes : ℕ) (table : List ℕ) → 1 ≤ modes → most < modes → tree-checked most modes table ≡ BadTree Modes

@@ -1,33 +1,21 @@
 -- "terms come in 16s (else 2), a tree in 6n (else 13), and all other rooms double except the journal's; work is the call's own. … Too short a slice there is 5."
-use mathlib.Core.Bool.{cond}
-use mathlib.Core.List.{List, [], _∷_}
-use Prim.Native.Nat.{ℕ, _*_, _/_, _%_, min}
+use mathlib.Core.Bool.{Bool, cond, not, _&&_}
+use mathlib.Core.List.{List, []}
+use Prim.Native.Nat.{ℕ, _+_, _*_, _%_}
 use lib.Dec.{eqb, leb}
 use lib.ListN.{length}
-use Rattle.journal.specs.Resuming.{Outcome, Rooms, resumed}
-use Rattle.topphatt.specs.Answer.{Outcome as Assignment, asked, Rooms as AssignRooms, outcome}
+use Rattle.refusal.specs.declared.Refusal.the-variants.{Modes, TermNumbers, Room, TreeLength, Heuristic}
+use Rattle.terms.specs.Job.{job-of}
+use Rattle.terms.specs.Good.{modes-good, checked}
+use Rattle.terms.specs.declared.checking.Checked.{Checked}
+use Rattle.terms.specs.declared.checking.Checked.the-variants.{Good, Refused as BadTerms}
+use Rattle.journal.specs.Obeying.{obeyed}
+use Rattle.journal.specs.Resuming.{Outcome, refuses, with-journal}
+use Rattle.tree.specs.Check.{tree-checked}
+use Rattle.tree.specs.declared.TreeChecked.{TreeChecked}
+use Rattle.tree.specs.declared.TreeChecked.the-variants.{Accepted, Refused as BadTree}
+use Rattle.topphatt.specs.Answer.{Outcome as Assignment, refused, Asked, asked, task-of, done-by}
 use Rattle.daemon.specs.Bytes.{words}
-
--- The numbers of the terms; bytes that don't come in 16s are no rows of eight: one number stands for them, which is refused by 2.
-unfoldable pub term-numbers : List ℕ → List ℕ
-term-numbers bytes = cond (eqb (length bytes % 16) 0) (words bytes) (0 ∷ [])
-
--- The room for rows, in numbers, of so many bytes and so many of the answer; the call's own rows have a room too, and where the answer's numbers, eight bytes each, don't fit there is none.
-unfoldable pub room-of : ℕ → ℕ → ℕ → ℕ → ℕ
-room-of numbers own bytes answer = cond (leb (8 * numbers) answer) (min own (bytes / 2)) 0
-
--- What a call has of its own: the most modes, and the room of its work and rows.
-pub record Own : Type 0 where
-  pub modes : ℕ
-  pub work : ℕ
-  pub rows : ℕ
-
-abbrev pub own-of : ℕ → List ℕ → List ℕ → Own
-own-of most work rows = record { modes = most; work = length work; rows = length rows }
-
--- The own work and rows of `dewgoblin_hatt` and `dewgoblin_resume`: 8T and 4n at most.
-abbrev pub call-own : Own
-call-own = record { modes = 256; work = 16384; rows = 1024 }
 
 -- What is lent to a call that resumes: every byte of rows, journal and answer.
 pub record Lent : Type 0 where
@@ -38,30 +26,29 @@ pub record Lent : Type 0 where
 abbrev pub lent : List ℕ → List ℕ → List ℕ → Lent
 lent rows journal answer = record { rows = rows; journal = journal; answer = answer }
 
--- The rooms of a run in what the call has and is lent.
-unfoldable pub rooms-in : Own → Lent → Rooms
-rooms-in own given = record {
-  modes = own .modes;
-  work = own .work;
-  rows = room-of 4 (own .rows) (length (given .rows)) (length (given .answer));
-  journal = length (given .journal);
-}
+-- Room for rows of 4n numbers, the journal's 16 + 21n bytes, and the answer's four numbers.
+unfoldable pub roomy : ℕ → Lent → Bool
+roomy modes given =
+    leb (8 * modes) (length (given .rows)) && (leb (16 + 21 * modes) (length (given .journal)) && leb 32 (length (given .answer)))
 
--- The meaning of `dewgoblin_resume`: from the modes, the terms' bytes, the journal read and what is lent.
-unfoldable pub resume-called : Own → ℕ → List ℕ → List ℕ → Lent → Outcome
-resume-called own modes terms read given = resumed (rooms-in own given) modes (term-numbers terms) read
+-- 3 and 4 of the terms, then 5, then the journal's lines.
+unfoldable pub with-terms : ℕ → List ℕ → List ℕ → Lent → Checked → Outcome
+with-terms modes numbers read given (Good count) =
+    cond (not (roomy modes given)) (refuses Room)
+    (with-journal (job-of modes count numbers) read (obeyed (job-of modes count numbers) read))
+with-terms modes numbers read given (BadTerms refusal) = refuses refusal
+
+-- The meaning of `dewgoblin_resume`, from the most modes that it takes, the modes, the terms' bytes, the journal read and what is lent: 1,
+-- and 2 for terms that don't come in 16s.
+unfoldable pub resume-called : ℕ → ℕ → List ℕ → List ℕ → Lent → Outcome
+resume-called most modes terms read given =
+    cond (not (modes-good most modes)) (refuses Modes)
+    (cond (not (eqb (length terms % 16) 0)) (refuses TermNumbers)
+    (with-terms modes (words terms) read given (checked modes (words terms))))
 
 -- The meaning of `dewgoblin_hatt`.
-unfoldable pub hatt-called : Own → ℕ → List ℕ → Lent → Outcome
-hatt-called own modes terms given = resume-called own modes terms [] given
-
--- The numbers of a tree; bytes that aren't 6n are no table, which is refused by 13.
-unfoldable pub tree-numbers : ℕ → List ℕ → List ℕ
-tree-numbers modes bytes = cond (eqb (length bytes) (6 * modes)) (words bytes) []
-
--- The own work and table of `dewgoblin_assign`: 8T and 3n at most.
-abbrev pub assign-own : AssignRooms
-assign-own = record { modes = 256; work = 16384; table = 768 }
+unfoldable pub hatt-called : ℕ → ℕ → List ℕ → Lent → Outcome
+hatt-called most modes terms given = resume-called most modes terms [] given
 
 -- What is lent to a call that assigns: every byte of table and answer.
 pub record LentTable : Type 0 where
@@ -71,15 +58,24 @@ pub record LentTable : Type 0 where
 abbrev pub lent-table : List ℕ → List ℕ → LentTable
 lent-table table answer = record { table = table; answer = answer }
 
--- The rooms of an assignment in what the call has and is lent.
-unfoldable pub table-rooms-in : AssignRooms → LentTable → AssignRooms
-table-rooms-in own given = record {
-  modes = own .modes;
-  work = own .work;
-  table = room-of 1 (own .table) (length (given .table)) (length (given .answer));
-}
+-- 3 and 4 of the terms, then 5: room for a table of 3n numbers and for the weight.
+unfoldable pub assign-terms : Asked → LentTable → Checked → Assignment
+assign-terms call given (Good count) =
+    cond (not (leb (6 * call .modes) (length (given .table)) && leb 8 (length (given .answer)))) (refused Room) (done-by (task-of call count))
+assign-terms call given (BadTerms refusal) = refused refusal
 
--- The meaning of `dewgoblin_assign`: from the modes, the tree's bytes, the heuristic, the terms' bytes and what is lent.
-unfoldable pub assign-called : AssignRooms → ℕ → List ℕ → ℕ → List ℕ → LentTable → Assignment
-assign-called own modes tree heuristic terms given =
-    outcome (table-rooms-in own given) (asked modes (tree-numbers modes tree) heuristic (term-numbers terms))
+-- 14 to 16 of the tree, 17, and 2 for terms that don't come in 16s.
+unfoldable pub assign-tree : Asked → List ℕ → LentTable → TreeChecked → Assignment
+assign-tree call terms given Accepted =
+    cond (not (leb (call .heuristic) 2)) (refused Heuristic)
+    (cond (not (eqb (length terms % 16) 0)) (refused TermNumbers)
+    (assign-terms call given (checked (call .modes) (call .numbers))))
+assign-tree call terms given (BadTree refusal) = refused refusal
+
+-- The meaning of `dewgoblin_assign`, from the most modes that it takes, the modes, the tree's bytes, the heuristic, the terms' bytes and
+-- what is lent: 1, and 13 for a tree that isn't 6n bytes.
+unfoldable pub assign-called : ℕ → ℕ → List ℕ → ℕ → List ℕ → LentTable → Assignment
+assign-called most modes tree heuristic terms given =
+    cond (not (modes-good most modes)) (refused Modes)
+    (cond (not (eqb (length tree) (6 * modes))) (refused TreeLength)
+    (assign-tree (asked modes (words tree) heuristic (words terms)) terms given (tree-checked most modes (words tree))))

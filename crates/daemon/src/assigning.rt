@@ -1,12 +1,14 @@
 // Assigning called from C on arrays of its own, between the bytes that were lent.
 ghost use mathlib.Core.Path.{_≡_};
-ghost use Prim.Native.Nat.{_*_, _≤_};
+ghost use Prim.Native.Nat.{_+_, _*_, _≤_};
 ghost use lib.ListN.{length, take};
 ghost use Rattle.lists.specs.Written.{«written-at»};
+ghost use Rattle.entities.specs.Limits.{«most-modes», «most-terms», «row-width»};
 ghost use Rattle.topphatt.specs.Answer.{asked, outcome};
 ghost use Rattle.topphatt.specs.Promises.{lent as «in-numbers», «rooms-of»};
 ghost use Rattle.daemon.specs.Bytes.{«two-bytes», «eight-bytes»};
-ghost use Rattle.daemon.specs.Calls.{«assign-own», «lent-table», «assign-called»};
+ghost use Rattle.daemon.specs.Calls.{«lent-table», «assign-called»};
+ghost use Rattle.daemon.specs.code.Handing.{«assign-handed»};
 ghost use Rattle.daemon.specs.code.Reading.{TreeRead};
 ghost use Rattle.daemon.specs.Promises.{AssignCalled};
 use crate::answering;
@@ -17,8 +19,8 @@ use topphatt::Assigned;
 
 // How many numbers of a tree the call goes on with: none where the bytes aren't 6n, so that 13 is given in its turn.
 fn read_tree(modes: usize, bytes: &[u8], numbers: &mut [u16]) -> usize
-    requires { ⌜ length (now numbers) ≡ 768 ⌝ }
-    ensures { λ r. ⌜ TreeRead 256 modes (now (bytes .entry)) (now (numbers .exit)) r ⌝ }
+    requires { ⌜ length (now numbers) ≡ 3 * most-modes ⌝ }
+    ensures { λ r. ⌜ TreeRead most-modes modes (now (bytes .entry)) (now (numbers .exit)) r ⌝ }
 {
     if 256 < modes {
         return 0;
@@ -53,7 +55,7 @@ fn assign_numbers(
     answer: &mut [u8],
 ) -> u64
     requires { ⌜ (2 * length (now own) ≤ length (now table)) × (1 ≤ length (now own) → 8 ≤ length (now answer)) ⌝ }
-    ensures { λ r. ⌜ AssignCalled (λ given. outcome (rooms-of 256 (in-numbers (now (work .entry)) (now (own .entry)))) (asked modes (now (tree .entry)) heuristic (now (terms .entry))))
+    ensures { λ r. ⌜ AssignCalled (λ given. outcome (rooms-of most-modes (in-numbers (now (work .entry)) (now (own .entry)))) (asked modes (now (tree .entry)) heuristic (now (terms .entry))))
         (lent-table (now (table .entry)) (now (answer .entry))) (lent-table (now (table .exit)) (now (answer .exit))) r ⌝ }
 {
     match topphatt::assign(modes, tree, heuristic, terms, work, own) {
@@ -78,8 +80,8 @@ fn assign_lent(
     table: &mut [u8],
     answer: &mut [u8],
 ) -> u64
-    requires { ⌜ (length (now codes) ≡ 768) × (length (now numbers) ≡ 16392) ⌝ }
-    ensures { λ r. ⌜ AssignCalled (assign-called (rooms-of 256 (in-numbers (now (work .entry)) (now (own .entry)))) modes (now (tree .entry)) heuristic (now (terms .entry)))
+    requires { ⌜ (length (now codes) ≡ 3 * most-modes) × (length (now numbers) ≡ row-width * (most-terms + 1)) ⌝ }
+    ensures { λ r. ⌜ AssignCalled (assign-handed (rooms-of most-modes (in-numbers (now (work .entry)) (now (own .entry)))) modes (now (tree .entry)) heuristic (now (terms .entry)))
         (lent-table (now (table .entry)) (now (answer .entry))) (lent-table (now (table .exit)) (now (answer .exit))) r ⌝ }
 {
     let nodes = read_tree(modes, tree, codes);
@@ -106,7 +108,7 @@ pub fn assign_bytes(
     table: &mut [u8],
     answer: &mut [u8],
 ) -> u64
-    ensures { λ r. ⌜ AssignCalled (assign-called assign-own modes (now (tree .entry)) heuristic (now (terms .entry)))
+    ensures { λ r. ⌜ AssignCalled (assign-called most-modes modes (now (tree .entry)) heuristic (now (terms .entry)))
         (lent-table (now (table .entry)) (now (answer .entry))) (lent-table (now (table .exit)) (now (answer .exit))) r ⌝ }
 {
     let mut codes = [0u16; 768];

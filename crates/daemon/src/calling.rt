@@ -1,10 +1,12 @@
 // A call from C on arrays of its own: resuming between the bytes that were lent.
 ghost use mathlib.Core.Path.{_≡_};
-ghost use Prim.Native.Nat.{_*_, _≤_};
+ghost use Prim.Native.Nat.{_+_, _*_, _≤_};
 ghost use lib.ListN.{length};
+ghost use Rattle.entities.specs.Limits.{«most-modes», «most-terms», «row-width»};
 ghost use Rattle.journal.specs.Resuming.{resumed};
 ghost use Rattle.journal.specs.Promises.{lent as «run-lent», «rooms-of»};
-ghost use Rattle.daemon.specs.Calls.{«room-of», «own-of», «call-own», lent, «resume-called»};
+ghost use Rattle.daemon.specs.Calls.{lent, «resume-called»};
+ghost use Rattle.daemon.specs.code.Handing.{«room-of», «own-of», «resume-handed»};
 ghost use Rattle.daemon.specs.Promises.{Called};
 use crate::answering;
 use crate::term_bytes;
@@ -23,7 +25,7 @@ fn resume_numbers(
     answer: &mut [u8],
 ) -> u64
     requires { ⌜ (2 * length (now own) ≤ length (now rows)) × (1 ≤ length (now own) → 32 ≤ length (now answer)) ⌝ }
-    ensures { λ r. ⌜ Called (λ given. resumed (rooms-of 256 (run-lent (now (work .entry)) (now (own .entry)) (given .journal))) modes (now (terms .entry)) (now (read .entry)))
+    ensures { λ r. ⌜ Called (λ given. resumed (rooms-of most-modes (run-lent (now (work .entry)) (now (own .entry)) (given .journal))) modes (now (terms .entry)) (now (read .entry)))
         (lent (now (rows .entry)) (now (journal .entry)) (now (answer .entry))) (lent (now (rows .exit)) (now (journal .exit)) (now (answer .exit))) r ⌝ }
 {
     match resuming::resume(modes, terms, read, work, own, journal) {
@@ -61,8 +63,8 @@ fn resume_lent(
     journal: &mut [u8],
     answer: &mut [u8],
 ) -> u64
-    requires { ⌜ length (now numbers) ≡ 16392 ⌝ }
-    ensures { λ r. ⌜ Called (resume-called (own-of 256 (now (work .entry)) (now (own .entry))) modes (now (terms .entry)) (now (read .entry)))
+    requires { ⌜ length (now numbers) ≡ row-width * (most-terms + 1) ⌝ }
+    ensures { λ r. ⌜ Called (resume-handed (own-of most-modes (now (work .entry)) (now (own .entry))) modes (now (terms .entry)) (now (read .entry)))
         (lent (now (rows .entry)) (now (journal .entry)) (now (answer .entry))) (lent (now (rows .exit)) (now (journal .exit)) (now (answer .exit))) r ⌝ }
 {
     let count = term_bytes::read_terms(terms, numbers);
@@ -88,7 +90,7 @@ pub fn resume_bytes(
     journal: &mut [u8],
     answer: &mut [u8],
 ) -> u64
-    ensures { λ r. ⌜ Called (resume-called call-own modes (now (terms .entry)) (now (read .entry)))
+    ensures { λ r. ⌜ Called (resume-called most-modes modes (now (terms .entry)) (now (read .entry)))
         (lent (now (rows .entry)) (now (journal .entry)) (now (answer .entry))) (lent (now (rows .exit)) (now (journal .exit)) (now (answer .exit))) r ⌝ }
 {
     let mut numbers = [0u16; 16392];

@@ -1,5 +1,6 @@
 // The calls of the queue daemon, which is C: numbers and slices of bytes.
-ghost use Rattle.daemon.specs.Calls.{«call-own», lent, «resume-called», «hatt-called», «assign-own», «lent-table», «assign-called»};
+ghost use Rattle.entities.specs.Limits.{«most-modes»};
+ghost use Rattle.daemon.specs.Calls.{lent, «resume-called», «hatt-called», «lent-table», «assign-called»};
 ghost use Rattle.daemon.specs.Promises.{Called, AssignCalled};
 
 mod answering;
@@ -17,7 +18,7 @@ pub extern "C" fn dewgoblin_hatt(
     journal: &mut [u8],
     answer: &mut [u8],
 ) -> u64
-    ensures { λ r. ⌜ Called (hatt-called call-own modes (now (terms .entry)))
+    ensures { λ r. ⌜ Called (hatt-called most-modes modes (now (terms .entry)))
         (lent (now (rows .entry)) (now (journal .entry)) (now (answer .entry))) (lent (now (rows .exit)) (now (journal .exit)) (now (answer .exit))) r ⌝ }
 {
     calling::resume_bytes(modes, terms, b"", rows, journal, answer)
@@ -33,7 +34,7 @@ pub extern "C" fn dewgoblin_resume(
     journal: &mut [u8],
     answer: &mut [u8],
 ) -> u64
-    ensures { λ r. ⌜ Called (resume-called call-own modes (now (terms .entry)) (now (read .entry)))
+    ensures { λ r. ⌜ Called (resume-called most-modes modes (now (terms .entry)) (now (read .entry)))
         (lent (now (rows .entry)) (now (journal .entry)) (now (answer .entry))) (lent (now (rows .exit)) (now (journal .exit)) (now (answer .exit))) r ⌝ }
 {
     calling::resume_bytes(modes, terms, read, rows, journal, answer)
@@ -49,7 +50,7 @@ pub extern "C" fn dewgoblin_assign(
     table: &mut [u8],
     answer: &mut [u8],
 ) -> u64
-    ensures { λ r. ⌜ AssignCalled (assign-called assign-own modes (now (tree .entry)) heuristic (now (terms .entry)))
+    ensures { λ r. ⌜ AssignCalled (assign-called most-modes modes (now (tree .entry)) heuristic (now (terms .entry)))
         (lent-table (now (table .entry)) (now (answer .entry))) (lent-table (now (table .exit)) (now (answer .exit))) r ⌝ }
 {
     assigning::assign_bytes(modes, tree, heuristic, terms, table, answer)

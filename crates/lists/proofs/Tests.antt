@@ -22,6 +22,12 @@ pub not-so : (b : Bool) → (b ≡ true → ⊥) → b ≡ false
 not-so true never = absurd (never refl)
 not-so false never = refl
 
+-- Two tests that pass together are the same.
+pub same-test : (p q : Bool) → (p ≡ true → q ≡ true) → (q ≡ true → p ≡ true) → p ≡ q
+same-test true q on back = sym (on refl)
+same-test false true on back = back refl
+same-test false false on back = refl
+
 -- Of two, whichever a test takes.
 pub whichever : {A : Type 0} (measure : A → ℕ) (most : ℕ) (test : Bool) (on off : A) → (test ≡ true → measure on ≤ most) → measure off ≤ most
     → measure (cond test on off) ≤ most

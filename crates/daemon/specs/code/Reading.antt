@@ -5,7 +5,7 @@ use Prim.Native.Nat.{ℕ, _≤_}
 use lib.ListN.{length, take}
 use Rattle.journal.specs.Resuming.{Rooms, resumed}
 use Rattle.topphatt.specs.Answer.{asked, Rooms as AssignRooms, outcome}
-use Rattle.daemon.specs.Calls.{term-numbers, tree-numbers}
+use Rattle.daemon.specs.code.Handing.{term-numbers, tree-numbers}
 
 -- So many numbers were read: resuming and assigning with them come to what they do with all of the terms.
 pub record TermsRead (bytes numbers : List ℕ) (count : ℕ) : Type 0 where

@@ -15,7 +15,7 @@ put-merge-requires : tie.Need-put-merge-requires
 put-merge-requires c κs =
     let args = c .before .before .before .before .before .before .before .before .before .args in
     accepted (args .modes) (args .rows .now) (c .before .before .before .count .given .0 .0)
-    (sym (c .before .before .before .before .before .check-terms .ensures) ∙ c .before .before .before .count .given .1) .held
+    (sym (c .before .before .before .before .before .check-terms .ensures .answer) ∙ c .before .before .before .count .given .1) .held
 
 enum-known-refusal : tie.Need-enum-known-refusal
 enum-known-refusal c = search needs

@@ -19,17 +19,17 @@ enum-told c = search needs
 
 returns : tie.Need-returns
 unfolding outcome with-tree
-returns c = rw (sym (c .before .before .before .check-tree .ensures) ∙ c .before .enum-told .given .1) (rw (lt-leb _ 2 (c .if1 .taken)) (refused-so _ _ _ refl))
+returns c = rw (sym (c .before .before .before .check-tree .ensures .answer) ∙ c .before .enum-told .given .1) (rw (lt-leb _ 2 (c .if1 .taken)) (refused-so _ _ _ refl))
 
 assign-accepted-requires : tie.Need-assign-accepted-requires
 assign-accepted-requires c κs =
     let start = c .before .before .before .before .before .before .before .before .before .before in
-    let parts = accepted-parts 256 (start .args .modes) (start .args .tree .now) (sym (c .before .before .before .before .before .check-tree .ensures) ∙ c .before .before .before .enum-told .given .1) in
+    let parts = accepted-parts 256 (start .args .modes) (start .args .tree .now) (sym (c .before .before .before .before .before .check-tree .ensures .answer) ∙ c .before .before .before .enum-told .given .1) in
     (parts .some, parts .few, parts .whole)
 
 returns-2 : tie.Need-returns-2
 unfolding outcome with-tree
-returns-2 c = rw (sym (c .before .before .before .check-tree .ensures) ∙ c .before .refusal .given .1) (refused-so _ _ _ refl)
+returns-2 c = rw (sym (c .before .before .before .check-tree .ensures .answer) ∙ c .before .refusal .given .1) (refused-so _ _ _ refl)
 
 same-length : tie.Need-same-length
 same-length c = search needs
@@ -40,7 +40,7 @@ same-length-2 c = search needs
 returns-3 : tie.Need-returns-3
 unfolding outcome with-tree
 returns-3 c =
-    rw (sym (c .before .before .before .before .before .before .before .before .before .before .check-tree .ensures) ∙ c .before .before .before .before .before .before .before .before .enum-told .given .1)
+    rw (sym (c .before .before .before .before .before .before .before .before .before .before .check-tree .ensures .answer) ∙ c .before .before .before .before .before .before .before .before .enum-told .given .1)
     (rw (le-leb _ 2 (c .before .before .before .before .before .before .before .if1 .left)) (c .before .before .before .before .assign-accepted .ensures))
 
 pub assign-spec : {M : Type 1} → statement M

@@ -19,13 +19,13 @@ enum-known-count c = search needs
 assign-good-requires : tie.Need-assign-good-requires
 assign-good-requires c κs =
     let start = c .before .before .before .before .before .before .before .before .before .before in
-    let counted = sym (c .before .before .before .before .before .check-terms .ensures) ∙ c .before .before .before .count .given .1 in
+    let counted = sym (c .before .before .before .before .before .check-terms .ensures .answer) ∙ c .before .before .before .count .given .1 in
     let rows = accepted (start .args .modes) (start .args .terms .now) (c .before .before .before .count .given .0 .0) counted in
     ((start .pre .0, start .pre .1, rows .at-most, start .pre .2), (rows .whole, rows .held))
 
 returns : tie.Need-returns
 unfolding with-terms
-returns c = rw (sym (c .before .before .before .check-terms .ensures) ∙ c .before .refusal .given .1) (refused-so _ _ _ refl)
+returns c = rw (sym (c .before .before .before .check-terms .ensures .answer) ∙ c .before .refusal .given .1) (refused-so _ _ _ refl)
 
 same-length : tie.Need-same-length
 same-length c = search needs
@@ -35,7 +35,7 @@ same-length-2 c = search needs
 
 returns-2 : tie.Need-returns-2
 unfolding with-terms
-returns-2 c = rw (sym (c .before .before .before .before .before .before .before .before .before .before .check-terms .ensures) ∙ c .before .before .before .before .before .before .before .before .count .given .1) (c .before .before .before .before .assign-good .ensures)
+returns-2 c = rw (sym (c .before .before .before .before .before .before .before .before .before .before .check-terms .ensures .answer) ∙ c .before .before .before .before .before .before .before .before .count .given .1) (c .before .before .before .before .assign-good .ensures)
 
 pub assign-accepted-spec : {M : Type 1} → statement M
 assign-accepted-spec =

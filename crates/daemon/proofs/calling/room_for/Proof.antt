@@ -3,7 +3,7 @@ use Prim.Native.Nat.{_*_}
 use native.Mathlib.Omega.{arith}
 use borrow.Author.Needs.{needs}
 use borrow.Author.Tests.{le-leb, lt-leb}
-use Rattle.daemon.specs.Calls.{room-of}
+use Rattle.daemon.specs.code.Handing.{room-of}
 use Rattle.daemon.proofs.calling.room_for.Statement.{statement}
 use Rattle.daemon.proofs.calling.room_for.Tie as tie
 

@@ -62,7 +62,7 @@ checked : (c : tie.After-check-tree)
     → let s = from-tree (c .before .before .before) in c .check-tree .result ≡ tree-checked 256 (s .args .modes) (table-in (s .args .rows .now))
 checked c =
     let l = c .before .before .before in
-    c .check-tree .ensures ∙ ap (tree-checked 256 (from-tree l .args .modes)) (take-at (tree l) _ (tree-end l) (tree-size l) ∙ tree-is l)
+    c .check-tree .ensures .answer ∙ ap (tree-checked 256 (from-tree l .args .modes)) (take-at (tree l) _ (tree-end l) (tree-size l) ∙ tree-is l)
 
 -- What the nodes are read as is what is taken of the check's answer.
 read-is : (c : tie.After-check-tree) (name at room : ℕ)

@@ -24,7 +24,7 @@ put-tree-requires c κs =
 
 returns : tie.Need-returns
 unfolding newick-written written-as text-after
-returns c = (rw (sym (c .before .before .before .check-tree .ensures) ∙ c .before .refusal .given .1), refl)
+returns c = (rw (sym (c .before .before .before .check-tree .ensures .answer) ∙ c .before .refusal .given .1), refl)
 
 same-length : tie.Need-same-length
 same-length c = search needs
