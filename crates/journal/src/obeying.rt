@@ -5,7 +5,7 @@ ghost use Prim.Native.Nat.{_≤_};
 ghost use lib.ListN.{length, drop};
 ghost use Rattle.entities.specs.Limits.{«most-modes», «most-terms», «row-width»};
 ghost use Rattle.fields.specs.Lines.{lines};
-ghost use Rattle.terms.specs.Rows.{Held};
+ghost use Rattle.terms.specs.code.Held.{Held};
 ghost use Rattle.terms.specs.Job.{Job, «job-of»};
 ghost use Rattle.merging.specs.declared.run.Run.{Run as State};
 ghost use Rattle.merging.specs.code.State.{«history-of»};

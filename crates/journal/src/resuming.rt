@@ -6,7 +6,7 @@ ghost use Prim.Native.Nat.{ℕ, _≤_};
 ghost use lib.ListN.{length};
 ghost use Rattle.entities.specs.Limits.{«most-modes», «most-terms», «row-width»};
 ghost use Rattle.fields.specs.Lines.{«kept-of»};
-ghost use Rattle.terms.specs.Rows.{Held};
+ghost use Rattle.terms.specs.code.Held.{Held};
 ghost use Rattle.terms.specs.Job.{Job, «job-of»};
 ghost use Rattle.terms.specs.Good.{checked};
 ghost use Rattle.terms.specs.declared.checking.Checked.the-variants.{Good};

@@ -4,7 +4,7 @@ use mathlib.Core.List.{[], List}
 use Prim.Native.Nat.{ℕ, _+_, _*_, _≤_}
 use native.Mathlib.Omega.{arith}
 use Rattle.lists.specs.Ranges.{listed}
-use Rattle.terms.specs.Rows.{Held}
+use Rattle.terms.specs.code.Held.{Held}
 use Rattle.terms.specs.Job.{job-of}
 use Rattle.terms.proofs.RowSteps.{length-terms}
 use Rattle.merging.specs.declared.run.Run.{Run}

@@ -6,8 +6,7 @@ ghost use Prim.Native.Nat.{ℕ, _+_, _≤_, _<_};
 ghost use lib.ListN.{getD, length};
 ghost use Rattle.entities.specs.declared.Triple.{Triple as Three};
 ghost use Rattle.entities.specs.Limits.{«most-modes», «most-terms», «row-width», «entity-room»};
-ghost use Rattle.terms.specs.Rows.{Held};
-ghost use Rattle.terms.specs.Weight.{OddOf};
+ghost use Rattle.terms.specs.code.Held.{Held, OddOf};
 ghost use Rattle.merging.specs.History.{«next-parent»};
 ghost use Rattle.merging.specs.Choice.{candidates};
 ghost use Rattle.merging.specs.code.Couples.{

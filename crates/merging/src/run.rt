@@ -5,7 +5,7 @@ ghost use Prim.Native.Nat.{ℕ, _+_, _*_, _≤_, _<_};
 ghost use lib.ListN.{getD};
 ghost use Rattle.lists.specs.Ranges.{listed};
 ghost use Rattle.entities.specs.Limits.{«most-modes», «most-terms», «row-width», «entity-room»};
-ghost use Rattle.terms.specs.Rows.{Held};
+ghost use Rattle.terms.specs.code.Held.{Held};
 ghost use Rattle.terms.specs.Job.{Job, «job-of»};
 ghost use Rattle.merging.specs.History.{«is-open»};
 ghost use Rattle.merging.specs.Choice.{chosen};

@@ -1,27 +1,25 @@
 -- "Marked P: proved of the definitions, one table, one claim."
-use mathlib.Core.Bool.{Bool, _&&_}
+use mathlib.Core.Path.{_≡_}
+use mathlib.Core.Bool.{Bool, true, _&&_}
 use mathlib.Core.List.{List, [], _∷_, _++_}
-use Prim.Native.Nat.{ℕ, _+_, _*_}
+use Prim.Native.Nat.{ℕ, _*_}
 use lib.ListN.{length, replicate}
-use Rattle.lists.specs.Members.{alike}
-use Rattle.refusal.specs.Numbers.{refused-numbers, done-numbers}
+use Rattle.lists.specs.Members.{every, alike}
 use Rattle.entities.specs.Codes.{absent}
+use Rattle.entities.specs.Limits.{most-modes}
+use Rattle.fields.specs.Texts.{spelt}
 use Rattle.merging.specs.Trials.{trial-total}
 use Rattle.journal.specs.Resuming.{Outcome, resumed}
 use Rattle.journal.specs.Promises.{numbers-of, returned, lent, lent-then}
-use Rattle.tree.specs.Check.{tree-checked}
-use Rattle.tree.specs.Weight.{tree-weighed}
-use Rattle.tree.specs.declared.TreeWeighed.{TreeWeighed}
-use Rattle.tree.specs.declared.TreeWeighed.the-variants.{Weight, Unweighed}
+use Rattle.tree.specs.Weight.{tree-weighed, weight-numbers}
 use Rattle.topphatt.specs.Answer.{asked, outcome}
 use Rattle.topphatt.specs.Promises.{numbers-of as assign-numbers, returned as assigned, lent as assign-lent, lent-then as assign-left}
 use Rattle.newick.specs.Writing.{newick-text}
 use Rattle.text.specs.Running.{program-rooms}
 use Rattle.text.specs.Output.{answer-text}
 use Rattle.text.specs.NewickLine.{newick-answer-text}
-use Rattle.daemon.specs.Calls.{call-own, lent as bytes-lent, hatt-called}
+use Rattle.daemon.specs.Calls.{lent as bytes-lent, hatt-called}
 use Rattle.daemon.specs.Promises.{result-of, lent-then as bytes-left}
-use Rattle.p_cases.specs.Texts.{input3, output3, newick3}
 
 -- What a caller sees of a call: the numbers that it returns, refusal and place before the others; the rows or the table that it
 -- wrote; the lines that it wrote.
@@ -55,21 +53,18 @@ four a b c d = 4 ∷ a ∷ b ∷ c ∷ d ∷ 0 ∷ 0 ∷ 0 ∷ []
 abbrev pub terms3 : List ℕ
 terms3 = two 0 1 ++ (two 2 3 ++ four 0 1 2 3)
 
+-- P3's terms as the programs read them.
+abbrev pub input3 : List ℕ
+input3 = spelt "modes\t2\nterm\t0\t1\nterm\t2\t3\nterm\t0\t1\t2\t3\n"
+
 -- P3's tree: "(2,3,4; 0,5,-)".
 abbrev pub tree3 : List ℕ
 tree3 = 2 ∷ 3 ∷ 4 ∷ 0 ∷ 5 ∷ absent ∷ []
 
--- A header and a step line of numbers with one digit.
-unfoldable pub header : ℕ → ℕ → List ℕ
-header modes terms = 104 ∷ 97 ∷ 116 ∷ 116 ∷ 9 ∷ 49 ∷ 9 ∷ (48 + modes) ∷ 9 ∷ (48 + terms) ∷ 10 ∷ []
-
-unfoldable pub line : ℕ → ℕ → ℕ → ℕ → ℕ → List ℕ
-line step x y z weight = (48 + step) ∷ 9 ∷ (48 + x) ∷ 9 ∷ (48 + y) ∷ 9 ∷ (48 + z) ∷ 9 ∷ (48 + weight) ∷ 10 ∷ []
-
 -- What resuming means; the rooms for work and rows are as 01 asks for.
 unfoldable pub meant : ℕ → List ℕ → List ℕ → ℕ → Outcome
 meant modes terms journal room =
-    resumed (record { modes = 256; work = length terms; rows = 4 * modes; journal = room }) modes terms journal
+    resumed (record { modes = most-modes; work = length terms; rows = 4 * modes; journal = room }) modes terms journal
 
 -- What resuming shows: refusal, place, weight, trials, kept and new bytes.
 unfoldable pub resuming : Outcome → Seen
@@ -77,22 +72,18 @@ resuming outcome =
     let left = lent-then outcome (lent [] [] []) in
     record { numbers = numbers-of (returned outcome); rows = left .rows; lines = left .journal }
 
--- What the tree weight shows: refusal, place, weight.
-unfoldable pub weighed : TreeWeighed → List ℕ
-weighed (Weight weight) = done-numbers (weight ∷ [])
-weighed (Unweighed refusal) = refused-numbers 1 refusal
-
 -- Nothing but numbers.
 unfoldable pub told : List ℕ → Seen
 told numbers = record { numbers = numbers; rows = []; lines = [] }
 
+-- What the tree weight shows: refusal, place, weight.
 unfoldable pub weighing : ℕ → List ℕ → List ℕ → Seen
-weighing modes tree terms = told (weighed (tree-weighed 256 modes tree terms (tree-checked 256 modes tree)))
+weighing modes tree terms = told (weight-numbers (tree-weighed most-modes modes tree terms))
 
 -- What assigning shows under `min_weight`: refusal, place, weight.
 unfoldable pub assigning : ℕ → List ℕ → List ℕ → Seen
 assigning modes tree terms =
-    let came = outcome (record { modes = 256; work = length terms; table = length tree }) (asked modes tree 0 terms) in
+    let came = outcome (record { modes = most-modes; work = length terms; table = length tree }) (asked modes tree 0 terms) in
     record { numbers = assign-numbers (assigned came); rows = assign-left came (assign-lent [] []) .table; lines = [] }
 
 -- Nothing but lines.
@@ -119,18 +110,28 @@ p3 = meant 2 terms3 [] 58
 
 -- P5: P3's terms, journal of its header and `0 0 1 4 2`
 abbrev pub p5 : Outcome
-p5 = meant 2 terms3 (header 2 3 ++ line 0 0 1 4 2) 58
+p5 = meant 2 terms3 (spelt "hatt\t1\t2\t3\n0\t0\t1\t4\t2\n") 58
 
 unfoldable pub cases : List Case
 cases =
     record {
       says = resuming p1;
-      shown = record { numbers = 0 ∷ 0 ∷ 1 ∷ 2 ∷ 0 ∷ 21 ∷ []; rows = 0 ∷ 1 ∷ 2 ∷ absent ∷ []; lines = header 1 1 ++ line 0 0 1 2 1 };
+      shown =
+          record {
+            numbers = 0 ∷ 0 ∷ 1 ∷ 2 ∷ 0 ∷ 21 ∷ [];
+            rows = 0 ∷ 1 ∷ 2 ∷ absent ∷ [];
+            lines = spelt "hatt\t1\t1\t1\n0\t0\t1\t2\t1\n";
+          };
     }
     -- P2: that row twice
     ∷ record {
       says = resuming (meant 1 (two 0 1 ++ two 0 1) [] 37);
-      shown = record { numbers = 0 ∷ 0 ∷ 2 ∷ 2 ∷ 0 ∷ 21 ∷ []; rows = 0 ∷ 1 ∷ 2 ∷ absent ∷ []; lines = header 1 2 ++ line 0 0 1 2 2 };
+      shown =
+          record {
+            numbers = 0 ∷ 0 ∷ 2 ∷ 2 ∷ 0 ∷ 21 ∷ [];
+            rows = 0 ∷ 1 ∷ 2 ∷ absent ∷ [];
+            lines = spelt "hatt\t1\t1\t2\n0\t0\t1\t2\t2\n";
+          };
     }
     ∷ record {
       says = resuming p3;
@@ -138,7 +139,7 @@ cases =
           record {
             numbers = 0 ∷ 0 ∷ 4 ∷ 14 ∷ 0 ∷ 31 ∷ [];
             rows = 1 ∷ 0 ∷ 5 ∷ absent ∷ 0 ∷ 2 ∷ 3 ∷ 4 ∷ [];
-            lines = header 2 3 ++ (line 0 0 1 2 2 ++ line 1 5 3 4 2);
+            lines = spelt "hatt\t1\t2\t3\n0\t0\t1\t2\t2\n1\t5\t3\t4\t2\n";
           };
     }
     ∷ record { says = weighing 2 tree3 terms3; shown = told (0 ∷ 0 ∷ 4 ∷ []) }
@@ -149,19 +150,27 @@ cases =
           record {
             numbers = 0 ∷ 0 ∷ 1 ∷ 14 ∷ 0 ∷ 31 ∷ [];
             rows = 1 ∷ 4 ∷ 0 ∷ absent ∷ 0 ∷ 2 ∷ 3 ∷ 5 ∷ [];
-            lines = header 2 2 ++ (line 0 0 1 3 0 ++ line 1 2 5 4 1);
+            lines = spelt "hatt\t1\t2\t2\n0\t0\t1\t3\t0\n1\t2\t5\t4\t1\n";
           };
     }
     ∷ record { says = weighing 2 (2 ∷ 3 ∷ 5 ∷ 4 ∷ 0 ∷ absent ∷ []) (one 2 ++ one 2); shown = told (0 ∷ 0 ∷ 2 ∷ []) }
     ∷ record {
       says = resuming p5;
-      shown = record { numbers = 0 ∷ 0 ∷ 4 ∷ 2 ∷ 21 ∷ 10 ∷ []; rows = 1 ∷ 4 ∷ 5 ∷ 0 ∷ 0 ∷ 2 ∷ 3 ∷ absent ∷ []; lines = line 1 2 3 5 2 };
+      shown =
+          record {
+            numbers = 0 ∷ 0 ∷ 4 ∷ 2 ∷ 21 ∷ 10 ∷ [];
+            rows = 1 ∷ 4 ∷ 5 ∷ 0 ∷ 0 ∷ 2 ∷ 3 ∷ absent ∷ [];
+            lines = spelt "1\t2\t3\t5\t2\n";
+          };
     }
     -- P6: the same with weight 1
-    ∷ record { says = resuming (meant 2 terms3 (header 2 3 ++ line 0 0 1 4 1) 58); shown = told (11 ∷ 1 ∷ 0 ∷ 0 ∷ 0 ∷ 0 ∷ []) }
+    ∷ record {
+      says = resuming (meant 2 terms3 (spelt "hatt\t1\t2\t3\n0\t0\t1\t4\t1\n") 58);
+      shown = told (11 ∷ 1 ∷ 0 ∷ 0 ∷ 0 ∷ 0 ∷ []);
+    }
     -- P7: P3's lines in exchanged order
     ∷ record {
-      says = resuming (meant 2 terms3 (header 2 3 ++ (line 1 5 3 4 2 ++ line 0 0 1 2 2)) 58);
+      says = resuming (meant 2 terms3 (spelt "hatt\t1\t2\t3\n1\t5\t3\t4\t2\n0\t0\t1\t2\t2\n") 58);
       shown = told (8 ∷ 1 ∷ 0 ∷ 0 ∷ 0 ∷ 0 ∷ []);
     }
     -- P8: assign P3's tree, row 1
@@ -173,21 +182,28 @@ cases =
     ∷ record { says = assigning 2 tree3 terms3; shown = record { numbers = 0 ∷ 0 ∷ 2 ∷ []; rows = tree3; lines = [] } }
     -- P10: trials for n=256
     ∷ record { says = told (trial-total 256 ∷ []); shown = told (22435072 ∷ []) }
-    -- P3 as the program `hatt` prints it, as the program `newick` does, whose line has room for 8191 bytes, and as the Newick text of its tree
-    ∷ record { says = printed (answer-text program-rooms input3); shown = printed output3 }
-    ∷ record { says = printed (newick-answer-text program-rooms 8191 input3); shown = printed (newick3 ++ (10 ∷ [])) }
-    ∷ record { says = printed (newick-text 2 tree3); shown = printed newick3 }
-    -- P1 called from C, with the call's own work and rows for 2048 terms and 256 modes: 0, then weight 1, trials 2, nothing kept, 21 bytes new
+    -- P3 as the program `hatt` prints it, as the program `newick` does, and as the Newick text of its tree
+    ∷ record {
+      says = printed (answer-text program-rooms input3);
+      shown = printed (spelt "weight\t4\ntrials\t14\nnode\t1\t0\t5\t-\nnode\t0\t2\t3\t4\n");
+    }
+    ∷ record { says = printed (newick-answer-text program-rooms input3); shown = printed (spelt "((m0,m1,m2)n0,m3,e)n1;\n") }
+    ∷ record { says = printed (newick-text 2 tree3); shown = printed (spelt "((m0,m1,m2)n0,m3,e)n1;") }
+    -- P1 called from C: 0, then weight 1, trials 2, nothing kept, 21 bytes new
     ∷ record {
       says =
           calling
-          (hatt-called call-own 1 (2 ∷ 0 ∷ 0 ∷ 0 ∷ 1 ∷ 0 ∷ 0 ∷ 0 ∷ 0 ∷ 0 ∷ 0 ∷ 0 ∷ 0 ∷ 0 ∷ 0 ∷ 0 ∷ [])
+          (hatt-called most-modes 1 (2 ∷ 0 ∷ 0 ∷ 0 ∷ 1 ∷ 0 ∷ 0 ∷ 0 ∷ 0 ∷ 0 ∷ 0 ∷ 0 ∷ 0 ∷ 0 ∷ 0 ∷ 0 ∷ [])
           (bytes-lent (replicate 8 0) (replicate 37 0) (replicate 32 0)));
       shown =
           record {
             numbers = 0 ∷ (eight 1 ++ (eight 2 ++ (eight 0 ++ eight 21)));
             rows = 0 ∷ 0 ∷ 1 ∷ 0 ∷ 2 ∷ 0 ∷ 255 ∷ 255 ∷ [];
-            lines = header 1 1 ++ line 0 0 1 2 1;
+            lines = spelt "hatt\t1\t1\t1\n0\t0\t1\t2\t1\n";
           };
     }
     ∷ []
+
+-- The claim: every case of the table holds.
+abbrev pub CasesHold : Type 0
+CasesHold = every holds cases ≡ true

@@ -1,3 +1,2 @@
--- What each P case of document 01 claims, and P3 as texts.
-pub mod Texts
+-- What each P case of document 01 claims.
 pub mod Cases

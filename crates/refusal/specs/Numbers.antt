@@ -27,51 +27,34 @@ use Rattle.refusal.specs.declared.Refusal.the-variants.{
   TooManyNodes,
 }
 
--- The column "No." of the table.
-abbrev pub numberOf : Refusal → ℕ
-numberOf Modes = 1
-numberOf TermNumbers = 2
-numberOf TooManyTerms = 3
-numberOf (BadRow row) = 4
-numberOf Room = 5
-numberOf (LineForm line) = 6
-numberOf Header = 7
-numberOf (StepNotNext line) = 8
-numberOf (ChildNotOpen line) = 9
-numberOf (NotLawful line) = 10
-numberOf (WeightUntrue line) = 11
-numberOf (LineAfterLast line) = 12
-numberOf TreeLength = 13
-numberOf (ChildCode index) = 14
-numberOf NotOneTree = 15
-numberOf (WrongPair pair) = 16
-numberOf Heuristic = 17
-numberOf (Malformed line) = 18
-numberOf (NewickForm byte) = 19
-numberOf (TooManyNodes byte) = 1
+-- The table: its columns "No." and "Place".
+abbrev pub table : Refusal → ℕ × ℕ
+table Modes = (1, 0)
+table TermNumbers = (2, 0)
+table TooManyTerms = (3, 0)
+table (BadRow row) = (4, row)
+table Room = (5, 0)
+table (LineForm line) = (6, line)
+table Header = (7, 0)
+table (StepNotNext line) = (8, line)
+table (ChildNotOpen line) = (9, line)
+table (NotLawful line) = (10, line)
+table (WeightUntrue line) = (11, line)
+table (LineAfterLast line) = (12, line)
+table TreeLength = (13, 0)
+table (ChildCode index) = (14, index)
+table NotOneTree = (15, 0)
+table (WrongPair pair) = (16, pair)
+table Heuristic = (17, 0)
+table (Malformed line) = (18, line)
+table (NewickForm byte) = (19, byte)
+table (TooManyNodes byte) = (1, byte)
 
--- The column "Place" of the table.
+abbrev pub numberOf : Refusal → ℕ
+numberOf refusal = table refusal .0
+
 abbrev pub placeOf : Refusal → ℕ
-placeOf Modes = 0
-placeOf TermNumbers = 0
-placeOf TooManyTerms = 0
-placeOf (BadRow row) = row
-placeOf Room = 0
-placeOf (LineForm line) = line
-placeOf Header = 0
-placeOf (StepNotNext line) = line
-placeOf (ChildNotOpen line) = line
-placeOf (NotLawful line) = line
-placeOf (WeightUntrue line) = line
-placeOf (LineAfterLast line) = line
-placeOf TreeLength = 0
-placeOf (ChildCode index) = index
-placeOf NotOneTree = 0
-placeOf (WrongPair pair) = pair
-placeOf Heuristic = 0
-placeOf (Malformed line) = line
-placeOf (NewickForm byte) = byte
-placeOf (TooManyNodes byte) = byte
+placeOf refusal = table refusal .1
 
 -- "Each returns its number and a place, zeros elsewhere": the numbers of a refused answer, with so many others.
 unfoldable pub refused-numbers : ℕ → Refusal → List ℕ

@@ -8,7 +8,8 @@ use lib.ListN.{length, getD, take, drop}
 use Rattle.lists.specs.Members.{keep}
 use Rattle.lists.specs.Written.{written-at}
 use Rattle.lists.proofs.Tests.{same-or-not}
-use Rattle.terms.specs.Rows.{Held, rows-of, term, terms-of}
+use Rattle.terms.specs.Rows.{rows-of, term, terms-of}
+use Rattle.terms.specs.code.Held.{Held}
 use Rattle.terms.specs.Reduction.{is-there, live}
 use Rattle.terms.specs.code.Promises.{RowGathered, LiveRows}
 use Rattle.terms.proofs.RowSteps.{terms-start, terms-step, terms-end, row-length, row-first}

@@ -6,7 +6,8 @@ use native.Mathlib.Nat.{mul-suc, mul-le-mul-left}
 use native.Mathlib.Omega.{arith}
 use lib.ListN.{length, getD, take}
 use lib.Seq.{getD-take, take-all}
-use Rattle.terms.specs.Rows.{Held, terms-of}
+use Rattle.terms.specs.Rows.{terms-of}
+use Rattle.terms.specs.code.Held.{Held}
 use Rattle.terms.proofs.RowSteps.{row-front}
 use Rattle.terms.proofs.RowReduced.{terms-front}
 

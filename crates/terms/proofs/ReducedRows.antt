@@ -9,7 +9,8 @@ use lib.ListN.{length, getD, take, drop, replicate}
 use lib.Seq.{drop-drop, getD-drop}
 use Rattle.lists.specs.Renewed.{renewed-after, renewed}
 use Rattle.entities.specs.declared.Triple.{Triple}
-use Rattle.terms.specs.Rows.{Held, rows-of, term, terms-of}
+use Rattle.terms.specs.Rows.{rows-of, term, terms-of}
+use Rattle.terms.specs.code.Held.{Held}
 use Rattle.terms.specs.Reduction.{reduced-row, reduction}
 use Rattle.terms.specs.code.Promises.{RowReduced, Reduced}
 use Rattle.terms.proofs.RowSteps.{terms-start, terms-step, terms-end}

@@ -12,7 +12,8 @@ use Rattle.lists.specs.Members.{every}
 use Rattle.lists.specs.Written.{written-at}
 use Rattle.lists.proofs.Written.{length-written, take-written, part-written, drop-written, getD-before, getD-within}
 use Rattle.entities.specs.declared.Triple.{Triple}
-use Rattle.terms.specs.Rows.{Held, rows-of, term, terms-of}
+use Rattle.terms.specs.Rows.{rows-of, term, terms-of}
+use Rattle.terms.specs.code.Held.{Held}
 use Rattle.terms.specs.Reduction.{sorted, rewriting, dropped, stays, settled, reduced-row}
 use Rattle.terms.specs.code.Promises.{Rewritten, RowSettled, RowReduced}
 use Rattle.terms.proofs.RowSteps.{row-length, row-first, row-front, rows-front, rows-more}

@@ -7,7 +7,8 @@ use native.Mathlib.Nat.{mul-zero, sub-zero, add-zero}
 use lib.ListN.{length, getD, take, drop, length-take, length-drop, length-map}
 use lib.Seq.{drop-drop, take-take, getD-take, getD-drop}
 use Rattle.lists.proofs.Parts.{drop-take}
-use Rattle.terms.specs.Rows.{Held, rows-of, term, terms-of}
+use Rattle.terms.specs.Rows.{rows-of, term, terms-of}
+use Rattle.terms.specs.code.Held.{Held}
 
 pub terms-start : (w count : ℕ) (s : List ℕ) → terms-of w count s ≡ terms-of w (count - 0) (drop (w * 0) s)
 terms-start w count s = rw (sub-zero, mul-zero)

@@ -13,7 +13,8 @@ use Rattle.lists.specs.Ranges.{ascends}
 use Rattle.lists.proofs.Every.{every-at, every-cons, every-uncons, every-kept, every-first, every-leading, every-mapped}
 use Rattle.entities.specs.declared.Triple.{Triple}
 use Rattle.terms.specs.declared.checking.Checked.the-variants.{Good}
-use Rattle.terms.specs.Rows.{Held, rows-of, term, terms-of}
+use Rattle.terms.specs.Rows.{rows-of, term, terms-of}
+use Rattle.terms.specs.code.Held.{Held}
 use Rattle.terms.specs.Good.{good-indices, good-row, good-term, good-rows, checked}
 use Rattle.terms.specs.Reduction.{replacement, rewriting, dropped, reduction, live, told-reduction}
 use Rattle.terms.proofs.RowSteps.{row-first, length-rows, rows-at}

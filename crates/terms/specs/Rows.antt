@@ -1,8 +1,7 @@
 -- "Terms T: 0 to 2048, in rows of eight u16: a length 1 to 7, that many indices, then zeros."
-use mathlib.Core.Path.{_≡_}
 use mathlib.Core.List.{List, [], _∷_, map}
-use Prim.Native.Nat.{ℕ, zero, suc, _*_, _≤_, _<_}
-use lib.ListN.{length, getD, take, drop, replicate}
+use Prim.Native.Nat.{ℕ, zero, suc}
+use lib.ListN.{getD, take, drop}
 
 -- The first rows of `width` numbers each.
 unfoldable pub rows-of : ℕ → ℕ → List ℕ → List (List ℕ)
@@ -16,10 +15,3 @@ term row = take (getD row 0 0) (drop 1 row)
 -- The terms of the first rows.
 unfoldable pub terms-of : ℕ → ℕ → List ℕ → List (List ℕ)
 terms-of width count numbers = map term (rows-of width count numbers)
-
--- So many rows stand in the numbers, each row's term stands within the row, and a row of no term is zeros.
-pub record Held (width count : ℕ) (numbers : List ℕ) : Type 0 where
-  pub room : width * count ≤ length numbers
-  pub within : (place : ℕ) → place < count → getD numbers (width * place) 0 < width
-  pub zeros : (place : ℕ) → place < count → getD numbers (width * place) 0 ≡ 0
-      → take width (drop (width * place) numbers) ≡ replicate width 0

@@ -1,3 +1,4 @@
 -- How the code marks terms and reduces rows: no public promise needs it.
+pub mod Held
 pub mod Marks
 pub mod Promises

@@ -2,7 +2,7 @@
 ghost use Prim.Native.Nat.{_+_, _*_, _≤_};
 ghost use lib.ListN.{length};
 ghost use Rattle.entities.specs.Limits.{«row-width»};
-ghost use Rattle.terms.specs.Rows.{Held};
+ghost use Rattle.terms.specs.code.Held.{Held};
 ghost use Rattle.terms.specs.code.Promises.{RowGathered, LiveRows};
 use crate::kept_rows;
 use crate::row;

@@ -4,8 +4,9 @@ ghost use Prim.Native.Nat.{_%_, _≤_};
 ghost use lib.ListN.{length};
 ghost use Rattle.lists.specs.Counting.{same as «one-if-same», occurrences};
 ghost use Rattle.entities.specs.Limits.{«row-width»};
-ghost use Rattle.terms.specs.Rows.{Held, «terms-of»};
-ghost use Rattle.terms.specs.Weight.{OddOf, «term-weight», «weight-of»};
+ghost use Rattle.terms.specs.Rows.{«terms-of»};
+ghost use Rattle.terms.specs.code.Held.{Held, OddOf};
+ghost use Rattle.terms.specs.Weight.{«term-weight», «weight-of»};
 use crate::row;
 use entities::Triple;
 

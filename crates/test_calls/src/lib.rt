@@ -1,6 +1,6 @@
 // What the tests call from Rust: the calls `resume`, `assign` and the Newick calls, one merge of rows, and what the tree calls answer.
 ghost use Rattle.entities.specs.Limits.{«row-width»};
-ghost use Rattle.terms.specs.Rows.{Held};
+ghost use Rattle.terms.specs.code.Held.{Held};
 use entities::Triple;
 use journal::resuming;
 use journal::resuming::Answer;

@@ -6,7 +6,8 @@ use Prim.Native.Nat.{ℕ, _+_, _*_, _≤_, _<_}
 use lib.ListN.{length, getD, set, drop}
 use Rattle.entities.specs.declared.Triple.{Triple}
 use Rattle.entities.specs.Limits.{most-terms, row-width}
-use Rattle.terms.specs.Rows.{Held, terms-of}
+use Rattle.terms.specs.Rows.{terms-of}
+use Rattle.terms.specs.code.Held.{Held}
 use Rattle.terms.specs.Job.{Job}
 use Rattle.merging.specs.declared.run.Run.{Run}
 use Rattle.merging.specs.History.{rows-after}

@@ -6,7 +6,8 @@ use lib.ListN.{length, getD, take, drop, replicate}
 use Rattle.lists.specs.Written.{written-at}
 use Rattle.entities.specs.declared.Triple.{Triple}
 use Rattle.entities.specs.Limits.{row-width}
-use Rattle.terms.specs.Rows.{Held, term, terms-of}
+use Rattle.terms.specs.Rows.{term, terms-of}
+use Rattle.terms.specs.code.Held.{Held}
 use Rattle.terms.specs.Reduction.{reduced-row, reduction, rewriting, live}
 
 -- The copy of a row with its term rewritten: as long as the row, the term where it was.

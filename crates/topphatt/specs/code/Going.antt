@@ -5,7 +5,8 @@ use Prim.Native.Nat.{ℕ, suc, _*_, _≤_, _<_}
 use lib.ListN.{length, drop}
 use Rattle.lists.specs.Written.{written-at}
 use Rattle.entities.specs.Limits.{most-terms, row-width}
-use Rattle.terms.specs.Rows.{Held, terms-of}
+use Rattle.terms.specs.Rows.{terms-of}
+use Rattle.terms.specs.code.Held.{Held}
 use Rattle.terms.specs.Weight.{weight-of}
 use Rattle.slots.specs.code.Promises.{Distances}
 use Rattle.choice.specs.declared.Selection.{Selection}

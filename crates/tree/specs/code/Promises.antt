@@ -6,7 +6,8 @@ use Prim.Native.Nat.{ℕ, _*_, _≤_, _<_}
 use lib.ListN.{length, getD}
 use Rattle.lists.specs.Members.{every}
 use Rattle.entities.specs.Limits.{most-terms, row-width}
-use Rattle.terms.specs.Rows.{Held, terms-of}
+use Rattle.terms.specs.Rows.{terms-of}
+use Rattle.terms.specs.code.Held.{Held}
 use Rattle.terms.specs.Good.{good-term}
 use Rattle.tree.specs.Table.{place-of}
 

@@ -5,7 +5,7 @@ use native.Mathlib.Omega.{arith}
 use borrow.Author.Needs.{needs}
 use lib.ListN.{length, length-set}
 use Rattle.lists.proofs.Writes.{agrees-next}
-use Rattle.terms.specs.Weight.{OddOf}
+use Rattle.terms.specs.code.Held.{OddOf}
 use Rattle.terms.proofs.weight.count_odd.Statement.{statement}
 use Rattle.terms.proofs.weight.count_odd.Tie as tie
 
