@@ -15,7 +15,6 @@ use Rattle.fields.specs.Decimal.{value}
 use Rattle.fields.specs.Lines.{lines, kept-of, first-line}
 use Rattle.fields.specs.Fields.{fields, fields-after}
 use Rattle.fields.proofs.LineSteps.{first-line-stands, next-line, no-next-line, kept-more}
-use Rattle.journal.specs.Resuming.{hatt-run}
 use Rattle.text.specs.declared.input.Modes.the-variants.{Are, Broken}
 use Rattle.text.specs.declared.input.Said.{Said}
 use Rattle.text.specs.declared.input.Said.the-variants.{Given, Malformed}

@@ -6,3 +6,5 @@ pub mod InputSaid
 pub mod RunEnds
 pub mod LongInput
 pub mod LinePrinted
+pub mod RoomSuffices
+pub mod LineSuffices

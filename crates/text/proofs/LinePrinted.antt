@@ -1,19 +1,19 @@
 -- A tree's text written with a byte's room behind it, and the line that it is printed as.
 use mathlib.Core.Path.{_≡_, refl, ap, _∙_, sym}
 use mathlib.Core.Bool.{Bool, true, false, cond}
-use mathlib.Core.List.{List, [], _∷_, _++_, append-assoc}
+use mathlib.Core.List.{List, _++_, append-assoc}
 use Prim.Native.Nat.{ℕ, _+_, _*_, _/_, _<_, _≤_}
 use native.Mathlib.Omega.{arith}
 use borrow.Author.Tests.{leb-true}
 use lib.Dec.{leb}
-use lib.ListN.{length, take, drop, set, replicate, take-append-drop}
+use lib.ListN.{length, take, drop, set, replicate, length-append, take-append-drop}
 use lib.Seq.{drop-append-le, length-take-le}
 use Rattle.lists.specs.Written.{written-at}
-use Rattle.lists.proofs.Written.{length-written, part-written}
-use Rattle.lists.proofs.Writes.{written-next}
+use Rattle.lists.proofs.Behind.{written-one}
 use Rattle.refusal.specs.declared.Refusal.{Refusal}
 use Rattle.refusal.specs.declared.Refusal.the-variants.{Room}
 use Rattle.entities.specs.Codes.{absent}
+use Rattle.fields.specs.Texts.{spelt}
 use Rattle.tree.specs.declared.TreeChecked.{TreeChecked}
 use Rattle.tree.specs.declared.TreeChecked.the-variants.{Accepted, Refused as Unaccepted}
 use Rattle.tree.specs.Check.{tree-checked}
@@ -27,7 +27,8 @@ use Rattle.text.specs.declared.running.Ran.the-variants.{Done, Refused}
 use Rattle.text.specs.code.Runs.{ended-as, Runs}
 use Rattle.text.specs.Running.{Ended, came, Rooms}
 use Rattle.text.specs.Output.{refusal-text}
-use Rattle.text.specs.NewickLine.{line-as, table-line, newick-printed, newick-answer-text}
+use Rattle.text.specs.NewickLine.{line-as, table-line, line-room, newick-printed, newick-answer-text}
+use Rattle.text.specs.code.Printing.{Puts}
 use Rattle.text.proofs.LongInput.{cut-runs}
 
 -- Written over the front of a list's front, a part is written over the list's.
@@ -72,21 +73,28 @@ module _ (most modes : ℕ) (table : List ℕ) (room : ℕ) where
     after-front k (Unwritten refusal) e = take-append-drop room out
 
     -- LF behind the text makes the line.
-    pub written-line : room < length out → (count : ℕ) (after : List ℕ) → Written count ≡ means → after ≡ text-after (Written count) text out
-        → take (count + 1) (set after count 10) ≡ table-line most room modes table
+    pub written-line : (count : ℕ) (after : List ℕ) → Written count ≡ means → after ≡ text-after (Written count) text out → room < length out
+        → Puts (table-line most room modes table) out (set after count 10) (count + 1)
     unfolding text-after table-line line-as
-    written-line k count after e f =
+    written-line count after e f k =
         let fits = line-fits count e in
-        let size : length after ≡ length out = ap length f ∙ length-written 0 text out (omega (arith, fits .within)) in
-        let front : take count after ≡ text = rw (f, fits .exact) (part-written 0 text out (omega (arith, fits .within))) in
-        written-next after count 10 (omega (arith, fits .exact, fits .within))
-        ∙ ap (λ l. l ++ (10 ∷ [])) front
-        ∙ ap (λ r. line-as r text) e
+        let size = length-append text (spelt "\n") in
+        let line : text ++ spelt "\n" ≡ table-line most room modes table = ap (λ r. line-as r text) e in
+        let puts : Puts (text ++ spelt "\n") out (set after count 10) (count + 1) =
+        record {
+          count = omega (arith, fits .exact);
+          fits = omega (arith, fits .within);
+          bytes = rw f (written-one 0 text out count 10 (omega (arith, fits .exact)) (omega (arith, fits .exact, fits .within)));
+        } in
+        rw line at puts
 
-  -- A refusal is printed as one.
-  pub refused-line : (refusal : Refusal) → Unwritten refusal ≡ means → refusal-text refusal ≡ table-line most room modes table
-  unfolding table-line line-as
-  refused-line refusal e = ap (λ r. line-as r text) e
+    -- A refusal leaves nothing, and is printed over that.
+    pub refused-line : (refusal : Refusal) (after : List ℕ) → Unwritten refusal ≡ means → after ≡ text-after (Unwritten refusal) text out
+        → {last : List ℕ} {r : ℕ} → Puts (refusal-text refusal) after last r → Puts (table-line most room modes table) out last r
+    unfolding text-after table-line line-as
+    refused-line refusal after e f puts =
+        let line : refusal-text refusal ≡ table-line most room modes table = ap (λ r. line-as r text) e in
+        rw (f, line) at puts
 
 -- Rows laid over a table of their size are laid out.
 pub laid-in : (modes : ℕ) (rows before after : List ℕ) → length before ≡ 3 * modes → after ≡ laid-over (replicate (length before) absent) rows
@@ -95,22 +103,22 @@ unfolding laid
 laid-in modes rows before after size e = e ∙ ap (λ n. laid-over (replicate n absent) rows) size
 
 -- What is printed of a run, case by case.
-module _ (most room : ℕ) (means : Ended) (rows : List ℕ) (r : Ran) (runs : Runs most means rows r) where
-  pub refused-newick : (refusal : Refusal) → r ≡ Refused refusal → refusal-text refusal ≡ newick-printed most room means
+module _ (most : ℕ) (means : Ended) (rows : List ℕ) (r : Ran) (runs : Runs most means rows r) where
+  pub refused-newick : (refusal : Refusal) → r ≡ Refused refusal → refusal-text refusal ≡ newick-printed most means
   unfolding ended-as newick-printed
-  refused-newick refusal e = ap (newick-printed most room) (rw e at (runs .says))
+  refused-newick refusal e = ap (newick-printed most) (rw e at (runs .says))
 
   pub done-newick : (modes weight trials : ℕ) → r ≡ Done modes weight trials → 4 * modes ≤ length rows
-      → table-line most room modes (laid modes (take (4 * modes) rows)) ≡ newick-printed most room means
+      → table-line most line-room modes (laid modes (take (4 * modes) rows)) ≡ newick-printed most means
   unfolding ended-as newick-printed modes-in
   done-newick modes weight trials e k =
       let front = take (4 * modes) rows in
       let size : modes ≡ length front / 4 = omega (arith, length-take-le (4 * modes) rows k) in
       let says : came weight trials front ≡ means = rw e at (runs .says) in
-      ap (λ n. table-line most room n (laid n front)) size ∙ ap (newick-printed most room) says
+      ap (λ n. table-line most line-room n (laid n front)) size ∙ ap (newick-printed most) says
 
 -- A text cut behind the longest well-formed one is answered as the whole text is.
-pub cut-newick : (rooms : Rooms) (line cut : ℕ) (text : List ℕ) → 12 + 47 * rooms .terms < cut
-    → newick-answer-text rooms line (take cut text) ≡ newick-answer-text rooms line text
+pub cut-newick : (rooms : Rooms) (cut : ℕ) (text : List ℕ) → 12 + 47 * rooms .terms < cut
+    → newick-answer-text rooms (take cut text) ≡ newick-answer-text rooms text
 unfolding newick-answer-text
-cut-newick rooms line cut text h = ap (newick-printed (rooms .run .modes) line) (cut-runs rooms cut text h)
+cut-newick rooms cut text h = ap (newick-printed (rooms .run .modes)) (cut-runs rooms cut text h)

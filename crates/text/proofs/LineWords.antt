@@ -10,6 +10,7 @@ use lib.ListN.{length, getD, length-map}
 use Rattle.lists.specs.Members.{every, alike}
 use Rattle.lists.proofs.Tests.{both, not-so}
 use Rattle.lists.proofs.Alike.{alike-self}
+use Rattle.fields.specs.Texts.{spelt}
 use Rattle.fields.specs.Decimal.{value}
 use Rattle.fields.specs.Fields.{fields-after, fields}
 use Rattle.fields.specs.code.Reading.{numbers-good, opens, fields-behind, says-numbers}
@@ -17,32 +18,32 @@ use Rattle.fields.proofs.Tabbed.{no-tab}
 use Rattle.fields.proofs.NumbersTabbed.{value-at}
 use Rattle.fields.proofs.Openings.{opening, opened-fields, opens-with, two-fields}
 use Rattle.text.specs.declared.input.Modes.the-variants.{Are, Broken}
-use Rattle.text.specs.Input.{modes-word, term-word, modes-line, term-line, term-row}
+use Rattle.text.specs.Input.{modes-line, term-line, term-row}
 use Rattle.text.specs.code.Reading.{modes-said, term-opening, IndicesRead, TermRead}
 
--- `modes` and a tab.
+-- The word of the first line, and a tab.
 abbrev pub modes-opening : List ℕ
-modes-opening = 109 ∷ (111 ∷ (100 ∷ (101 ∷ (115 ∷ (9 ∷ [])))))
+modes-opening = spelt "modes\t"
 
 -- With its opening the first line says what the number behind it says, and without it nothing.
 module _ (line : List ℕ) where
-  opened-modes : opens modes-opening line ≡ true → fields line ≡ modes-word ∷ fields-behind modes-opening line
-  unfolding opening modes-word every no-tab
-  opened-modes e = opened-fields (modes-word ∷ []) line refl e
+  opened-modes : opens modes-opening line ≡ true → fields line ≡ spelt "modes" ∷ fields-behind modes-opening line
+  unfolding opening every no-tab
+  opened-modes e = opened-fields (spelt "modes" ∷ []) line refl e
 
   modes-opens : modes-line (fields line) ≡ true → opens modes-opening line ≡ true
-  unfolding modes-line opening modes-word
+  unfolding modes-line opening
   modes-opens e =
       let p = both (eqb (length (fields line)) 2) _ e in
       let l = eqb-true (length (fields line)) 2 (p .0) in
-      opens-with modes-word [] line _ _ (two-fields modes-word (fields line) (both (alike (getD (fields line) 0 []) modes-word) _ (p .1) .0) (omega arith))
+      opens-with (spelt "modes") [] line _ _ (two-fields (spelt "modes") (fields line) (both (alike (getD (fields line) 0 []) (spelt "modes")) _ (p .1) .0) (omega arith))
 
   modes-says : modes-line (fields line) ≡ says-numbers modes-opening 1 line
   unfolding modes-line numbers-good says-numbers
   modes-says = go (opens modes-opening line) refl
     where
       go : (z : Bool) → opens modes-opening line ≡ z → modes-line (fields line) ≡ (z && numbers-good 1 (fields-behind modes-opening line))
-      go true e = rw (opened-modes e, alike-self modes-word, eqb·suc-suc (length (fields-behind modes-opening line)) 1)
+      go true e = rw (opened-modes e, alike-self (spelt "modes"), eqb·suc-suc (length (fields-behind modes-opening line)) 1)
       go false e = not-so (modes-line (fields line)) (λ f. true≢false (sym (modes-opens f) ∙ e))
 
   pub modes-broken : says-numbers modes-opening 1 line ≡ false → modes-said line ≡ Broken
@@ -61,14 +62,14 @@ term-none {line = line} h = record { good = sym (not-so (term-line (fields line)
 
 -- A term's fields: its word, one more at least and eight at most.
 record TermFields (parts : List (List ℕ)) : Type 0 where
-  first : alike (getD parts 0 []) term-word ≡ true
+  first : alike (getD parts 0 []) (spelt "term") ≡ true
   some : 2 ≤ length parts
   few : length parts ≤ 8
 
 term-fields : (parts : List (List ℕ)) → term-line parts ≡ true → TermFields parts
 unfolding term-line
 term-fields parts e =
-    let p = both (alike (getD parts 0 []) term-word) _ e in
+    let p = both (alike (getD parts 0 []) (spelt "term")) _ e in
     let q = both (leb 2 (length parts)) _ (p .1) in
     let r = both (leb (length parts) 8) _ (q .1) in
     record { first = p .0; some = leb-true 2 (length parts) (q .0); few = leb-true (length parts) 8 (r .0) }
@@ -90,15 +91,15 @@ module _ (line after : List ℕ) where
 
 -- With its opening a line of so many fields is a term where they are numbers, and without it none.
 module _ (line : List ℕ) (count : ℕ) (size : suc count ≡ length (fields line)) (some : 1 ≤ count) (few : count ≤ 7) where
-  opened-term : opens term-opening line ≡ true → fields line ≡ term-word ∷ fields-behind term-opening line
-  unfolding opening term-word every no-tab
-  opened-term e = opened-fields (term-word ∷ []) line refl e
+  opened-term : opens term-opening line ≡ true → fields line ≡ spelt "term" ∷ fields-behind term-opening line
+  unfolding opening every no-tab
+  opened-term e = opened-fields (spelt "term" ∷ []) line refl e
 
   term-opens : term-line (fields line) ≡ true → opens term-opening line ≡ true
-  unfolding opening term-word
+  unfolding opening
   term-opens e =
       let t = term-fields (fields line) e in
-      opens-with term-word [] line _ _ (two-fields term-word (fields line) (t .first) (t .some))
+      opens-with (spelt "term") [] line _ _ (two-fields (spelt "term") (fields line) (t .first) (t .some))
 
   term-says : term-line (fields line) ≡ says-numbers term-opening count line
   unfolding term-line numbers-good says-numbers
@@ -110,7 +111,7 @@ module _ (line : List ℕ) (count : ℕ) (size : suc count ≡ length (fields li
           let counted : length parts ≡ count = omega (arith, ap length (opened-term e)) in
           rw (
             opened-term e,
-            alike-self term-word,
+            alike-self (spelt "term"),
             le-leb 2 (suc (length parts)) (omega arith),
             le-leb (suc (length parts)) 8 (omega arith),
             eq-eqb (length parts) count counted,

@@ -14,13 +14,14 @@ use Rattle.lists.proofs.Tests.{both, same-or-not, not-so}
 use Rattle.lists.proofs.Every.{every-uncons}
 use Rattle.lists.proofs.Alike.{alike-same}
 use Rattle.lists.proofs.Parts.{drop-take}
+use Rattle.fields.specs.Texts.{spelt}
 use Rattle.fields.specs.Decimal.{is-number, is-digit}
 use Rattle.fields.specs.Lines.{lines, kept-of, first-line, is-line}
 use Rattle.fields.specs.Fields.{fields, tabbed}
 use Rattle.fields.proofs.Tabbed.{tabbed-fields}
 use Rattle.fields.proofs.LinesJoined.{lines-joined, kept-line, lines-one, lines-are-lines, line-cut}
 use Rattle.fields.proofs.LineSteps.{first-line-stands, next-line, no-next-line}
-use Rattle.text.specs.Input.{modes-word, term-word, modes-line, term-line, well-formed, formed-from, formed, whole, said, malformed}
+use Rattle.text.specs.Input.{modes-line, term-line, well-formed, formed-from, formed, whole, said, malformed}
 use Rattle.text.specs.Running.{Rooms, ran-by, ran}
 use Rattle.text.specs.Output.{printed, answer-text}
 
@@ -47,23 +48,23 @@ line-length line =
     rw (tabbed-fields [] (take (length line - 1) line)) (rw (length-take-le (length line - 1) line (omega arith)) (omega arith))
 
 modes-short : (parts : List (List ℕ)) → modes-line parts ≡ true → length (tabbed parts) ≤ 11
-unfolding modes-line modes-word
+unfolding modes-line
 modes-short [] e = absurd (true≢false (sym e))
 modes-short (a ∷ parts) e =
     let p = both (eqb (suc (length parts)) 2) _ e in
-    let q = both (alike a modes-word) _ (p .1) in
+    let q = both (alike a (spelt "modes")) _ (p .1) in
     let l = eqb-true (suc (length parts)) 2 (p .0) in
-    omega (arith, ap length (alike-same a modes-word (q .0)), short-fields a parts (q .1))
+    omega (arith, ap length (alike-same a (spelt "modes") (q .0)), short-fields a parts (q .1))
 
 term-short : (parts : List (List ℕ)) → term-line parts ≡ true → length (tabbed parts) ≤ 46
-unfolding term-line term-word alike
+unfolding term-line alike
 term-short [] e = absurd (true≢false (sym e))
 term-short (a ∷ parts) e =
-    let p = both (alike a term-word) _ e in
+    let p = both (alike a (spelt "term")) _ e in
     let q = both (leb 2 (suc (length parts))) _ (p .1) in
     let r = both (leb (suc (length parts)) 8) _ (q .1) in
     let l = leb-true (suc (length parts)) 8 (r .0) in
-    omega (arith, ap length (alike-same a term-word (p .0)), short-fields a parts (r .1))
+    omega (arith, ap length (alike-same a (spelt "term") (p .0)), short-fields a parts (r .1))
 
 -- How many bytes the well-formed lines from a number on can have: 12 for the first, 47 for each term.
 unfoldable room : ℕ → ℕ → ℕ

@@ -4,23 +4,26 @@ use mathlib.Core.List.{List, [], _∷_, _++_, map, flatMap, append-assoc, append
 use Prim.Native.Nat.{ℕ, _+_, _-_, _*_, _/_, _<_, _≤_}
 use native.Mathlib.Omega.{arith}
 use borrow.Author.Tests.{eq-eqb, ne-eqb}
-use lib.ListN.{length, getD, take, drop}
-use Rattle.lists.specs.Written.{written-at}
-use Rattle.lists.proofs.Written.{part-written}
+use lib.ListN.{length, getD, take, drop, replicate, length-replicate}
+use Rattle.lists.proofs.Written.{length-written}
 use Rattle.lists.proofs.Behind.{Wrote, wrote-none, then-wrote}
 use Rattle.lists.proofs.Joined.{flatMap-joined}
 use Rattle.refusal.specs.declared.Refusal.{Refusal}
 use Rattle.refusal.specs.Numbers.{numberOf, placeOf}
 use Rattle.entities.specs.Codes.{absent}
+use Rattle.fields.specs.Texts.{spelt}
 use Rattle.fields.specs.Decimal.{decimal}
 use Rattle.fields.specs.Fields.{tabbed}
 use Rattle.terms.specs.Rows.{rows-of}
 use Rattle.terms.proofs.RowSteps.{rows-more}
-use Rattle.text.specs.Output.{line-of, weight-word, trials-word, node-word, refused-word, code-text, node-line, node-lines, refusal-text, done-text}
+use Rattle.text.specs.declared.Printed.{Printed}
+use Rattle.text.specs.Running.{printed-room}
+use Rattle.text.specs.code.Printing.{Puts}
+use Rattle.text.specs.Output.{line-of, code-text, node-line, node-lines, refusal-text, done-text, Prints}
 
--- What was written over the front stands there.
-pub front-is : (part before after : List ℕ) (end : ℕ) → end ≡ length part → after ≡ written-at 0 part before → end ≤ length before → take end after ≡ part
-front-is part before after end e w room = rw (w, e) (part-written 0 part before (omega arith))
+-- What was written over the front, and fits, was put there.
+pub wrote-puts : {text before after : List ℕ} {end : ℕ} → Wrote 0 text before after end → end ≤ length before → Puts text before after end
+wrote-puts wrote room = record { count = omega (arith, wrote .behind); fits = omega (arith, wrote .behind); bytes = wrote .written }
 
 -- A code is `-` or its number.
 pub code-absent : (code : ℕ) → code ≡ absent → code-text code ≡ 45 ∷ []
@@ -47,27 +50,33 @@ unfolding line-of tabbed
 parts-joined word a b c d = simp append-assoc
 
 pub node-parts : (row : List ℕ) → length row ≡ 4
-    → (((((node-word ++ (9 ∷ [])) ++ (code-text (getD row 0 0) ++ (9 ∷ []))) ++ (code-text (getD row 1 0) ++ (9 ∷ [])))
+    → ((((spelt "node\t" ++ (code-text (getD row 0 0) ++ (9 ∷ []))) ++ (code-text (getD row 1 0) ++ (9 ∷ [])))
     ++ (code-text (getD row 2 0) ++ (9 ∷ [])))
     ++ (code-text (getD row 3 0) ++ (10 ∷ [])))
     ≡ node-line row
 unfolding node-line
 node-parts row e =
-    parts-joined node-word (code-text (getD row 0 0)) (code-text (getD row 1 0)) (code-text (getD row 2 0)) (code-text (getD row 3 0))
-    ∙ ap (λ l. line-of (node-word ∷ map code-text l)) (sym (four row e))
+    parts-joined (spelt "node") (code-text (getD row 0 0)) (code-text (getD row 1 0)) (code-text (getD row 2 0)) (code-text (getD row 3 0))
+    ∙ ap (λ l. line-of (spelt "node" ∷ map code-text l)) (sym (four row e))
 
 -- A refusal's line: its word, number and place.
 pub refusal-parts : (refusal : Refusal)
-    → (((refused-word ++ (9 ∷ [])) ++ (decimal (numberOf refusal) ++ (9 ∷ []))) ++ (decimal (placeOf refusal) ++ (10 ∷ []))) ≡ refusal-text refusal
+    → ((spelt "refused\t" ++ (decimal (numberOf refusal) ++ (9 ∷ []))) ++ (decimal (placeOf refusal) ++ (10 ∷ []))) ≡ refusal-text refusal
 unfolding refusal-text line-of tabbed
 refusal-parts refusal = simp append-assoc
 
 -- What a run prints: two lines of one number each, and the lines of its rows.
+values-joined : (word number other second rest : List ℕ)
+    → ((((word ++ (9 ∷ [])) ++ (number ++ (10 ∷ []))) ++ ((other ++ (9 ∷ [])) ++ (second ++ (10 ∷ [])))) ++ rest)
+    ≡ line-of (word ∷ (number ∷ [])) ++ (line-of (other ∷ (second ∷ [])) ++ rest)
+unfolding line-of tabbed
+values-joined word number other second rest = simp append-assoc
+
 pub done-parts : (weight trials : ℕ) (rows : List ℕ)
-    → ((((weight-word ++ (9 ∷ [])) ++ (decimal weight ++ (10 ∷ []))) ++ ((trials-word ++ (9 ∷ [])) ++ (decimal trials ++ (10 ∷ [])))) ++ node-lines rows)
+    → (((spelt "weight\t" ++ (decimal weight ++ (10 ∷ []))) ++ (spelt "trials\t" ++ (decimal trials ++ (10 ∷ [])))) ++ node-lines rows)
     ≡ done-text weight trials rows
-unfolding done-text line-of tabbed
-done-parts weight trials rows = simp append-assoc
+unfolding done-text
+done-parts weight trials rows = values-joined (spelt "weight") (decimal weight) (spelt "trials") (decimal trials) (node-lines rows)
 
 -- The lines of so many rows are written.
 pub record PuttingRows (start count : ℕ) (rows before after : List ℕ) (at done : ℕ) : Type 0 where
@@ -106,7 +115,7 @@ module _ (start : ℕ) (rows before : List ℕ) (room : start + 29 * (length row
 
 -- A row's line, part by part.
 module _ (row before : List ℕ) (at : ℕ) (size : length row ≡ 4) (room : at + 29 ≤ length before) where
-  pub node-wrote : {s1 s2 s3 s4 s5 : List ℕ} {e1 e2 e3 e4 e5 : ℕ} → Wrote at (node-word ++ (9 ∷ [])) before s1 e1
+  pub node-wrote : {s1 s2 s3 s4 s5 : List ℕ} {e1 e2 e3 e4 e5 : ℕ} → Wrote at (spelt "node\t") before s1 e1
       → Wrote e1 (code-text (getD row 0 0) ++ (9 ∷ [])) s1 s2 e2 → Wrote e2 (code-text (getD row 1 0) ++ (9 ∷ [])) s2 s3 e3
       → Wrote e3 (code-text (getD row 2 0) ++ (9 ∷ [])) s3 s4 e4 → Wrote e4 (code-text (getD row 3 0) ++ (10 ∷ [])) s4 s5 e5
       → e5 ≤ at + 29 → Wrote at (node-line row) before s5 e5
@@ -117,17 +126,23 @@ module _ (row before : List ℕ) (at : ℕ) (size : length row ≡ 4) (room : at
 -- A refusal's line, part by part.
 pub refusal-wrote : (refusal : Refusal) (number place : ℕ) → number ≡ numberOf refusal → place ≡ placeOf refusal
     → (before : List ℕ) → 50 ≤ length before → {s1 s2 s3 : List ℕ} {e1 e2 e3 : ℕ}
-    → Wrote 0 (refused-word ++ (9 ∷ [])) before s1 e1 → Wrote e1 (decimal number ++ (9 ∷ [])) s1 s2 e2
+    → Wrote 0 (spelt "refused\t") before s1 e1 → Wrote e1 (decimal number ++ (9 ∷ [])) s1 s2 e2
     → Wrote e2 (decimal place ++ (10 ∷ [])) s2 s3 e3 → e3 ≤ 50 → Wrote 0 (refusal-text refusal) before s3 e3
 refusal-wrote refusal number place n p before room a b c h =
-    let parts : (((refused-word ++ (9 ∷ [])) ++ (decimal number ++ (9 ∷ []))) ++ (decimal place ++ (10 ∷ []))) ≡ refusal-text refusal =
+    let parts : ((spelt "refused\t" ++ (decimal number ++ (9 ∷ []))) ++ (decimal place ++ (10 ∷ []))) ≡ refusal-text refusal =
     rw (n, p) (refusal-parts refusal) in
     rw (← parts) (then-wrote (then-wrote a b (omega (arith, b .behind, c .behind))) c (omega (arith, c .behind)))
 
 -- What a run prints, part by part.
 pub done-wrote : (weight trials : ℕ) (rows before : List ℕ) → {s1 s2 s3 : List ℕ} {e1 e2 e3 : ℕ}
-    → Wrote 0 ((weight-word ++ (9 ∷ [])) ++ (decimal weight ++ (10 ∷ []))) before s1 e1
-    → Wrote e1 ((trials-word ++ (9 ∷ [])) ++ (decimal trials ++ (10 ∷ []))) s1 s2 e2
+    → Wrote 0 (spelt "weight\t" ++ (decimal weight ++ (10 ∷ []))) before s1 e1
+    → Wrote e1 (spelt "trials\t" ++ (decimal trials ++ (10 ∷ []))) s1 s2 e2
     → Wrote e2 (node-lines rows) s2 s3 e3 → e2 ≤ length before → Wrote 0 (done-text weight trials rows) before s3 e3
 done-wrote weight trials rows before a b c h =
     rw (← done-parts weight trials rows) (then-wrote (then-wrote a b (omega (arith, b .behind))) c h)
+
+-- What a program prints stands within its bytes.
+pub prints-within : {answer : List ℕ} {r : Printed} → Prints answer r → r .count ≤ length (r .bytes)
+prints-within {answer} p =
+    let room = length-replicate {A = ℕ} printed-room 0 in
+    omega (arith, p .count, p .fits, ap length (p .bytes), room, length-written 0 answer (replicate printed-room 0) (omega (arith, p .fits, room)))

@@ -14,12 +14,13 @@ use Rattle.lists.specs.Written.{written-at}
 use Rattle.lists.proofs.Tests.{both}
 use Rattle.lists.proofs.Parts.{drop-replicate}
 use Rattle.lists.proofs.Written.{length-written, put-written, front-written}
+use Rattle.fields.specs.Texts.{spelt}
 use Rattle.fields.specs.Decimal.{is-number, value}
 use Rattle.fields.specs.Lines.{lines, kept-of, first-line}
 use Rattle.fields.specs.Fields.{fields}
 use Rattle.fields.specs.code.Reading.{says-numbers, LineRead}
 use Rattle.fields.proofs.LineSteps.{lines-none, lines-next, kept-none, kept-more}
-use Rattle.text.specs.Input.{term-word, term-line, well-formed, formed-from, term-row}
+use Rattle.text.specs.Input.{term-line, well-formed, formed-from, term-row}
 use Rattle.text.specs.code.Reading.{term-opening, all-terms, IndicesRead, TermRead, TermPut, TermsRead}
 
 -- Indices read between their count and the zeros.
@@ -39,7 +40,7 @@ pub row-of-eight : (line : List ℕ) → term-line (fields line) ≡ true → le
 unfolding term-line term-row
 row-of-eight line e =
     let parts = drop 1 (fields line) in
-    let p = both (alike (getD (fields line) 0 []) term-word) (leb 2 (length (fields line)) && (leb (length (fields line)) 8 && every is-number parts)) e in
+    let p = both (alike (getD (fields line) 0 []) (spelt "term")) (leb 2 (length (fields line)) && (leb (length (fields line)) 8 && every is-number parts)) e in
     let q = both (leb 2 (length (fields line))) _ (p .1) in
     let r = both (leb (length (fields line)) 8) _ (q .1) in
     let indices = map value parts in

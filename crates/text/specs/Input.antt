@@ -5,26 +5,19 @@ use Prim.Native.Nat.{ℕ, suc, _-_}
 use lib.Dec.{eqb, leb}
 use lib.ListN.{length, getD, drop, replicate}
 use Rattle.lists.specs.Members.{every, alike}
+use Rattle.fields.specs.Texts.{spelt}
 use Rattle.fields.specs.Decimal.{is-number, value}
 use Rattle.fields.specs.Lines.{lines, kept-of}
 use Rattle.fields.specs.Fields.{fields}
 
--- `modes`.
-unfoldable pub modes-word : List ℕ
-modes-word = 109 ∷ (111 ∷ (100 ∷ (101 ∷ (115 ∷ []))))
-
--- `term`.
-unfoldable pub term-word : List ℕ
-term-word = 116 ∷ (101 ∷ (114 ∷ (109 ∷ [])))
-
 -- "first line `modes` TAB n".
 unfoldable pub modes-line : List (List ℕ) → Bool
-modes-line parts = eqb (length parts) 2 && (alike (getD parts 0 []) modes-word && every is-number (drop 1 parts))
+modes-line parts = eqb (length parts) 2 && (alike (getD parts 0 []) (spelt "modes") && every is-number (drop 1 parts))
 
 -- "then `term` TAB indices. … No index, more than seven, … is 18".
 unfoldable pub term-line : List (List ℕ) → Bool
 term-line parts =
-    alike (getD parts 0 []) term-word && (leb 2 (length parts) && (leb (length parts) 8 && every is-number (drop 1 parts)))
+    alike (getD parts 0 []) (spelt "term") && (leb 2 (length parts) && (leb (length parts) 8 && every is-number (drop 1 parts)))
 
 -- A line in its place; "more than 2048 terms" is malformed, where `most` is the 2048.
 unfoldable pub well-formed : ℕ → ℕ → List ℕ → Bool

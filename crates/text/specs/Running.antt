@@ -26,6 +26,10 @@ abbrev pub program-rooms : Rooms
 program-rooms =
     record { terms = most-terms; run = record { modes = most-modes; work = row-width * most-terms; rows = 4 * most-modes; journal = 16 + 21 * most-modes } }
 
+-- The bytes that a program has room to print: more than the longest answer has.
+abbrev pub printed-room : ℕ
+printed-room = 8192
+
 -- 18 is "before any other number".
 unfoldable pub ran-by : Rooms → Said → Ended
 ran-by rooms (given modes numbers) = ended (hatt-run (rooms .run) modes numbers)

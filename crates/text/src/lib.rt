@@ -1,10 +1,11 @@
 // The program's text: its input read and its answer printed, from bytes to bytes.
 ghost use mathlib.Core.Path.{_≡_};
-ghost use Prim.Native.Nat.{_*_, _≤_};
-ghost use lib.ListN.{length, take};
+ghost use Prim.Native.Nat.{_*_};
+ghost use lib.ListN.{length};
 ghost use Rattle.entities.specs.Limits.{«most-modes»};
-ghost use Rattle.text.specs.Running.{«program-rooms»};
-ghost use Rattle.text.specs.Output.{«answer-text»};
+ghost use Rattle.text.specs.Running.{«program-rooms», «printed-room»};
+ghost use Rattle.text.specs.Output.{«answer-text», Prints};
+ghost use Rattle.text.specs.code.Printing.{Puts};
 
 mod input;
 pub mod newick_line;
@@ -21,8 +22,8 @@ pub struct Printed {
 
 // The answer to a text printed over the front, in lent room for its rows; how many bytes that is.
 fn print_answer(input: &[u8], rows: &mut [u16], out: &mut [u8]) -> usize
-    requires { ⌜ (length (now rows) ≡ 4 * most-modes) × (length (now out) ≡ 8192) ⌝ }
-    ensures { λ r. ⌜ (take r (now (out .exit)) ≡ answer-text program-rooms (now (input .entry))) × (r ≤ 8192) ⌝ }
+    requires { ⌜ (length (now rows) ≡ 4 * most-modes) × (length (now out) ≡ printed-room) ⌝ }
+    ensures { λ r. ⌜ Puts (answer-text program-rooms (now (input .entry))) (now (out .entry)) (now (out .exit)) r ⌝ }
 {
     match running::run_text(input, rows) {
         Ran::Refused(refusal) => output::put_refusal(out, refusal),
@@ -33,22 +34,13 @@ fn print_answer(input: &[u8], rows: &mut [u16], out: &mut [u8]) -> usize
     }
 }
 
-// The same in room of its own.
-fn put_answer(input: &[u8], out: &mut [u8]) -> usize
-    requires { ⌜ length (now out) ≡ 8192 ⌝ }
-    ensures { λ r. ⌜ (take r (now (out .exit)) ≡ answer-text program-rooms (now (input .entry))) × (r ≤ 8192) ⌝ }
-{
-    let mut rows = [0u16; 1024];
-    print_answer(input, &mut rows, out)
-}
-
 // The program's answer to a text.
 pub fn answer(input: &[u8]) -> Printed
-    ensures { λ r. ⌜ take (r .count) (r .bytes) ≡ answer-text program-rooms (now (input .entry)) ⌝ }
-    ensures { λ r. ⌜ (r .count ≤ 8192) × (length (r .bytes) ≡ 8192) ⌝ }
+    ensures { λ r. ⌜ Prints (answer-text program-rooms (now (input .entry))) r ⌝ }
 {
+    let mut rows = [0u16; 1024];
     let mut bytes = [0u8; 8192];
-    let count = put_answer(input, &mut bytes);
+    let count = print_answer(input, &mut rows, &mut bytes);
     Printed {
         bytes: bytes,
         count: count,

@@ -1,13 +1,15 @@
 // The tree that a text's run ends in, printed as a Newick line.
 ghost use mathlib.Core.Path.{_≡_};
 ghost use Prim.Native.Nat.{_*_, _≤_};
-ghost use lib.ListN.{length, take};
+ghost use lib.ListN.{length};
 ghost use Rattle.entities.specs.Limits.{«most-modes»};
 ghost use Rattle.tree.specs.Laying.{laid};
 ghost use Rattle.newick.specs.Writing.{«newick-text»};
 ghost use Rattle.newick.specs.Calls.{«newick-written», «text-after»};
-ghost use Rattle.text.specs.Running.{«program-rooms»};
-ghost use Rattle.text.specs.NewickLine.{«table-line», «newick-answer-text»};
+ghost use Rattle.text.specs.Running.{«program-rooms», «printed-room»};
+ghost use Rattle.text.specs.Output.{Prints};
+ghost use Rattle.text.specs.NewickLine.{«table-line», «line-room», «newick-answer-text»};
+ghost use Rattle.text.specs.code.Printing.{Puts};
 use crate::Printed;
 use crate::output;
 use crate::running;
@@ -18,8 +20,8 @@ use tree::laying;
 
 // A tree's text written over the front, with room for a byte behind it.
 fn write_text(out: &mut [u8], modes: usize, tree: &[u16]) -> NewickWritten
-    requires { ⌜ length (now out) ≡ 8192 ⌝ }
-    ensures { λ r. ⌜ r ≡ newick-written most-modes modes (now (tree .entry)) 8191 ⌝ }
+    requires { ⌜ length (now out) ≡ printed-room ⌝ }
+    ensures { λ r. ⌜ r ≡ newick-written most-modes modes (now (tree .entry)) line-room ⌝ }
     ensures { λ r. ⌜ now (out .exit) ≡ text-after r (newick-text modes (now (tree .entry))) (now (out .entry)) ⌝ }
 {
     writing::write_newick(modes, tree, &mut out[..8191])
@@ -27,8 +29,8 @@ fn write_text(out: &mut [u8], modes: usize, tree: &[u16]) -> NewickWritten
 
 // A tree's line printed over the front; how many bytes that is.
 fn put_line(out: &mut [u8], modes: usize, tree: &[u16]) -> usize
-    requires { ⌜ length (now out) ≡ 8192 ⌝ }
-    ensures { λ r. ⌜ (take r (now (out .exit)) ≡ table-line most-modes 8191 modes (now (tree .entry))) × (r ≤ 8192) ⌝ }
+    requires { ⌜ length (now out) ≡ printed-room ⌝ }
+    ensures { λ r. ⌜ Puts (table-line most-modes line-room modes (now (tree .entry))) (now (out .entry)) (now (out .exit)) r ⌝ }
 {
     match write_text(out, modes, tree) {
         NewickWritten::Unwritten(refusal) => output::put_refusal(out, refusal),
@@ -41,8 +43,8 @@ fn put_line(out: &mut [u8], modes: usize, tree: &[u16]) -> usize
 
 // The line of rows, laid out in a lent table of their size.
 fn put_laid(out: &mut [u8], modes: usize, rows: &[u16], table: &mut [u16]) -> usize
-    requires { ⌜ (length (now out) ≡ 8192) × (length (now table) ≡ 3 * modes) ⌝ }
-    ensures { λ r. ⌜ (take r (now (out .exit)) ≡ table-line most-modes 8191 modes (laid modes (now (rows .entry)))) × (r ≤ 8192) ⌝ }
+    requires { ⌜ (length (now out) ≡ printed-room) × (length (now table) ≡ 3 * modes) ⌝ }
+    ensures { λ r. ⌜ Puts (table-line most-modes line-room modes (laid modes (now (rows .entry)))) (now (out .entry)) (now (out .exit)) r ⌝ }
 {
     laying::lay_rows(rows, table);
     put_line(out, modes, table)
@@ -50,8 +52,8 @@ fn put_laid(out: &mut [u8], modes: usize, rows: &[u16], table: &mut [u16]) -> us
 
 // The same in the front of a lent table for any.
 fn put_rows(out: &mut [u8], modes: usize, rows: &[u16], table: &mut [u16]) -> usize
-    requires { ⌜ (length (now out) ≡ 8192) × (modes ≤ most-modes) × (length (now table) ≡ 3 * most-modes) ⌝ }
-    ensures { λ r. ⌜ (take r (now (out .exit)) ≡ table-line most-modes 8191 modes (laid modes (now (rows .entry)))) × (r ≤ 8192) ⌝ }
+    requires { ⌜ (length (now out) ≡ printed-room) × (modes ≤ most-modes) × (length (now table) ≡ 3 * most-modes) ⌝ }
+    ensures { λ r. ⌜ Puts (table-line most-modes line-room modes (laid modes (now (rows .entry)))) (now (out .entry)) (now (out .exit)) r ⌝ }
 {
     let end = 3 * modes;
     put_laid(out, modes, rows, &mut table[..end])
@@ -59,8 +61,8 @@ fn put_rows(out: &mut [u8], modes: usize, rows: &[u16], table: &mut [u16]) -> us
 
 // The answer to a text printed over the front, in lent room for its rows and its table; how many bytes that is.
 fn print_newick(input: &[u8], rows: &mut [u16], table: &mut [u16], out: &mut [u8]) -> usize
-    requires { ⌜ (length (now rows) ≡ 4 * most-modes) × (length (now table) ≡ 3 * most-modes) × (length (now out) ≡ 8192) ⌝ }
-    ensures { λ r. ⌜ (take r (now (out .exit)) ≡ newick-answer-text program-rooms 8191 (now (input .entry))) × (r ≤ 8192) ⌝ }
+    requires { ⌜ (length (now rows) ≡ 4 * most-modes) × (length (now table) ≡ 3 * most-modes) × (length (now out) ≡ printed-room) ⌝ }
+    ensures { λ r. ⌜ Puts (newick-answer-text program-rooms (now (input .entry))) (now (out .entry)) (now (out .exit)) r ⌝ }
 {
     match running::run_text(input, rows) {
         Ran::Refused(refusal) => output::put_refusal(out, refusal),
@@ -71,23 +73,14 @@ fn print_newick(input: &[u8], rows: &mut [u16], table: &mut [u16], out: &mut [u8
     }
 }
 
-// The same in room of its own.
-fn put_newick(input: &[u8], out: &mut [u8]) -> usize
-    requires { ⌜ length (now out) ≡ 8192 ⌝ }
-    ensures { λ r. ⌜ (take r (now (out .exit)) ≡ newick-answer-text program-rooms 8191 (now (input .entry))) × (r ≤ 8192) ⌝ }
+// The answer to a text as a Newick line.
+pub fn answer_newick(input: &[u8]) -> Printed
+    ensures { λ r. ⌜ Prints (newick-answer-text program-rooms (now (input .entry))) r ⌝ }
 {
     let mut rows = [0u16; 1024];
     let mut table = [0u16; 768];
-    print_newick(input, &mut rows, &mut table, out)
-}
-
-// The answer to a text as a Newick line.
-pub fn answer_newick(input: &[u8]) -> Printed
-    ensures { λ r. ⌜ take (r .count) (r .bytes) ≡ newick-answer-text program-rooms 8191 (now (input .entry)) ⌝ }
-    ensures { λ r. ⌜ (r .count ≤ 8192) × (length (r .bytes) ≡ 8192) ⌝ }
-{
     let mut bytes = [0u8; 8192];
-    let count = put_newick(input, &mut bytes);
+    let count = print_newick(input, &mut rows, &mut table, &mut bytes);
     Printed {
         bytes: bytes,
         count: count,

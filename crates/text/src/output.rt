@@ -6,6 +6,7 @@ ghost use lib.ListN.{length};
 ghost use Rattle.lists.specs.Written.{«written-at»};
 ghost use Rattle.fields.specs.Decimal.{decimal};
 ghost use Rattle.text.specs.Output.{«code-text», «node-line», «node-lines», «refusal-text», «done-text»};
+ghost use Rattle.text.specs.code.Printing.{Puts};
 use entities::codes;
 use fields::decimal;
 use fields::parts;
@@ -67,8 +68,7 @@ fn put_value(out: &mut [u8], at: usize, word: &[u8], number: u64) -> usize
 // A refusal written over the front; how many bytes that is.
 pub fn put_refusal(out: &mut [u8], refusal: Refusal) -> usize
     requires { ⌜ 50 ≤ length (now out) ⌝ }
-    ensures { λ r. ⌜ (r ≡ length (refusal-text refusal)) × (r ≤ 50) ⌝ }
-    ensures { λ r. ⌜ now (out .exit) ≡ written-at 0 (refusal-text refusal) (now (out .entry)) ⌝ }
+    ensures { λ r. ⌜ Puts (refusal-text refusal) (now (out .entry)) (now (out .exit)) r ⌝ }
 {
     let number = refusal::number(refusal) as u64;
     let place = refusal::place(refusal) as u64;
@@ -80,8 +80,7 @@ pub fn put_refusal(out: &mut [u8], refusal: Refusal) -> usize
 // What a run came to written over the front; how many bytes that is.
 pub fn put_done(out: &mut [u8], weight: u64, trials: u64, rows: &[u16]) -> usize
     requires { ⌜ 56 + 29 * (length (now rows) / 4) ≤ length (now out) ⌝ }
-    ensures { λ r. ⌜ (r ≡ length (done-text weight trials (now (rows .entry)))) × (r ≤ 56 + 29 * (length (now (rows .entry)) / 4)) ⌝ }
-    ensures { λ r. ⌜ now (out .exit) ≡ written-at 0 (done-text weight trials (now (rows .entry))) (now (out .entry)) ⌝ }
+    ensures { λ r. ⌜ Puts (done-text weight trials (now (rows .entry))) (now (out .entry)) (now (out .exit)) r ⌝ }
 {
     let first = put_value(out, 0, b"weight\t", weight);
     let second = put_value(out, first, b"trials\t", trials);

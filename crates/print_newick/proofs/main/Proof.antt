@@ -1,8 +1,8 @@
 -- What is printed stands within the bytes that came back.
 use mathlib.Core.Path.{sym}
-use native.Mathlib.Omega.{arith}
 use borrow.Author.Needs.{needs}
 use lib.Seq.{length-take-le}
+use Rattle.text.proofs.PrintedLines.{prints-within}
 use Rattle.print_newick.proofs.main.Statement.{statement}
 use Rattle.print_newick.proofs.main.Tie as tie
 
@@ -25,13 +25,12 @@ answer-newick-requires : tie.Need-answer-newick-requires
 answer-newick-requires c κs = search needs
 
 array-share-prefix-bytes : tie.Need-array-share-prefix-bytes
-array-share-prefix-bytes c = let told = c .before .answer-newick .ensures .1 in omega (arith, told .0, told .1)
+array-share-prefix-bytes c = prints-within (c .before .answer-newick .ensures)
 
 slice-aggregate-write-all : tie.Need-slice-aggregate-write-all
 slice-aggregate-write-all c =
     let answer = c .before .before .answer-newick in
-    let told = answer .ensures .1 in
-    sym (length-take-le (answer .result .count) (answer .result .bytes) (omega (arith, told .0, told .1)))
+    sym (length-take-le (answer .result .count) (answer .result .bytes) (prints-within (answer .ensures)))
 
 write-all-requires : tie.Need-write-all-requires
 write-all-requires c κs = search needs

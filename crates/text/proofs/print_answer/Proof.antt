@@ -1,12 +1,11 @@
 -- The run was refused, or it came to its end and its rows stand in front: either way it is printed as the definitions print it.
-use mathlib.Core.Path.{sym, _∙_}
+use mathlib.Core.Path.{sym}
 use Prim.Native.Nat.{_*_, _≤_}
 use native.Mathlib.Omega.{arith}
 use borrow.Author.Needs.{needs}
 use lib.Seq.{length-take-le}
-use lib.ListN.{length, take}
-use Rattle.text.specs.Output.{refusal-text, done-text, answer-text}
-use Rattle.text.proofs.PrintedLines.{front-is}
+use lib.ListN.{length}
+use Rattle.text.specs.Output.{answer-text}
 use Rattle.text.proofs.RunEnds.{refused-prints, done-few, done-prints}
 use Rattle.text.proofs.print_answer.Statement.{statement}
 use Rattle.text.proofs.print_answer.Tie as tie
@@ -68,11 +67,10 @@ same-length-2 c = search needs
 returns : tie.Need-returns
 unfolding answer-text
 returns c =
-    let start = c .before .before .before .before .before .before .before .before .before .before .before .before .before .before in
     let run = c .before .before .before .before .before .before .before .before .before .run-text in
     let told = c .before .before .before .before .before .refusal .given in
     let put = c .before .before .put-refusal .ensures in
-    (front-is (refusal-text (told .0 .0)) (start .args .out .now) _ _ (put .0 .0) (put .1) (omega arith) ∙ refused-prints 256 _ _ _ (run .ensures) _ (told .1), omega arith)
+    rw (refused-prints 256 _ _ _ (run .ensures) _ (told .1)) at put
 
 same-length-3 : tie.Need-same-length-3
 same-length-3 c = search needs
@@ -83,14 +81,10 @@ same-length-4 c = search needs
 returns-2 : tie.Need-returns-2
 unfolding answer-text
 returns-2 c =
-    let start = c .before .before .before .before .before .before .before .before .before .before .before .before .before .before .before in
     let run = c .before .before .before .before .before .before .before .before .before .before .run-text in
     let told = c .before .before .before .before .before .before .modes .given in
-    let few = done-few 256 _ _ _ (run .ensures) _ _ _ (told .1) in
-    let room : 4 * told .0 .0 ≤ length (run .last .1 .0) = omega (arith, few, run .kept, start .pre .0) in
-    let wide = length-take-le (4 * told .0 .0) (run .last .1 .0) room in
     let put = c .before .before .put-done .ensures in
-    (front-is (done-text (told .0 .1 .0) (told .0 .1 .1 .0) (take (4 * told .0 .0) (run .last .1 .0))) (start .args .out .now) _ _ (put .0 .0) (put .1) (omega (arith, put .0 .1, wide, few, start .pre .1)) ∙ done-prints 256 _ _ _ (run .ensures) _ _ _ (told .1), omega (arith, put .0 .1, wide, few))
+    rw (done-prints 256 _ _ _ (run .ensures) _ _ _ (told .1)) at put
 
 pub print-answer-spec : {M : Type 1} → statement M
 print-answer-spec =

@@ -7,6 +7,7 @@ use lib.Dec.{eqb}
 use lib.ListN.{length, getD, take, replicate}
 use Rattle.lists.specs.Written.{written-at}
 use Rattle.entities.specs.Limits.{row-width}
+use Rattle.fields.specs.Texts.{spelt}
 use Rattle.fields.specs.Decimal.{value}
 use Rattle.fields.specs.Lines.{lines, kept-of}
 use Rattle.fields.specs.Fields.{fields}
@@ -22,9 +23,9 @@ use Rattle.text.specs.Input.{modes-line, term-line, formed-from, term-ro
 unfoldable pub modes-said : List ℕ → Modes
 modes-said line = cond (modes-line (fields line)) (Are (value (getD (fields line) 1 []))) Broken
 
--- `term` and a tab.
+-- The word of a term's line, and a tab.
 abbrev pub term-opening : List ℕ
-term-opening = 116 ∷ (101 ∷ (114 ∷ (109 ∷ (9 ∷ []))))
+term-opening = spelt "term\t"
 
 -- A line read as a term of so many indices: whether it is that, and if so that the row says them.
 pub record IndicesRead (line : List ℕ) (count : ℕ) (after : List ℕ) (r : Bool) : Type 0 where

@@ -1,13 +1,11 @@
 -- The run was refused, or it came to its end and its rows stand in front: either way it is printed as the definitions print it.
-use mathlib.Core.Path.{sym, _∙_}
+use mathlib.Core.Path.{sym}
 use Prim.Native.Nat.{_*_, _≤_}
 use native.Mathlib.Omega.{arith}
 use borrow.Author.Needs.{needs}
 use lib.Seq.{length-take-le}
 use lib.ListN.{length}
-use Rattle.text.specs.Output.{refusal-text}
 use Rattle.text.specs.NewickLine.{newick-answer-text}
-use Rattle.text.proofs.PrintedLines.{front-is}
 use Rattle.text.proofs.RunEnds.{done-few}
 use Rattle.text.proofs.LinePrinted.{refused-newick, done-newick}
 use Rattle.text.proofs.newick_line.print_newick.Statement.{statement}
@@ -67,11 +65,10 @@ same-length-2 c = search needs
 returns : tie.Need-returns
 unfolding newick-answer-text
 returns c =
-    let start = c .before .before .before .before .before .before .before .before .before .before .before .before .before .before .before in
     let run = c .before .before .before .before .before .before .before .before .before .run-text in
     let told = c .before .before .before .before .before .refusal .given in
     let put = c .before .before .put-refusal .ensures in
-    (front-is (refusal-text (told .0 .0)) (start .args .out .now) _ _ (put .0 .0) (put .1) (omega (arith, put .0 .1, start .pre .2)) ∙ refused-newick 256 8191 _ _ _ (run .ensures) _ (told .1), omega (arith, put .0 .1))
+    rw (refused-newick 256 _ _ _ (run .ensures) _ (told .1)) at put
 
 same-length-3 : tie.Need-same-length-3
 same-length-3 c = search needs
@@ -91,7 +88,7 @@ returns-2 c =
     let few = done-few 256 _ _ _ (run .ensures) _ _ _ (told .1) in
     let room : 4 * told .0 .0 ≤ length (run .last .1 .0) = omega (arith, few, run .kept, start .pre .0) in
     let put = c .before .before .before .before .put-rows .ensures in
-    (put .0 ∙ done-newick 256 8191 _ _ _ (run .ensures) _ _ _ (told .1) room, put .1)
+    rw (done-newick 256 _ _ _ (run .ensures) _ _ _ (told .1) room) at put
 
 pub print-newick-spec : {M : Type 1} → statement M
 print-newick-spec =

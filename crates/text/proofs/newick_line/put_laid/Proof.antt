@@ -1,5 +1,5 @@
 -- The table holds the rows laid out, and its line is theirs.
-use mathlib.Core.Path.{ap, _∙_}
+use mathlib.Core.Path.{ap}
 use borrow.Author.Needs.{needs}
 use Rattle.text.specs.NewickLine.{table-line}
 use Rattle.text.proofs.LinePrinted.{laid-in}
@@ -24,7 +24,7 @@ returns c =
     let args = start .args in
     let lay = c .before .before .before .before .before .before .before .lay-rows in
     let put = c .before .before .put-line .ensures in
-    (put .0 ∙ ap (table-line 256 8191 (args .modes)) (laid-in (args .modes) (args .rows .now) (args .table .now) _ (start .pre .1) (lay .ensures)), put .1)
+    rw (ap (table-line 256 8191 (args .modes)) (laid-in (args .modes) (args .rows .now) (args .table .now) _ (start .pre .1) (lay .ensures))) at put
 
 pub put-laid-spec : {M : Type 1} → statement M
 put-laid-spec =

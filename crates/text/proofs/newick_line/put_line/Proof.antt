@@ -4,8 +4,6 @@ use native.Mathlib.Omega.{arith}
 use borrow.Author.Needs.{needs}
 use Rattle.newick.specs.Writing.{newick-text}
 use Rattle.newick.specs.Calls.{text-after}
-use Rattle.text.specs.Output.{refusal-text}
-use Rattle.text.proofs.PrintedLines.{front-is}
 use Rattle.text.proofs.LinePrinted.{line-fits, written-line, refused-line}
 use Rattle.text.proofs.newick_line.put_line.Statement.{statement}
 use Rattle.text.proofs.newick_line.put_line.Tie as tie
@@ -52,8 +50,9 @@ returns c =
     let write = c .before .before .before .before .before .before .before .before .before .write-text in
     let told = c .before .before .before .before .before .refusal .given in
     let says = sym (told .1) ∙ write .ensures .0 in
-    let put = c .before .before .put-refusal .ensures in
-    (front-is (refusal-text (told .0 .0)) (write .last .0) _ _ (put .0 .0) (put .1) (omega (arith, put .0 .1, write .kept, start .pre)) ∙ refused-line 256 (args .modes) (args .tree .now) 8191 (told .0 .0) says, omega (arith, put .0 .1))
+    let text = newick-text (args .modes) (args .tree .now) in
+    let after = write .ensures .1 ∙ ap (λ r. text-after r text (args .out .now)) (told .1) in
+    refused-line 256 (args .modes) (args .tree .now) 8191 (args .out .now) (told .0 .0) (write .last .0) says after (c .before .before .put-refusal .ensures)
 
 same-length-2 : tie.Need-same-length-2
 same-length-2 c = search needs
@@ -65,10 +64,9 @@ returns-2 c =
     let write = c .before .before .before .before .before .write-text in
     let told = c .before .count .given in
     let says = sym (told .1) ∙ write .ensures .0 in
-    let fits = line-fits 256 (args .modes) (args .tree .now) 8191 (told .0 .0) says in
     let text = newick-text (args .modes) (args .tree .now) in
     let after = write .ensures .1 ∙ ap (λ r. text-after r text (args .out .now)) (told .1) in
-    (written-line 256 (args .modes) (args .tree .now) 8191 (args .out .now) (omega (arith, start .pre)) (told .0 .0) (write .last .0) says after, omega (arith, fits .exact, fits .within))
+    written-line 256 (args .modes) (args .tree .now) 8191 (args .out .now) (told .0 .0) (write .last .0) says after (omega (arith, start .pre))
 
 pub put-line-spec : {M : Type 1} → statement M
 put-line-spec =

@@ -1,8 +1,7 @@
 -- Weight, trials and the rows, each behind what is before it.
 use native.Mathlib.Omega.{arith}
 use borrow.Author.Needs.{needs}
-use Rattle.text.specs.Output.{weight-word, trials-word}
-use Rattle.text.proofs.PrintedLines.{done-wrote}
+use Rattle.text.proofs.PrintedLines.{wrote-puts, done-wrote}
 use Rattle.text.proofs.output.put_done.Statement.{statement}
 use Rattle.text.proofs.output.put_done.Tie as tie
 
@@ -25,7 +24,6 @@ same-length : tie.Need-same-length
 same-length c = search needs
 
 returns : tie.Need-returns
-unfolding weight-word trials-word
 returns c =
     let start = c .before .before .before .before .before .before .before .before .before .before .before .before .before .before .before .before in
     let first = c .before .before .before .before .before .before .before .before .before .before .before .put-value .ensures in
@@ -34,7 +32,7 @@ returns c =
     let all = done-wrote (start .args .weight) (start .args .trials) (start .args .rows .now) (start .args .out .now)
     (record { behind = first .0 .0; written = first .1 }) (record { behind = second .0 .0; written = second .1 })
     (record { behind = third .0 .0; written = third .1 }) (omega arith) in
-    ((omega (arith, all .behind), omega arith), all .written)
+    wrote-puts all (omega (arith, start .pre))
 
 pub put-done-spec : {M : Type 1} → statement M
 put-done-spec =

@@ -3,7 +3,7 @@ use native.Mathlib.Omega.{arith}
 use borrow.Author.Needs.{needs}
 use lib.ListN.{getD}
 use Rattle.lists.proofs.Behind.{field-wrote}
-use Rattle.text.specs.Output.{node-word, code-text}
+use Rattle.text.specs.Output.{code-text}
 use Rattle.text.proofs.PrintedLines.{node-wrote}
 use Rattle.text.proofs.output.put_node.Statement.{statement}
 use Rattle.text.proofs.output.put_node.Tie as tie
@@ -42,7 +42,6 @@ same-length : tie.Need-same-length
 same-length c = search needs
 
 returns : tie.Need-returns
-unfolding node-word
 returns c =
     let start = c .before .before .before .before .before .before .before .before .before .before .before .before .before .before .before .before .before .before .before .before .before .before .before .before .before .before .before in
     let first = c .before .before .before .before .before .before .before .before .before .before .before .before .before .before .before .before .before .before .before .before .before .before .put-bytes .ensures in

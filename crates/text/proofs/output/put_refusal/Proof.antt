@@ -4,8 +4,7 @@ use borrow.Author.Needs.{needs}
 use Rattle.lists.proofs.Behind.{field-wrote}
 use Rattle.fields.specs.Decimal.{decimal}
 use Rattle.fields.proofs.Digits.{decimal-long}
-use Rattle.text.specs.Output.{refused-word}
-use Rattle.text.proofs.PrintedLines.{refusal-wrote}
+use Rattle.text.proofs.PrintedLines.{wrote-puts, refusal-wrote}
 use Rattle.text.proofs.output.put_refusal.Statement.{statement}
 use Rattle.text.proofs.output.put_refusal.Tie as tie
 
@@ -37,7 +36,6 @@ same-length : tie.Need-same-length
 same-length c = search needs
 
 returns : tie.Need-returns
-unfolding refused-word
 returns c =
     let start = c .before .before .before .before .before .before .before .before .before .before .before .before .before .before .before .before in
     let number = c .before .before .before .before .before .before .before .before .before .before .before .before .before .before .number in
@@ -49,7 +47,7 @@ returns c =
     let near = decimal-long (place .result) in
     let all = refusal-wrote (start .args .refusal) (number .result) (place .result) (number .ensures) (place .ensures) (start .args .out .now) (start .pre) (record { behind = first .0; written = first .1 })
     (field-wrote (decimal (number .result)) 9 (second .0) (second .1)) (field-wrote (decimal (place .result)) 10 (third .0) (third .1)) (omega arith) in
-    ((omega (arith, all .behind), omega arith), all .written)
+    wrote-puts all (omega arith)
 
 pub put-refusal-spec : {M : Type 1} → statement M
 put-refusal-spec =

@@ -1,0 +1,116 @@
+-- The program's own rooms suffice for whatever a text says, so 5 is never what `hatt` prints.
+use mathlib.Core.Path.{_≡_, refl, ap, _∙_, sym}
+use mathlib.Core.Bool.{Bool, true, false, cond, not}
+use mathlib.Core.List.{List, [], _∷_}
+use Prim.Native.Nat.{ℕ, _+_, _*_, _/_, _%_, _≤_}
+use native.Mathlib.Omega.{arith}
+use borrow.Author.Tests.{leb-true}
+use lib.Dec.{eqb, ltb, leb}
+use lib.ListN.{length, getD, length-append}
+use Rattle.lists.specs.Members.{every}
+use Rattle.lists.proofs.Tests.{both}
+use Rattle.refusal.specs.declared.Refusal.{Refusal}
+use Rattle.refusal.specs.declared.Refusal.the-variants.{Modes, TermNumbers, TooManyTerms, BadRow, Room}
+use Rattle.refusal.specs.Numbers.{numberOf, placeOf}
+use Rattle.entities.specs.Limits.{most-modes, most-terms, row-width}
+use Rattle.fields.specs.Texts.{spelt}
+use Rattle.fields.specs.Decimal.{digits, decimal}
+use Rattle.fields.specs.Fields.{fields, tabbed}
+use Rattle.fields.specs.Lines.{lines, lines-after}
+use Rattle.fields.proofs.Digits.{by-size, digits-one, digits-more, some-digits}
+use Rattle.fields.proofs.Tabbed.{no-tab}
+use Rattle.fields.proofs.NumbersTabbed.{decimal-no-tab, fields-line}
+use Rattle.terms.specs.declared.checking.Checked.{Checked}
+use Rattle.terms.specs.declared.checking.Checked.the-variants.{Good, Refused}
+use Rattle.terms.specs.Good.{modes-good, good-rows, checked}
+use Rattle.journal.specs.Obeying.{obeyed, obeyed-texts}
+use Rattle.journal.specs.Resuming.{refuses, with-journal, with-terms, resumed, hatt-run}
+use Rattle.journal.proofs.CallDone.{rooms-fit}
+use Rattle.text.specs.Input.{Said, given, malformed, said}
+use Rattle.text.specs.Running.{Ended, came, stopped, ended, program-rooms, ran-by, ran}
+use Rattle.text.specs.Output.{line-of, refusal-text, done-text, printed, answer-text, RoomSuffices}
+
+-- The text of a refusal tells its number.
+second-field : (refusal : Refusal) → getD (fields (refusal-text refusal)) 1 [] ≡ decimal (numberOf refusal)
+unfolding refusal-text line-of every no-tab
+second-field refusal =
+    let number = decimal (numberOf refusal) in
+    let place = decimal (placeOf refusal) in
+    ap (λ parts. getD parts 1 [])
+    (fields-line (spelt "refused") (number ∷ (place ∷ [])) (rw (decimal-no-tab (numberOf refusal), decimal-no-tab (placeOf refusal))))
+
+decimal-five : (number : ℕ) → decimal number ≡ decimal 5 → number ≡ 5
+unfolding decimal digits
+decimal-five number e =
+    by-size number
+    (λ h. omega (arith, ap (λ l. getD l 0 0) (sym (digits-one 19 number h) ∙ e)))
+    (λ h.
+    let tenth = digits 19 (number / 10) in
+    let last = (48 + number % 10) ∷ [] in
+    absurd (omega (arith, ap length (sym (digits-more 19 number h) ∙ e), length-append tenth last, some-digits 18 (number / 10))))
+
+pub refusal-five : (refusal : Refusal) → refusal-text refusal ≡ refusal-text Room → numberOf refusal ≡ 5
+refusal-five refusal e =
+    decimal-five (numberOf refusal) (sym (second-field refusal) ∙ ap (λ text. getD (fields text) 1 []) e ∙ second-field Room)
+
+-- The number with which a run ends, none where it isn't refused.
+unfoldable pub number-in : Ended → ℕ
+number-in (came weight trials rows) = 0
+number-in (stopped refusal) = numberOf refusal
+
+-- Where the text of 5 is printed, the run ended with it: a finished run's text begins otherwise.
+five-ended : (end : Ended) → printed end ≡ refusal-text Room → number-in end ≡ 5
+unfolding number-in printed done-text refusal-text line-of tabbed
+five-ended (came weight trials rows) e = absurd (omega (arith, ap (λ text. getD text 0 0) e))
+five-ended (stopped refusal) e = refusal-five refusal e
+
+module _ (modes : ℕ) (numbers : List ℕ) where
+  abbrev count : ℕ
+  count = length numbers / row-width
+
+  abbrev number-with : Checked → ℕ
+  number-with found = number-in (ended (with-terms (program-rooms .run) modes numbers [] found))
+
+  -- With room for all, the empty journal is obeyed and the run is done.
+  room-done : modes ≤ most-modes → count ≤ most-terms → number-with (Good count) ≡ 0
+  unfolding number-in ended with-terms with-journal obeyed obeyed-texts lines lines-after
+  room-done few short = rw (rooms-fit (program-rooms .run) modes count (omega arith) (omega arith) (omega arith))
+
+  terms-never : modes ≤ most-modes → number-with (checked modes numbers) ≡ 5 → ⊥
+  unfolding number-in ended with-terms checked
+  terms-never few =
+      go (eqb (length numbers % row-width) 0) (leb count most-terms) refl (ltb (good-rows (2 * modes) count numbers) count)
+    where
+      go : (a b : Bool) → leb count most-terms ≡ b → (c : Bool)
+          → number-with (cond (not a) (Refused TermNumbers)
+          (cond (not b) (Refused TooManyTerms) (cond c (Refused (BadRow (good-rows (2 * modes) count numbers))) (Good count))))
+          ≡ 5
+          → ⊥
+      go false b e c h = omega arith
+      go true false e c h = omega arith
+      go true true e true h = omega arith
+      go true true e false h = omega (arith, room-done few (leb-true count most-terms e))
+
+  run-never : number-in (ended (hatt-run (program-rooms .run) modes numbers)) ≡ 5 → ⊥
+  unfolding number-in ended hatt-run resumed modes-good
+  run-never h = go (modes-good most-modes modes) refl h
+    where
+      go : (b : Bool) → modes-good most-modes modes ≡ b
+          → number-in (ended (cond (not b) (refuses Modes) (with-terms (program-rooms .run) modes numbers [] (checked modes numbers)))) ≡ 5
+          → ⊥
+      go false e h = omega arith
+      go true e h = terms-never (leb-true modes most-modes (both (leb 1 modes) (leb modes most-modes) e .1)) h
+
+-- No text's run ends with 5.
+pub ran-never : (bytes : List ℕ) → number-in (ran program-rooms bytes) ≡ 5 → ⊥
+unfolding number-in ran-by ran
+ran-never bytes = go (said most-terms bytes)
+  where
+    go : (says : Said) → number-in (ran-by program-rooms says) ≡ 5 → ⊥
+    go (given modes numbers) h = run-never modes numbers h
+    go (malformed line) h = omega arith
+
+-- The theorem: 5 is never printed.
+pub room-suffices : RoomSuffices
+unfolding answer-text
+room-suffices bytes e = ran-never bytes (five-ended (ran program-rooms bytes) e)
