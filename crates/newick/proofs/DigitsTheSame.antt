@@ -17,7 +17,7 @@ pub record Alike (text other : List ℕ) (place : ℕ) : Type 0 where
   pub there : (byte-at other place ≡ byte-at text place) ⊎ (byte-at other place ≡ 0)
 
 module _ (text other : List ℕ) (place : ℕ) (alike : Alike text other place) where
-  pub alike-at : (at : ℕ) → at ≤ place → (byte-at other at ≡ byte-at text at) ⊎ (byte-at other at ≡ 0)
+  alike-at : (at : ℕ) → at ≤ place → (byte-at other at ≡ byte-at text at) ⊎ (byte-at other at ≡ 0)
   alike-at at h = ⊎-elim (λ e. rw e (alike .there)) (λ e. inl (alike .before at (omega arith))) (same-or-not at place)
 
   -- Another byte than the one that stands, and than 0, doesn't stand in the other text either.

@@ -8,6 +8,8 @@ pub mod TextLength
 pub mod TreeWrote
 pub mod DigitsStand
 pub mod ReadingParts
+pub mod Opened
+pub mod Counted
 pub mod ReadingStops
 pub mod ShapeRead
 pub mod Ahead
@@ -18,12 +20,9 @@ pub mod DigitsTheSame
 pub mod ReadTheSame
 pub mod Beginnings
 pub mod ShapeBegun
-pub mod HigherRead
 pub mod TextBegun
 pub mod TextStops
-pub mod Opened
-pub mod ChildrenCrowd
-pub mod TextCrowded
+pub mod NeverBoth
 pub mod FormRefused
 pub mod NumberAhead
 pub mod PartsRead

@@ -12,21 +12,10 @@ pub node-ahead : (x y z : Shape) (label : ℕ) (rest : List ℕ)
     → spelled (node x y z label) ++ rest
     ≡ 40 ∷ (spelled x ++ (44 ∷ (spelled y ++ (44 ∷ (spelled z ++ (41 ∷ (110 ∷ (decimal label ++ rest))))))))
 unfolding spelled
-node-ahead x y z label rest =
-    rw (
-      append-assoc (spelled x) (44 ∷ (spelled y ++ (44 ∷ (spelled z ++ (41 ∷ (110 ∷ decimal label)))))) rest,
-      append-assoc (spelled y) (44 ∷ (spelled z ++ (41 ∷ (110 ∷ decimal label)))) rest,
-      append-assoc (spelled z) (41 ∷ (110 ∷ decimal label)) rest,
-    )
+node-ahead x y z label rest = simp append-assoc
 
 -- Its four marks, `n`, its label and its children.
 pub node-length : (x y z : Shape) (label : ℕ)
     → length (spelled (node x y z label)) ≡ 5 + (length (spelled x) + (length (spelled y) + (length (spelled z) + length (decimal label))))
 unfolding spelled
-node-length x y z label =
-    omega (
-      arith,
-      length-append (spelled x) (44 ∷ (spelled y ++ (44 ∷ (spelled z ++ (41 ∷ (110 ∷ decimal label)))))),
-      length-append (spelled y) (44 ∷ (spelled z ++ (41 ∷ (110 ∷ decimal label)))),
-      length-append (spelled z) (41 ∷ (110 ∷ decimal label)),
-    )
+node-length x y z label = simp length-append (omega arith)

@@ -33,7 +33,7 @@ module _ (begun : List ℕ) (b : Begun begun) (byte : ℕ) where
         value-more begun byte,
       )
 
-  pub number-more : is-number (begun ++ (byte ∷ [])) ≡ may-follow (length begun) (value begun) byte
+  number-more : is-number (begun ++ (byte ∷ [])) ≡ may-follow (length begun) (value begun) byte
   unfolding may-follow
   number-more = by-digit (is-digit byte) refl
     where
@@ -56,11 +56,11 @@ module _ (count so-far byte : ℕ) (e : may-follow count so-far byte ≡ true) w
   unfolding may-follow
   follows-digit = digit-bounds byte (both (is-digit byte) _ e .0)
 
-  pub follows-on : goes-on count so-far ≡ true
+  follows-on : goes-on count so-far ≡ true
   unfolding may-follow
   follows-on = both (goes-on count so-far) _ (both (is-digit byte) _ e .1) .0
 
-  pub follows-fits : 10 * so-far + (byte - 48) ≤ 65535
+  follows-fits : 10 * so-far + (byte - 48) ≤ 65535
   unfolding may-follow
   follows-fits = leb-true (10 * so-far + (byte - 48)) 65535 (both (goes-on count so-far) _ (both (is-digit byte) _ e .1) .1)
 

@@ -58,7 +58,7 @@ module _ (text rest : List ℕ) (stops : is-digit (byte-at rest 0) ≡ false) wh
       rw (ahead-byte text at digit (left ++ rest) e, front)
       (digits-left left (begun ++ (digit ∷ [])) more (suc at) (ahead-next text at digit (left ++ rest) e) (omega arith) (λ some. whole) ∙ joined)
 
-  pub number-ahead : (number at : ℕ) → number ≤ 65535 → drop at text ≡ decimal number ++ rest → number-digits text at ≡ decimal number
+  number-ahead : (number at : ℕ) → number ≤ 65535 → drop at text ≡ decimal number ++ rest → number-digits text at ≡ decimal number
   unfolding number-digits
   number-ahead number at fits e =
       digits-left (decimal number) [] 5 at e (decimal-short number fits) (λ some. decimal-is-number number fits)

@@ -16,7 +16,8 @@ use Rattle.lists.proofs.Written.{front-written}
 use Rattle.newick.specs.declared.reading.Part.{Part}
 use Rattle.newick.specs.declared.reading.Part.the-variants.{Child, Stuck, Crowded}
 use Rattle.newick.specs.declared.digits.Number.{Number}
-use Rattle.newick.specs.Reading.{Reading, got, stuck, crowded, absent-name, leaf-name, follows, byte-at, expected, marked, number-digits, numbered, child-by, named, inside, node-read, child-read}
+use Rattle.newick.specs.Reading.{Reading, got, stuck, crowded, absent-name, leaf-name, follows, byte-at, expected, marked, number-digits, numbered, child-by, named, inside}
+use Rattle.newick.specs.code.Within.{node-within, child-within}
 use Rattle.newick.specs.code.Promises.{NumberRead, meant, end-of, closed-of, Reads}
 use Rattle.newick.proofs.reading.Part.{the-type}
 
@@ -87,43 +88,43 @@ one-closed closed label x y z numbers h =
 
 -- A child is absent, a leaf or a node.
 module _ (height : ℕ) (text rows : List ℕ) (at : ℕ) where
-  pub child-absent : eqb (byte-at text at) 101 ≡ true → child-read height text rows at ≡ got absent-name rows (at + 1)
-  unfolding child-read child-by
+  pub child-absent : eqb (byte-at text at) 101 ≡ true → child-within height text rows at ≡ got absent-name rows (at + 1)
+  unfolding child-within child-by
   child-absent e = rw (e, add-one at)
 
   module _ (e : eqb (byte-at text at) 101 ≡ false) where
     pub child-leaf : eqb (byte-at text at) 109 ≡ true
-        → child-read height text rows at ≡ numbered text (at + 1) (λ number end. got (leaf-name number) rows end)
-    unfolding child-read child-by
+        → child-within height text rows at ≡ numbered text (at + 1) (λ number end. got (leaf-name number) rows end)
+    unfolding child-within child-by
     child-leaf f = rw (e, f, add-one at)
 
-    pub child-node : eqb (byte-at text at) 109 ≡ false → child-read height text rows at ≡ node-read height text rows at
-    unfolding child-read child-by
+    pub child-node : eqb (byte-at text at) 109 ≡ false → child-within height text rows at ≡ node-within height text rows at
+    unfolding child-within child-by
     child-node f = rw (e, f)
 
 -- What comes behind a node's first child, and behind its second.
 unfoldable pub after-second : ℕ → List ℕ → ℕ → ℕ → List ℕ → ℕ → Reading
-after-second below text x y rows at = follows (marked 41 text (child-read below text rows at)) (λ z rows at. named text rows at x y z)
+after-second below text x y rows at = follows (marked 41 text (child-within below text rows at)) (λ z rows at. named text rows at x y z)
 
 unfoldable pub after-first : ℕ → List ℕ → ℕ → List ℕ → ℕ → Reading
-after-first below text x rows at = follows (marked 44 text (child-read below text rows at)) (λ y rows at. after-second below text x y rows at)
+after-first below text x rows at = follows (marked 44 text (child-within below text rows at)) (λ y rows at. after-second below text x y rows at)
 
 -- A node does not begin here, is one too many, or goes on to its first child.
 module _ (text rows : List ℕ) (at : ℕ) where
-  pub node-missing : (height : ℕ) → eqb (byte-at text at) 40 ≡ false → node-read height text rows at ≡ stuck at
-  unfolding node-read expected
+  pub node-missing : (height : ℕ) → eqb (byte-at text at) 40 ≡ false → node-within height text rows at ≡ stuck at
+  unfolding node-within expected
   node-missing zero e = rw e
   node-missing (suc height) e = rw e
 
-  pub node-crowded : (height : ℕ) → eqb (byte-at text at) 40 ≡ true → length rows ≡ 4 * height → node-read height text rows at ≡ crowded at
-  unfolding node-read expected
+  pub node-crowded : (height : ℕ) → eqb (byte-at text at) 40 ≡ true → length rows ≡ 4 * height → node-within height text rows at ≡ crowded at
+  unfolding node-within expected
   node-crowded zero e f = rw e
   node-crowded (suc height) e f = rw (e, le-ltb (length rows) (4 * suc height) (omega arith))
 
   pub node-opens : (height : ℕ) → eqb (byte-at text at) 40 ≡ true → length rows < 4 * height
-      → node-read height text rows at
-      ≡ follows (marked 44 text (child-read (height - 1) text rows (at + 1))) (after-first (height - 1) text)
-  unfolding node-read expected inside child-read after-first after-second
+      → node-within height text rows at
+      ≡ follows (marked 44 text (child-within (height - 1) text rows (at + 1))) (after-first (height - 1) text)
+  unfolding node-within expected inside child-within after-first after-second
   node-opens zero e f = absurd (omega arith)
   node-opens (suc height) e f =
       let down : suc height - 1 ≡ height = omega arith in

@@ -25,7 +25,7 @@ use Rattle.newick.specs.Writing.{shape-under, newick-text}
 use Rattle.newick.specs.Reading.{got, text-read}
 use Rattle.newick.specs.Names.{code-of}
 use Rattle.newick.specs.Calls.{table-in, read-as, newick-read, table-read, newick-table}
-use Rattle.newick.specs.RoundTrip.{ReadsBack}
+use Rattle.newick.specs.RoundTrip.{ReadsBack, WrittenIsRead}
 use Rattle.newick.proofs.Shapes.{name-of, rows-in}
 use Rattle.newick.proofs.WholeUnder.{accepted-whole}
 use Rattle.newick.proofs.ShapeText.{shape-node}
@@ -89,7 +89,7 @@ module _ (most modes : ℕ) (table : List ℕ) (small : 3 * most ≤ 65535) (acc
 
   text-is-read : text-read most (newick-text modes table) ≡ got (name-of shape) (rows-in shape) (length (newick-text modes table))
   text-is-read =
-      text-ahead most shape (newick-text modes table) text-spells (omega (arith, all-rows, accepted-parts most modes table accepted .few))
+      text-ahead most (newick-text modes table) shape text-spells (omega (arith, all-rows, accepted-parts most modes table accepted .few))
 
   rows-modes : modes-in (rows-in shape) ≡ modes
   unfolding modes-in
@@ -106,10 +106,13 @@ module _ (most modes : ℕ) (table : List ℕ) (small : 3 * most ≤ 65535) (acc
       rw rows-modes
       (laid-same modes table rows (accepted-parts most modes table accepted .whole) has (λ label h. rw labels (omega (arith, label-once label h))))
 
-  pub read-written : ReadsBack most modes table
+  reads-back : ReadsBack most modes table
   unfolding newick-read newick-table read-as table-read
-  read-written =
+  reads-back =
       record {
         answer = λ room. rw (text-is-read, rows-modes, rows-in-range modes fits shape (shape-is .within), rows-table, accepted);
         table-is = rw text-is-read rows-table;
       }
+
+pub read-written : WrittenIsRead
+read-written = reads-back

@@ -19,7 +19,7 @@ module _ (byte : ℕ) (text : List ℕ) (at : ℕ) (next : Reading) where
   unfolding expected
   expected-stands e = rw (eq-eqb (byte-at text at) byte e)
 
-  pub expected-lacks : (byte-at text at ≡ byte → ⊥) → expected byte text at next ≡ stuck at
+  expected-lacks : (byte-at text at ≡ byte → ⊥) → expected byte text at next ≡ stuck at
   unfolding expected
   expected-lacks e = rw (ne-eqb (byte-at text at) byte e)
 

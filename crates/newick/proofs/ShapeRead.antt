@@ -9,7 +9,8 @@ use lib.Dec.{ltb}
 use lib.ListN.{length, drop}
 use Rattle.fields.specs.Decimal.{decimal}
 use Rattle.newick.specs.Grammar.{Shape, leaf, none, node, spelled, numbers-fit, is-node}
-use Rattle.newick.specs.Reading.{Reading, got, crowded, leaf-name, absent-name, byte-at, child-by, inside, child-read, node-read}
+use Rattle.newick.specs.Reading.{Reading, got, crowded, leaf-name, absent-name, byte-at, child-by, inside}
+use Rattle.newick.specs.code.Within.{child-within, node-within}
 use Rattle.newick.proofs.Shapes.{name-of, rows-in}
 use Rattle.newick.proofs.DigitsStand.{NumberStands, byte-stands}
 use Rattle.newick.proofs.ReadingParts.{expected-got, inside-got, ChildWay, absent-read, leaf-read, leaf-lacks, node-next, child-way}
@@ -119,27 +120,27 @@ module _ (child : List ℕ → ℕ → Reading) (text : List ℕ) (children : Sp
 
 -- A node that was read is one.
 pub node-spelled : (height : ℕ) (text rows : List ℕ) (at name : ℕ) (after : List ℕ) (end : ℕ)
-    → node-read height text rows at ≡ got name after end → (r : ShapeRead text rows at name after end) × (is-node (r .shape) ≡ true)
-unfolding node-read
+    → node-within height text rows at ≡ got name after end → (r : ShapeRead text rows at name after end) × (is-node (r .shape) ≡ true)
+unfolding node-within
 node-spelled zero text rows at name after end e =
     let f = expected-got 40 text at (crowded at) name after end e .1 in
     let z : _≡_ {A = ℕ} 0 1 = cc in
     absurd (omega arith)
 node-spelled (suc height) text rows at name after end e =
-    let children = child-by-spelled (node-read height text) text (λ rows at name after end f. node-spelled height text rows at name after end f .0) in
+    let children = child-by-spelled (node-within height text) text (λ rows at name after end f. node-spelled height text rows at name after end f .0) in
     let r = expected-got 40 text at _ name after end e in
-    go (ltb (length rows) (4 * suc height)) (inside-spelled (child-by (node-read height text) text) text children rows at name after end (r .0)) (r .1)
+    go (ltb (length rows) (4 * suc height)) (inside-spelled (child-by (node-within height text) text) text children rows at name after end (r .0)) (r .1)
   where
     go : (b : Bool)
-        → (inside (child-by (node-read height text) text) text rows (suc at) ≡ got name after end
+        → (inside (child-by (node-within height text) text) text rows (suc at) ≡ got name after end
         → (r : ShapeRead text rows at name after end) × (is-node (r .shape) ≡ true))
-        → cond b (inside (child-by (node-read height text) text) text rows (suc at)) (crowded at) ≡ got name after end
+        → cond b (inside (child-by (node-within height text) text) text rows (suc at)) (crowded at) ≡ got name after end
         → (r : ShapeRead text rows at name after end) × (is-node (r .shape) ≡ true)
     go true spells f = spells f
     go false spells f = let z : _≡_ {A = ℕ} 0 1 = cc in absurd (omega arith)
 
 pub child-spelled : (height : ℕ) (text rows : List ℕ) (at name : ℕ) (after : List ℕ) (end : ℕ)
-    → child-read height text rows at ≡ got name after end → ShapeRead text rows at name after end
-unfolding child-read
+    → child-within height text rows at ≡ got name after end → ShapeRead text rows at name after end
+unfolding child-within
 child-spelled height text rows at name after end e =
-    child-by-spelled (node-read height text) text (λ rows at name after end f. node-spelled height text rows at name after end f .0) rows at name after end e
+    child-by-spelled (node-within height text) text (λ rows at name after end f. node-spelled height text rows at name after end f .0) rows at name after end e

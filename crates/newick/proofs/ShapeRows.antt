@@ -47,7 +47,7 @@ module _ (modes : ℕ) where
 
   module _ (small : 3 * modes ≤ 65535) where
     -- Such names are in range, and coded as they are in a table.
-    pub name-coded : (shape : Shape) → Within shape → (code-of modes (name-of shape) ≡ code-in shape) × (in-range modes (name-of shape) ≡ true)
+    name-coded : (shape : Shape) → Within shape → (code-of modes (name-of shape) ≡ code-in shape) × (in-range modes (name-of shape) ≡ true)
     unfolding Within name-of code-in code-of in-range leaf-name
     name-coded (leaf number) within = (
       rw (le-ltb (65536 + number) 65536 (omega arith), ne-eqb (65536 + number) absent-name (λ e. absurd (omega arith))) (omega arith),
@@ -135,17 +135,8 @@ module _ (modes : ℕ) where
     unfolding rows-in Within
     coded-rows x y z label rest within =
         let code = code-of modes in
-        let row : List ℕ = label ∷ (name-of x ∷ (name-of y ∷ (name-of z ∷ []))) in
         let here : code label ≡ label = own-code label (within .0) in
-        rw (
-          map-append code (rows-in x) (rows-in y ++ (rows-in z ++ row)),
-          map-append code (rows-in y) (rows-in z ++ row),
-          map-append code (rows-in z) row,
-          append-assoc (map code (rows-in x)) (map code (rows-in y) ++ (map code (rows-in z) ++ map code row)) rest,
-          append-assoc (map code (rows-in y)) (map code (rows-in z) ++ map code row) rest,
-          append-assoc (map code (rows-in z)) (map code row) rest,
-          here,
-          name-coded x (within .1) .0,
-          name-coded y (within .2) .0,
-          name-coded z (within .3) .0,
-        )
+        let coded-x = name-coded x (within .1) .0 in
+        let coded-y = name-coded y (within .2) .0 in
+        let coded-z = name-coded z (within .3) .0 in
+        simp (map-append, append-assoc, here, coded-x, coded-y, coded-z)

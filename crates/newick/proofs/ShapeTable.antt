@@ -19,16 +19,10 @@ use Rattle.newick.proofs.ShapeText.{shape-end, shape-node}
 use Rattle.newick.proofs.SpelledRead.{rows-length}
 use Rattle.newick.proofs.ShapeRows.{labels-in, code-in, Within, Stands, coded-rows}
 
-pub length-labels : (x y z : Shape) (label : ℕ)
+length-labels : (x y z : Shape) (label : ℕ)
     → length (labels-in (node x y z label)) ≡ length (labels-in x) + (length (labels-in y) + (length (labels-in z) + 1))
 unfolding labels-in
-length-labels x y z label =
-    omega (
-      arith,
-      length-append (labels-in x) (labels-in y ++ (labels-in z ++ (label ∷ []))),
-      length-append (labels-in y) (labels-in z ++ (label ∷ [])),
-      length-append (labels-in z) (label ∷ []),
-    )
+length-labels x y z label = simp length-append (omega arith)
 
 -- Four numbers a node.
 pub rows-count : (shape : Shape) → length (rows-in shape) ≡ 4 * length (labels-in shape)
@@ -100,10 +94,8 @@ module _ (modes : ℕ) (small : 3 * modes ≤ 65535) where
         row-labels x (within .1) (map (code-of modes) (rows-in y) ++ (map (code-of modes) (rows-in z) ++ last rest)),
         row-labels y (within .2) (map (code-of modes) (rows-in z) ++ last rest),
         row-labels z (within .3) (last rest),
-        append-assoc (labels-in x) (labels-in y ++ (labels-in z ++ (label ∷ []))) (labels-of rest),
-        append-assoc (labels-in y) (labels-in z ++ (label ∷ [])) (labels-of rest),
-        append-assoc (labels-in z) (label ∷ []) (labels-of rest),
       )
+      (simp append-assoc)
 
   -- Going down a table from a shape's code gives the shape, where its nodes stand in the table.
   pub stands-under : (table : List ℕ) (shape : Shape) → Within modes shape → Stands modes table shape → (height : ℕ)

@@ -37,7 +37,7 @@ module _ (modes : ℕ) (table : List ℕ) where
   shape-none height code e h = rw e (rw (lt-ltb code modes h))
 
 -- The text of a node's child.
-abbrev pub child-text : ℕ → List ℕ → ℕ → ℕ → ℕ → List ℕ
+abbrev child-text : ℕ → List ℕ → ℕ → ℕ → ℕ → List ℕ
 child-text modes table height code edge = spelled (shape-under modes table height (child table code edge))
 
 module _ (modes : ℕ) (table : List ℕ) (height code : ℕ) (below : code < modes) where

@@ -56,7 +56,7 @@ module _ (n : NodeAt) where
   abbrev pub from-second : List ℕ
   from-second = 44 ∷ (edge-text 1 ++ from-third)
 
-  abbrev pub from-first : List ℕ
+  abbrev from-first : List ℕ
   from-first = 40 ∷ (edge-text 0 ++ from-second)
 
   abbrev pub NodeLeft : List ℕ → List ℕ → ℕ → Type 0

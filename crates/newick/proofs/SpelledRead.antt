@@ -8,7 +8,8 @@ use borrow.Author.Tests.{lt-ltb, leb-true}
 use lib.ListN.{length, drop, length-append}
 use Rattle.fields.specs.Decimal.{is-digit, decimal}
 use Rattle.newick.specs.Grammar.{Shape, leaf, none, node, spelled, numbers-fit}
-use Rattle.newick.specs.Reading.{Reading, got, leaf-name, follows, byte-at, expected, marked, child-by, named, inside, node-read, child-read}
+use Rattle.newick.specs.Reading.{Reading, got, leaf-name, follows, byte-at, expected, marked, child-by, named, inside}
+use Rattle.newick.specs.code.Within.{node-within, child-within}
 use Rattle.newick.proofs.Shapes.{name-of, rows-in}
 use Rattle.newick.proofs.NodeText.{node-ahead, node-length}
 use Rattle.newick.proofs.ReadingParts.{expected-stands, child-node}
@@ -57,24 +58,13 @@ module _ (text : List ℕ) where
 pub rows-length : (x y z : Shape) (label : ℕ)
     → length (rows-in (node x y z label)) ≡ length (rows-in x) + (length (rows-in y) + (length (rows-in z) + 4))
 unfolding rows-in
-rows-length x y z label =
-    let row = label ∷ (name-of x ∷ (name-of y ∷ (name-of z ∷ []))) in
-    omega (
-      arith,
-      length-append (rows-in x) (rows-in y ++ (rows-in z ++ row)),
-      length-append (rows-in y) (rows-in z ++ row),
-      length-append (rows-in z) row,
-    )
+rows-length x y z label = simp length-append (omega arith)
 
 rows-behind : (rows : List ℕ) (x y z : Shape) (label : ℕ)
     → (((rows ++ rows-in x) ++ rows-in y) ++ rows-in z) ++ (label ∷ (name-of x ∷ (name-of y ∷ (name-of z ∷ []))))
     ≡ rows ++ rows-in (node x y z label)
 unfolding rows-in
-rows-behind rows x y z label =
-    let row = label ∷ (name-of x ∷ (name-of y ∷ (name-of z ∷ []))) in
-    append-assoc ((rows ++ rows-in x) ++ rows-in y) (rows-in z) row
-    ∙ append-assoc (rows ++ rows-in x) (rows-in y) (rows-in z ++ row)
-    ∙ append-assoc rows (rows-in x) (rows-in y ++ (rows-in z ++ row))
+rows-behind rows x y z label = simp append-assoc
 
 -- The numbers of a node's parts fit.
 pub node-fits : (x y z : Shape) (label : ℕ) → numbers-fit (node x y z label) ≡ true
@@ -86,33 +76,29 @@ node-fits x y z label e =
     let r = and-eq-true-iff (numbers-fit z) _ .0 (q .1) in
     (p .0, q .0, r .0, leb-true label 65535 (r .1))
 
--- A mark is no digit.
-pub comma-stops : (rest : List ℕ) → is-digit (byte-at (44 ∷ rest) 0) ≡ false
-unfolding byte-at is-digit
-comma-stops rest = refl
-
-pub close-stops : (rest : List ℕ) → is-digit (byte-at (41 ∷ rest) 0) ≡ false
-unfolding byte-at is-digit
-close-stops rest = refl
+-- A mark ends a number.
+pub mark-stops : (mark : ℕ) (rest : List ℕ) → is-digit mark ≡ false → is-digit (byte-at (mark ∷ rest) 0) ≡ false
+unfolding byte-at
+mark-stops mark rest e = e
 
 module _ (text : List ℕ) where
   -- A node is read where its children are.
   node-opens : (height : ℕ) (rows : List ℕ) (at : ℕ) (rest : List ℕ) → drop at text ≡ 40 ∷ rest → length rows < 4 * suc height
-      → node-read (suc height) text rows at ≡ inside (child-read height text) text rows (suc at)
-  unfolding node-read child-read
+      → node-within (suc height) text rows at ≡ inside (child-within height text) text rows (suc at)
+  unfolding node-within child-within
   node-opens height rows at rest e few = expected-ahead text 40 at _ rest e ∙ rw (lt-ltb (length rows) (4 * suc height) few)
 
   pub child-opens : (height : ℕ) (rows : List ℕ) (at : ℕ) (rest : List ℕ) → drop at text ≡ 40 ∷ rest
-      → child-read height text rows at ≡ node-read height text rows at
-  unfolding child-read
+      → child-within height text rows at ≡ node-within height text rows at
+  unfolding child-within
   child-opens height rows at rest e =
       let here = ahead-byte text at 40 rest e in
-      child-node (node-read height text) text rows at (λ f. absurd (omega arith)) (λ f. absurd (omega arith))
+      child-node (node-within height text) text rows at (λ f. absurd (omega arith)) (λ f. absurd (omega arith))
 
   pub child-ahead : (shape : Shape) → numbers-fit shape ≡ true → (height : ℕ) (rows : List ℕ) (at : ℕ) (rest : List ℕ)
       → drop at text ≡ spelled shape ++ rest → is-digit (byte-at rest 0) ≡ false → length rows + length (rows-in shape) ≤ 4 * height
-      → child-read height text rows at ≡ got (name-of shape) (rows ++ rows-in shape) (at + length (spelled shape))
-  unfolding spelled name-of rows-in child-read child-by numbers-fit
+      → child-within height text rows at ≡ got (name-of shape) (rows ++ rows-in shape) (at + length (spelled shape))
+  unfolding spelled name-of rows-in child-within child-by numbers-fit is-digit
   child-ahead (leaf number) fit height rows at rest e stops few =
       let place : suc at + length (decimal number) ≡ at + suc (length (decimal number)) = omega arith in
       rw (ahead-byte text at 109 (decimal number ++ rest) e)
@@ -145,12 +131,12 @@ module _ (text : List ℕ) where
       let place : suc (suc end-z) + length (decimal label) ≡ at + length (spelled (node x y z label)) = omega (arith, node-length x y z label) in
       child-opens (suc height) rows at (spelled x ++ (44 ∷ after-x)) opens
       ∙ node-opens height rows at (spelled x ++ (44 ∷ after-x)) opens (omega (arith, room))
-      ∙ inside-ahead text (child-read height text) rows start (name-of x) (name-of y) (name-of z) label with-x with-y (with-y ++ rows-in z)
+      ∙ inside-ahead text (child-within height text) rows start (name-of x) (name-of y) (name-of z) label with-x with-y (with-y ++ rows-in z)
       end-x end-y end-z after-x after-y rest
-      (child-ahead x (fits .0) height rows start (44 ∷ after-x) at-x (comma-stops after-x) (omega (arith, room))) behind-x
-      (child-ahead y (fits .1) height with-x (suc end-x) (44 ∷ after-y) at-y (comma-stops after-y) (omega (arith, room, length-append rows (rows-in x))))
+      (child-ahead x (fits .0) height rows start (44 ∷ after-x) at-x (mark-stops 44 after-x refl) (omega (arith, room))) behind-x
+      (child-ahead y (fits .1) height with-x (suc end-x) (44 ∷ after-y) at-y (mark-stops 44 after-y refl) (omega (arith, room, length-append rows (rows-in x))))
       behind-y
-      (child-ahead z (fits .2) height with-y (suc end-y) named-z at-z (close-stops (110 ∷ (decimal label ++ rest)))
+      (child-ahead z (fits .2) height with-y (suc end-y) named-z at-z (mark-stops 41 (110 ∷ (decimal label ++ rest)) refl)
       (omega (arith, room, length-append rows (rows-in x), length-append with-x (rows-in y))))
       behind-z (fits .3) stops
       ∙ joined (rows-behind rows x y z label) place

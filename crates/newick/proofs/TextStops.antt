@@ -1,55 +1,25 @@
--- A text refused by 19: up to the place such a text begins, and with the byte at the place none begins so.
+-- A text refused by 19, or by 1 for a node too many: up to the place such a text begins, and with the byte at the place of a 19 none begins
+-- so.
 use mathlib.Core.Path.{_≡_, refl, ap, _∙_, sym}
-use mathlib.Core.Bool.{Bool, true, false, cond}
-use mathlib.Core.List.{List, [], _++_}
+use mathlib.Core.Bool.{false}
+use mathlib.Core.List.{List, _++_}
 use mathlib.Core.Logic.{inl, inr}
 use Prim.Native.Nat.{ℕ, suc, _+_, _<_, _≤_}
+use native.Mathlib.Nat.{add-zero}
 use native.Mathlib.Omega.{arith}
-use borrow.Author.Tests.{eqb-false, ne-eqb}
-use lib.Dec.{eqb}
 use lib.ListN.{length, take, length-append, List·getD-eq-default, List·getD-append}
 use lib.Seq.{length-take-le, getD-take}
-use Rattle.newick.specs.Reading.{Reading, got, stuck, crowded, follows, byte-at, node-read, text-read}
-use Rattle.newick.specs.Stops.{StopsAt}
+use Rattle.newick.specs.Grammar.{Shape, Spells}
+use Rattle.newick.specs.Reading.{Reading, got, stuck, crowded, byte-at, opened, text-read}
+use Rattle.newick.specs.Stops.{StopsAt, CrowdedAt}
+use Rattle.newick.specs.code.Within.{root-within}
 use Rattle.newick.proofs.Shapes.{name-of, rows-in}
+use Rattle.newick.proofs.Counted.{Counted, root-agrees}
 use Rattle.newick.proofs.DigitsTheSame.{Alike}
-use Rattle.newick.proofs.ReadTheSame.{reach, Same, same-marked, same-node}
-use Rattle.newick.proofs.HigherRead.{higher-read}
-use Rattle.newick.proofs.WholeText.{root-read, text-ahead}
+use Rattle.newick.proofs.ReadTheSame.{reach, crowds, root-same}
+use Rattle.newick.proofs.ReadingStops.{Halts}
+use Rattle.newick.proofs.WholeText.{root-ahead, TextWay, whole, more-behind, cut-short, too-many, text-way}
 use Rattle.newick.proofs.TextBegun.{TextBegun, root-short, root-whole}
-
--- Reading a text stops before it is whole, or behind the `;` where more stands.
-data TextStuck (most : ℕ) (text : List ℕ) (place : ℕ) : Type 0 where
-  cut-short : root-read most text ≡ stuck place → TextStuck most text place
-  more-behind : (name : ℕ) (rows : List ℕ) → root-read most text ≡ got name rows place → (place ≡ length text → ⊥) → TextStuck most text place
-
-module _ (most : ℕ) (text : List ℕ) (place : ℕ) where
-  text-stuck : text-read most text ≡ stuck place → TextStuck most text place
-  unfolding text-read follows
-  text-stuck e = go (root-read most text) refl e
-    where
-      go : (r : Reading) → root-read most text ≡ r
-          → follows r (λ name rows at. cond (eqb at (length text)) (got name rows at) (stuck at)) ≡ stuck place → TextStuck most text place
-      go (got name rows at) m f = whether (eqb at (length text)) refl f
-        where
-          whether : (b : Bool) → eqb at (length text) ≡ b → cond b (got name rows at) (stuck at) ≡ stuck place → TextStuck most text place
-          whether true q g = let z : _≡_ {A = ℕ} 0 1 = cc in absurd (omega arith)
-          whether false q g =
-              let p : at ≡ place = cc in
-              more-behind name rows (rw p at m) (rw p at (eqb-false at (length text) q))
-      go (stuck p) m f = cut-short (m ∙ f)
-      go (crowded p) m f = let z : _≡_ {A = ℕ} 0 1 = cc in absurd (omega arith)
-
-  stuck-text : TextStuck most text place → text-read most text ≡ stuck place
-  unfolding text-read follows
-  stuck-text (cut-short e) = rw e
-  stuck-text (more-behind name rows e other) = rw e (rw (ne-eqb place (length text) other) refl)
-
--- What the beginning of a text came to.
-root-same : (most : ℕ) (text other : List ℕ) (place : ℕ) → Alike text other place → Same text place 0 (root-read most text) (root-read most other)
-root-same most text other place alike =
-    same-marked text other place alike 59 0 (node-read most text [] 0) (node-read most other [] 0) (omega arith)
-    (same-node text other place alike most [] 0)
 
 module _ (text : List ℕ) (place : ℕ) where
   -- A text is like its own beginning up to where that ends, and like every text that begins so.
@@ -69,67 +39,79 @@ module _ (text : List ℕ) (place : ℕ) where
       as-before at low =
           List·getD-append (take (suc place) text) beyond 0 at (omega (arith, length-take-le (suc place) text h)) ∙ getD-take (suc place) text at 0 low
 
+-- What reading the root came to.
+module _ (most : ℕ) (text : List ℕ) (r : Reading) (e : root-within most text ≡ r) where
+  reached : reach r ≤ length text
+  reached = rw e at (root-same text text 0 0 (record { before = λ at h. refl; there = inl refl }) most .within (omega arith))
+
+  front-size : length (take (reach r) text) ≡ reach r
+  front-size = length-take-le (reach r) text reached
+
+  -- The text up to there comes to the same.
+  front-read : root-within most (take (reach r) text) ≡ r
+  front-read =
+      let s = root-same text (take (reach r) text) (reach r) 0 (front-alike text (reach r) reached) most in
+      rw (add-zero most) at (s .same (rw e (omega arith)) (λ c. refl)) ∙ e
+
+  front-begun : Halts (take (reach r) text) r → (b : TextBegun (take (reach r) text)) × (0 < length (b .rest))
+  front-begun h = root-short most (take (reach r) text) (rw front-read h)
+
+  -- So does every text that goes on so, and where more nodes may stand too: none that does is whole.
+  none-further : crowds r ≡ false → reach r < length text → (other : Shape) (beyond : List ℕ) → Spells other (take (suc (reach r)) text ++ beyond) → ⊥
+  unfolding reach
+  none-further calm h other beyond spells =
+      let begun : List ℕ = take (suc (reach r)) text ++ beyond in
+      let extra = length (rows-in other) in
+      let s = root-same text begun (reach r) extra (begun-alike text (reach r) h beyond) most in
+      let again = s .same (rw e (omega arith)) (λ c. let z : _≡_ {A = ℕ} 0 1 = cc in absurd (omega arith)) in
+      let read : got (name-of other) (rows-in other) (length begun) ≡ r =
+      sym (root-ahead (most + extra) other begun spells (omega arith)) ∙ again ∙ e in
+      omega (arith, ap reach read, length-append (take (suc (reach r)) text) beyond, length-take-le (suc (reach r)) text h)
+
+  stops : crowds r ≡ false → (b : TextBegun (take (reach r) text)) → (reach r ≡ length text → 0 < length (b .rest)) → opened text (reach r) ≤ most
+      → StopsAt most text (reach r)
+  stops calm b more few =
+      record {
+        within = reached;
+        shape = b .shape;
+        rest = b .rest;
+        begins = b .spells;
+        more = more;
+        no-further = none-further calm;
+        few = few;
+      }
+
 module _ (most : ℕ) (text : List ℕ) (place : ℕ) where
-  stuck-within : TextStuck most text place → place ≤ length text
-  unfolding reach
-  stuck-within s = go s
+  pub text-stops : text-read most text ≡ stuck place → StopsAt most text place
+  unfolding reach crowds Halts Counted
+  text-stops e = go (text-way most text)
     where
-      within : reach (root-read most text) ≤ length text
-      within = root-same most text text place (record { before = λ at h. refl; there = inl refl }) .within (omega arith)
+      go : TextWay most text → StopsAt most text place
+      go (whole name rows root read) = let z : _≡_ {A = ℕ} 0 1 = cc in absurd (omega arith)
+      go (more-behind name rows at root other read) =
+          let here : at ≡ place = cc in
+          let t = rw root at (root-agrees most text .counted) in
+          let size = front-size most text (got name rows at) root in
+          let front = front-read most text (got name rows at) root ∙ ap (λ end. got name rows end) (sym size) in
+          rw (← here)
+          (stops most text (got name rows at) root refl (root-whole most (take at text) name rows front) (λ p. absurd (other p))
+          (omega (arith, t .all, t .few)))
+      go (cut-short at root read) =
+          let here : at ≡ place = cc in
+          let b = front-begun most text (stuck at) root (sym (front-size most text (stuck at) root)) in
+          rw (← here) (stops most text (stuck at) root refl (b .0) (λ p. b .1) (rw root at (root-agrees most text .counted)))
+      go (too-many at root read) = let z : _≡_ {A = ℕ} 0 1 = cc in absurd (omega arith)
 
-      go : TextStuck most text place → place ≤ length text
-      go (cut-short e) = rw e at within
-      go (more-behind name rows e other) = rw e at within
-
-  -- Its beginning is stuck there too, or whole.
-  front-begun : (s : TextStuck most text place) → (b : TextBegun (take place text)) × (place ≡ length text → 0 < length (b .rest))
-  unfolding reach
-  front-begun s =
-      let h = stuck-within s in
-      go s (root-same most text (take place text) place (front-alike text place h) .same) (length-take-le place text h)
+  pub text-crowded : text-read most text ≡ crowded place → CrowdedAt most text place
+  unfolding reach crowds Halts Counted byte-at
+  text-crowded e = go (text-way most text)
     where
-      go : TextStuck most text place → (reach (root-read most text) ≤ place → root-read most (take place text) ≡ root-read most text)
-          → length (take place text) ≡ place → (b : TextBegun (take place text)) × (place ≡ length text → 0 < length (b .rest))
-      go (cut-short e) same size =
-          let b = root-short most (take place text) (same (rw e (omega arith)) ∙ e ∙ ap stuck (sym size)) in
-          (b .0, λ p. b .1)
-      go (more-behind name rows e other) same size =
-          (root-whole most (take place text) name rows (same (rw e (omega arith)) ∙ e ∙ ap (λ end. got name rows end) (sym size)), λ p. absurd (other p))
-
-  -- Any text that goes on so is stuck there.
-  stuck-again : TextStuck most text place → place < length text → (beyond : List ℕ) → text-read most (take (suc place) text ++ beyond) ≡ stuck place
-  unfolding reach
-  stuck-again s h beyond =
-      stuck-text most other place (go s (root-same most text other place (begun-alike text place h beyond) .same))
-    where
-      other : List ℕ
-      other = take (suc place) text ++ beyond
-
-      go : TextStuck most text place → (reach (root-read most text) ≤ place → root-read most other ≡ root-read most text) → TextStuck most other place
-      go (cut-short e) same = cut-short (same (rw e (omega arith)) ∙ e)
-      go (more-behind name rows e more) same =
-          more-behind name rows (same (rw e (omega arith)) ∙ e)
-          (λ p. absurd (omega (arith, length-append (take (suc place) text) beyond, length-take-le (suc place) text h)))
-
-pub text-stops : (most : ℕ) (text : List ℕ) (place : ℕ) → text-read most text ≡ stuck place → StopsAt text place
-text-stops most text place e =
-    let s = text-stuck most text place e in
-    let b = front-begun most text place s in
-    record {
-      within = stuck-within most text place s;
-      shape = b .0 .shape;
-      rest = b .0 .rest;
-      begins = b .0 .spells;
-      more = b .1;
-      no-further =
-          λ h other beyond spells.
-          let begun = take (suc place) text ++ beyond in
-          let stops = stuck-again most text place s h beyond in
-          let enough = most + length (rows-in other) in
-          let few : (p : ℕ) → text-read most begun ≡ crowded p → ⊥ =
-          λ p f. let g : stuck place ≡ crowded p = sym stops ∙ f in let z : _≡_ {A = ℕ} 0 1 = cc in omega arith in
-          let g : got (name-of other) (rows-in other) (length begun) ≡ stuck place =
-          sym (text-ahead enough other begun spells (omega arith)) ∙ higher-read begun most enough (omega arith) few ∙ stops in
-          let z : _≡_ {A = ℕ} 0 1 = cc in
-          omega arith;
-    }
+      go : TextWay most text → CrowdedAt most text place
+      go (whole name rows root read) = let z : _≡_ {A = ℕ} 0 1 = cc in absurd (omega arith)
+      go (more-behind name rows at root other read) = let z : _≡_ {A = ℕ} 0 1 = cc in absurd (omega arith)
+      go (cut-short at root read) = let z : _≡_ {A = ℕ} 0 1 = cc in absurd (omega arith)
+      go (too-many at root read) =
+          let here : at ≡ place = cc in
+          let b = front-begun most text (crowded at) root (sym (front-size most text (crowded at) root)) in
+          let t = rw root at (root-agrees most text .counted) in
+          rw (← here) (record { opens = t .0; shape = b .0 .shape; rest = b .0 .rest; begins = b .0 .spells; full = t .1 })

@@ -32,7 +32,7 @@ use Rattle.newick.specs.Writing.{shape-under, newick-text}
 use Rattle.newick.specs.Reading.{Reading, got, stuck, crowded, text-read}
 use Rattle.newick.specs.Names.{in-range, code-of}
 use Rattle.newick.specs.Calls.{table-in, taken-as, read-as, newick-read, table-read, newick-table}
-use Rattle.newick.specs.RoundTrip.{IsWritten}
+use Rattle.newick.specs.RoundTrip.{ReadIsWritten}
 use Rattle.newick.proofs.Shapes.{name-of, rows-in}
 use Rattle.newick.proofs.ShapeRows.{labels-in, code-in, Within, Stands, all-within}
 use Rattle.newick.proofs.ShapeTable.{rows-count, labels-below, rows-stand, row-labels, stands-under}
@@ -173,17 +173,16 @@ module _ (most modes : ℕ) (shape : Shape) (small : 3 * modes ≤ 65535) (withi
       ∙ sym (labels-met modes table (suc modes) (code-in modes shape) root (says .inside))
       ∙ rw down (one-row root (says .inside)))
 
-  pub shape-again : shape-under modes table (suc modes) (root-of modes table) ≡ shape
+  shape-again : shape-under modes table (suc modes) (root-of modes table) ≡ shape
   shape-again = rw (← root-is) down
 
 table-told : (modes : ℕ) (rows others : List ℕ) → rows ≡ others → modes-in rows ≡ modes → table-in rows ≡ laid modes (map (code-of modes) others)
 unfolding table-in
 table-told modes rows others e f = rw (f, e)
 
-pub written-read : (most : ℕ) → 3 * most ≤ 65535 → (text : List ℕ) (room modes : ℕ) → newick-read most text room ≡ Read modes
-    → IsWritten most text room modes
+pub written-read : ReadIsWritten
 unfolding newick-table table-read newick-text modes-in
-written-read most small text room modes e =
+written-read most text room modes small e =
     let done = read-done most text room modes e in
     let read = text-spells most text (done .name) (done .rows) (done .at) (done .reading) in
     let shape = read .shape in

@@ -8,7 +8,7 @@ use lib.ListN.{length}
 use Rattle.lists.specs.Members.{every}
 use Rattle.lists.specs.Written.{written-at}
 use Rattle.refusal.specs.declared.Refusal.the-variants.{Room, NotOneTree, NewickForm, TooManyNodes}
-use Rattle.refusal.specs.Numbers.{numberOf, placeOf}
+use Rattle.refusal.specs.Numbers.{refused-numbers, done-numbers}
 use Rattle.tree.specs.declared.TreeChecked.{TreeChecked}
 use Rattle.tree.specs.declared.TreeChecked.the-variants.{Accepted, Refused}
 use Rattle.tree.specs.Check.{tree-checked}
@@ -21,14 +21,14 @@ use Rattle.newick.specs.Writing.{newick-text}
 use Rattle.newick.specs.Reading.{Reading, got, stuck, crowded, text-read}
 use Rattle.newick.specs.Names.{in-range, code-of}
 
--- "Each returns its number and a place, zeros elsewhere": refusal, place, and the bytes written or the modes read.
-abbrev pub written-numbers : NewickWritten → List ℕ
-written-numbers (Written count) = 0 ∷ (0 ∷ (count ∷ []))
-written-numbers (Unwritten refusal) = numberOf refusal ∷ (placeOf refusal ∷ (0 ∷ []))
+-- The numbers of an answer: refusal, place, and the bytes written or the modes read.
+unfoldable pub written-numbers : NewickWritten → List ℕ
+written-numbers (Written count) = done-numbers (count ∷ [])
+written-numbers (Unwritten refusal) = refused-numbers 1 refusal
 
-abbrev pub read-numbers : NewickRead → List ℕ
-read-numbers (Read modes) = 0 ∷ (0 ∷ (modes ∷ []))
-read-numbers (Unread refusal) = numberOf refusal ∷ (placeOf refusal ∷ (0 ∷ []))
+unfoldable pub read-numbers : NewickRead → List ℕ
+read-numbers (Read modes) = done-numbers (modes ∷ [])
+read-numbers (Unread refusal) = refused-numbers 1 refusal
 
 -- Writing: the check's refusal, then 5.
 unfoldable pub written-as : TreeChecked → List ℕ → ℕ → NewickWritten

@@ -2,9 +2,10 @@
 -- child `e`."
 use mathlib.Core.Path.{_≡_}
 use mathlib.Core.Bool.{Bool, true, false, _&&_}
-use mathlib.Core.List.{List, [], _∷_, _++_}
+use mathlib.Core.List.{List, _++_}
 use Prim.Native.Nat.{ℕ}
 use lib.Dec.{leb}
+use Rattle.fields.specs.Texts.{spelt}
 use Rattle.fields.specs.Decimal.{decimal}
 
 -- What a text spells: a leaf by its number, the absent child, or a node's X, Y and Z child and its label.
@@ -13,11 +14,12 @@ pub data Shape : Type 0 where
   none : Shape
   node : Shape → Shape → Shape → ℕ → Shape
 
--- The text of a child; `(`, `,`, `)`, `n`, `m` and `e` are 40, 44, 41, 110, 109 and 101.
+-- The text of a child.
 unfoldable pub spelled : Shape → List ℕ
-spelled (leaf number) = 109 ∷ decimal number
-spelled none = 101 ∷ []
-spelled (node x y z label) = 40 ∷ (spelled x ++ (44 ∷ (spelled y ++ (44 ∷ (spelled z ++ (41 ∷ (110 ∷ decimal label)))))))
+spelled (leaf number) = spelt "m" ++ decimal number
+spelled none = spelt "e"
+spelled (node x y z label) =
+    spelt "(" ++ (spelled x ++ (spelt "," ++ (spelled y ++ (spelt "," ++ (spelled z ++ (spelt ")n" ++ decimal label))))))
 
 -- "numbers as in the journal": at most 65535.
 unfoldable pub numbers-fit : Shape → Bool
@@ -34,4 +36,4 @@ is-node (node x y z label) = true
 pub record Spells (shape : Shape) (text : List ℕ) : Type 0 where
   pub root : is-node shape ≡ true
   pub numbers : numbers-fit shape ≡ true
-  pub text-is : text ≡ spelled shape ++ (59 ∷ [])
+  pub text-is : text ≡ spelled shape ++ spelt ";"

@@ -6,5 +6,4 @@ pub mod Names
 pub mod Calls
 pub mod RoundTrip
 pub mod Stops
-pub mod Crowded
 pub mod code

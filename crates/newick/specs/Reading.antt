@@ -1,9 +1,11 @@
 -- "Only this spelling is read": a text read from a place on, and where no such text can go on.
 use mathlib.Core.Bool.{cond}
 use mathlib.Core.List.{List, [], _∷_, _++_}
-use Prim.Native.Nat.{ℕ, zero, suc, _+_, _*_}
+use Prim.Native.Char.{code}
+use Prim.Native.Nat.{ℕ, zero, suc, _+_}
 use lib.Dec.{eqb, ltb}
-use lib.ListN.{length, getD}
+use lib.ListN.{length, getD, take}
+use Rattle.lists.specs.Counting.{occurrences}
 use Rattle.fields.specs.Decimal.{is-number, value}
 
 -- What reading a child came to: its name, the nodes closed so far and the place behind it; or the place of the first byte that no such
@@ -57,35 +59,39 @@ numbered text at next =
 -- "a child writes a leaf or goes on to its node".
 unfoldable pub child-by : (List ℕ → ℕ → Reading) → List ℕ → List ℕ → ℕ → Reading
 child-by on-to-node text rows at =
-    cond (eqb (byte-at text at) 101) (got absent-name rows (suc at))
-    (cond (eqb (byte-at text at) 109) (numbered text (suc at) (λ number end. got (leaf-name number) rows end))
+    cond (eqb (byte-at text at) (code "e")) (got absent-name rows (suc at))
+    (cond (eqb (byte-at text at) (code "m")) (numbered text (suc at) (λ number end. got (leaf-name number) rows end))
     (on-to-node rows at))
 
 -- A node's name behind its children closes it.
 unfoldable pub named : List ℕ → List ℕ → ℕ → ℕ → ℕ → ℕ → Reading
 named text rows at x y z =
-    expected 110 text at
+    expected (code "n") text at
     (numbered text (suc at) (λ label end. got label (rows ++ (label ∷ (x ∷ (y ∷ (z ∷ []))))) end))
 
 -- "three children in parentheses", behind the `(`.
 unfoldable pub inside : (List ℕ → ℕ → Reading) → List ℕ → List ℕ → ℕ → Reading
 inside child text rows at =
-    follows (marked 44 text (child rows at))
-    (λ x rows at. follows (marked 44 text (child rows at)) (λ y rows at. follows (marked 41 text (child rows at)) (λ z rows at. named text rows at x y z)))
+    follows (marked (code ",") text (child rows at))
+    (λ x rows at.
+    follows (marked (code ",") text (child rows at))
+    (λ y rows at.
+    follows (marked (code ")") text (child rows at))
+    (λ z rows at. named text rows at x y z)))
 
--- A node, where `height` is how many nodes the text may have less those that stand around this one: it is one too many where as many
--- are closed already.
-unfoldable pub node-read : ℕ → List ℕ → List ℕ → ℕ → Reading
-node-read zero text rows at = expected 40 text at (crowded at)
-node-read (suc height) text rows at =
-    expected 40 text at
-    (cond (ltb (length rows) (4 * suc height)) (inside (child-by (node-read height text) text) text rows (suc at)) (crowded at))
+-- How many `(` stand before a place.
+unfoldable pub opened : List ℕ → ℕ → ℕ
+opened text at = occurrences (code "(") (take at text)
 
-unfoldable pub child-read : ℕ → List ℕ → List ℕ → ℕ → Reading
-child-read height text rows at = child-by (node-read height text) text rows at
+-- A node: one too many where as many `(` stand before its own as a text may have nodes. `depth` nodes may stand one within the other.
+unfoldable pub node-read : ℕ → ℕ → List ℕ → List ℕ → ℕ → Reading
+node-read most zero text rows at = expected (code "(") text at (crowded at)
+node-read most (suc depth) text rows at =
+    expected (code "(") text at
+    (cond (ltb (opened text at) most) (inside (child-by (node-read most depth text) text) text rows (suc at)) (crowded at))
 
--- A whole text of at most so many nodes: a node, `;` behind it, and nothing behind that.
+-- A whole text of at most so many nodes, and so no deeper: a node, `;` behind it, and nothing behind that.
 unfoldable pub text-read : ℕ → List ℕ → Reading
 text-read most text =
-    follows (marked 59 text (node-read most text [] 0))
+    follows (marked (code ";") text (node-read most most text [] 0))
     (λ name rows at. cond (eqb at (length text)) (got name rows at) (stuck at))

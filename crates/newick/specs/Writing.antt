@@ -1,11 +1,12 @@
 -- "Write an accepted tree as Newick text": the tree under a table's root, spelled.
 use mathlib.Core.Bool.{cond}
-use mathlib.Core.List.{List, [], _∷_, _++_, map}
+use mathlib.Core.List.{List, _++_, map}
 use Prim.Native.Nat.{ℕ, zero, suc, _+_, _-_, _*_}
 use lib.Dec.{eqb, ltb}
 use lib.ListN.{length}
 use Rattle.lists.specs.Counting.{sum}
 use Rattle.entities.specs.Codes.{absent}
+use Rattle.fields.specs.Texts.{spelt}
 use Rattle.fields.specs.Decimal.{decimal}
 use Rattle.tree.specs.Table.{nodes, child}
 use Rattle.tree.specs.OneTree.{root-of}
@@ -27,7 +28,7 @@ shape-under modes table (suc nodes) code =
 
 -- The text of a table.
 unfoldable pub newick-text : ℕ → List ℕ → List ℕ
-newick-text modes table = spelled (shape-under modes table (suc modes) (root-of modes table)) ++ (59 ∷ [])
+newick-text modes table = spelled (shape-under modes table (suc modes) (root-of modes table)) ++ spelt ";"
 
 -- "the text's exact length", which each accepted tree of n nodes has: `(`, `,`, `,`, `)` and a name for each node, a name for each of its
 -- two leaves, `e` and `;`.

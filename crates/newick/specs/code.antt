@@ -1,2 +1,3 @@
--- What the functions of the reader tell one another: no promise needs it.
+-- What the functions of the reader tell one another, and how they count nodes: no promise needs it.
 pub mod Promises
+pub mod Within

@@ -4,11 +4,13 @@ ghost use mathlib.Core.List.{List, [], _∷_};
 ghost use Prim.Native.Nat.{ℕ, _+_, _*_, _≤_, _<_};
 ghost use lib.ListN.{length, take};
 ghost use Rattle.lists.specs.Written.{«written-at»};
+ghost use Rattle.refusal.specs.Numbers.{Tells};
 ghost use Rattle.entities.specs.Limits.{«most-modes»};
 ghost use Rattle.tree.specs.declared.TreeChecked.«the-variants».{Accepted};
-ghost use Rattle.newick.specs.Reading.{got, numbered, «leaf-name», named, «child-read», «node-read», «text-read», marked as «marked-by»};
-ghost use Rattle.newick.specs.Calls.{«newick-read», «newick-table», «table-after», «read-as», «table-in», «taken-as»};
+ghost use Rattle.newick.specs.Reading.{got, numbered, «leaf-name», named, «text-read», marked as «marked-by»};
+ghost use Rattle.newick.specs.Calls.{«read-numbers», «newick-read», «newick-table», «table-after», «read-as», «table-in», «taken-as»};
 ghost use Rattle.newick.specs.code.Promises.{meant, «end-of», «closed-of», Reads};
+ghost use Rattle.newick.specs.code.Within.{«child-within», «node-within»};
 use crate::digits;
 use crate::names;
 use refusal::Refusal;
@@ -106,7 +108,7 @@ fn close_node(
 fn read_child(text: &[u8], at: usize, height: usize, rows: &mut [u32], closed: usize) -> Part
     requires { ⌜ at ≤ length (now text) ⌝ }
     requires { ⌜ (closed ≤ height) × (4 * height ≤ length (now rows)) ⌝ }
-    ensures { λ r. ⌜ Reads (child-read height (now (text .entry)) (take (4 * closed) (now (rows .entry))) at) (now (text .entry)) (now (rows .exit)) height r ⌝ }
+    ensures { λ r. ⌜ Reads (child-within height (now (text .entry)) (take (4 * closed) (now (rows .entry))) at) (now (text .entry)) (now (rows .exit)) height r ⌝ }
 {
     if digits::stands(text, at, b'e') {
         return Part::Child(ABSENT_NAME, at + 1, closed);
@@ -121,7 +123,7 @@ fn read_child(text: &[u8], at: usize, height: usize, rows: &mut [u32], closed: u
 fn read_node(text: &[u8], at: usize, height: usize, rows: &mut [u32], closed: usize) -> Part
     requires { ⌜ at ≤ length (now text) ⌝ }
     requires { ⌜ (closed ≤ height) × (4 * height ≤ length (now rows)) ⌝ }
-    ensures { λ r. ⌜ Reads (node-read height (now (text .entry)) (take (4 * closed) (now (rows .entry))) at) (now (text .entry)) (now (rows .exit)) height r ⌝ }
+    ensures { λ r. ⌜ Reads (node-within height (now (text .entry)) (take (4 * closed) (now (rows .entry))) at) (now (text .entry)) (now (rows .exit)) height r ⌝ }
 {
     if !digits::stands(text, at, b'(') {
         return Part::Stuck(at);
@@ -195,7 +197,7 @@ fn take_tree(modes: usize, rows: &[u32], table: &mut [u16]) -> NewickRead
 
 // The tree table that a Newick text spells, or why the text is refused.
 pub fn read_newick(text: &[u8], table: &mut [u16]) -> NewickRead
-    ensures { λ r. ⌜ r ≡ newick-read most-modes (now (text .entry)) (length (now (table .entry))) ⌝ }
+    ensures { λ r. ⌜ Tells read-numbers (newick-read most-modes (now (text .entry)) (length (now (table .entry)))) r ⌝ }
     ensures { λ r. ⌜ now (table .exit) ≡ table-after r (newick-table most-modes (now (text .entry))) (now (table .entry)) ⌝ }
 {
     let mut rows = [0u32; 1024];

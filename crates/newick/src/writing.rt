@@ -4,13 +4,14 @@ ghost use mathlib.Core.List.{_∷_};
 ghost use Prim.Native.Nat.{suc, _+_, _*_, _≤_, _<_};
 ghost use lib.ListN.{length};
 ghost use Rattle.lists.specs.Written.{«written-at»};
+ghost use Rattle.refusal.specs.Numbers.{Tells};
 ghost use Rattle.entities.specs.Limits.{«most-modes»};
 ghost use Rattle.fields.specs.Decimal.{decimal};
 ghost use Rattle.tree.specs.declared.TreeChecked.«the-variants».{Accepted};
 ghost use Rattle.tree.specs.Check.{«tree-checked»};
 ghost use Rattle.newick.specs.Grammar.{spelled};
 ghost use Rattle.newick.specs.Writing.{«end-shape», «shape-under», «newick-text»};
-ghost use Rattle.newick.specs.Calls.{«newick-written», «written-as», «text-after»};
+ghost use Rattle.newick.specs.Calls.{«written-numbers», «newick-written», «written-as», «text-after»};
 use crate::length;
 use entities::codes;
 use fields::decimal;
@@ -119,7 +120,7 @@ fn put_tree(text: &mut [u8], modes: usize, tree: &[u16]) -> NewickWritten
 
 // The tree as Newick text, or why it is refused.
 pub fn write_newick(modes: usize, tree: &[u16], text: &mut [u8]) -> NewickWritten
-    ensures { λ r. ⌜ r ≡ newick-written most-modes modes (now (tree .entry)) (length (now (text .entry))) ⌝ }
+    ensures { λ r. ⌜ Tells written-numbers (newick-written most-modes modes (now (tree .entry)) (length (now (text .entry)))) r ⌝ }
     ensures { λ r. ⌜ now (text .exit) ≡ text-after r (newick-text modes (now (tree .entry))) (now (text .entry)) ⌝ }
 {
     match tree::check_tree(modes, tree) {

@@ -11,7 +11,8 @@ use borrow.Fn.PlainCycle.{Measures, is, falls, and}
 use lib.ListN.{length, take}
 use lib.Seq.{length-take-le}
 use Rattle.newick.specs.declared.reading.Part.{Part}
-use Rattle.newick.specs.Reading.{Reading, follows, marked, named, node-read, child-read}
+use Rattle.newick.specs.Reading.{Reading, follows, marked, named}
+use Rattle.newick.specs.code.Within.{node-within, child-within}
 use Rattle.newick.specs.code.Promises.{meant, end-of, closed-of}
 use Rattle.newick.proofs.PartsRead.{child-absent, child-leaf, child-node, node-missing, node-crowded, node-opens, after-first, after-second, Onward, onward, stops-there, goes-behind}
 use Rattle.newick.proofs.reading.read_child.Reads as read-child
@@ -220,14 +221,14 @@ module _ (t : ℕ) where
   below s = s .args .height - 1
 
   abbrev whole : Entered → Reading
-  whole s = node-read (s .args .height) (text s) (rows s) (s .args .at)
+  whole s = node-within (s .args .height) (text s) (rows s) (s .args .at)
 
   rows-size : (s : Entered) → length (rows s) ≡ 4 * s .args .closed
   rows-size s = length-take-le (4 * s .args .closed) (s .args .rows .now) (omega (arith, s .pre .1 .1))
 
   opens : (c : Opened)
       → let s = c .before .before .before .before .before in
-      whole s ≡ follows (marked 44 (text s) (child-read (below s) (text s) (rows s) (s .args .at + 1))) (after-first (below s) (text s))
+      whole s ≡ follows (marked 44 (text s) (child-within (below s) (text s) (rows s) (s .args .at + 1))) (after-first (below s) (text s))
   opens c =
       let s = c .before .before .before .before .before in
       node-opens (text s) (rows s) (s .args .at) (s .args .height) (sym (c .before .before .stands .ensures .0) ∙ not-false _ (c .before .if1 .left))

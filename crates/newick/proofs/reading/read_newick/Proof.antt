@@ -6,8 +6,9 @@ use native.Mathlib.Omega.{arith}
 use borrow.Author.Needs.{needs}
 use lib.ListN.{length, take}
 use lib.Seq.{length-take-le}
+use Rattle.refusal.proofs.Told.{tells}
 use Rattle.newick.specs.Reading.{got, text-read}
-use Rattle.newick.specs.Calls.{table-after}
+use Rattle.newick.specs.Calls.{read-numbers, table-after}
 use Rattle.newick.proofs.PartsRead.{part-child, part-stuck, part-crowded}
 use Rattle.newick.proofs.TreeTaken.{says-stuck, says-crowded, says-read, table-said}
 use Rattle.newick.proofs.reading.read_newick.Statement.{statement}
@@ -66,7 +67,7 @@ returns c =
     let s = c .before .before .before .before .before .before .before .before in
     let read = c .before .before .before .before .read-text in
     let told = c .before .place .given in
-    (says-stuck 256 (s .args .text .now) (length (s .args .table .now)) (told .0 .0) (part-stuck (read .ensures) (told .1)), refl)
+    (tells (says-stuck 256 (s .args .text .now) (length (s .args .table .now)) (told .0 .0) (part-stuck (read .ensures) (told .1))), refl)
 
 returns-2 : tie.Need-returns-2
 unfolding table-after
@@ -74,7 +75,7 @@ returns-2 c =
     let s = c .before .before .before .before .before .before .before .before in
     let read = c .before .before .before .before .read-text in
     let told = c .before .place2 .given in
-    (says-crowded 256 (s .args .text .now) (length (s .args .table .now)) (told .0 .0) (part-crowded (read .ensures) (told .1)), refl)
+    (tells (says-crowded 256 (s .args .text .now) (length (s .args .table .now)) (told .0 .0) (part-crowded (read .ensures) (told .1))), refl)
 
 same-length : tie.Need-same-length
 same-length c = search needs
@@ -87,7 +88,7 @@ returns-3 c =
     let rows = take (4 * count m) (numbers m) in
     let was = nodes m .0 in
     let call = c .before .before .take-tree in (
-      call .ensures .0 (told .0) (told .1 .0) ∙ says-read 256 (text m) (told .0) rows (told .1 .0) was (length (s .args .table .now)),
+      tells (call .ensures .0 (told .0) (told .1 .0) ∙ says-read 256 (text m) (told .0) rows (told .1 .0) was (length (s .args .table .now))),
       call .ensures .1 ∙ ap (λ t. table-after (call .result) t (s .args .table .now)) (table-said 256 (text m) (told .0) rows (told .1 .0) was),
     )
 

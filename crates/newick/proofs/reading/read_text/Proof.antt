@@ -1,29 +1,23 @@
 -- Behind the node stands `;`, and behind that the text ends or what is read is stuck.
-use mathlib.Core.Path.{refl, sym, _∙_}
-use mathlib.Core.Bool.{cond}
-use mathlib.Core.List.{List}
-use Prim.Native.Nat.{ℕ}
+use mathlib.Core.Path.{sym, _∙_}
 use native.Mathlib.Omega.{arith}
 use borrow.Author.Needs.{needs}
 use borrow.Author.Tests.{eq-eqb, ne-eqb}
-use lib.Dec.{eqb}
 use lib.ListN.{length}
-use Rattle.newick.specs.Reading.{Reading, got, stuck, text-read}
+use Rattle.newick.specs.Reading.{text-read}
 use Rattle.newick.specs.code.Promises.{meant, end-of, closed-of}
 use Rattle.newick.proofs.PartsRead.{Onward, onward, stops-there, goes-behind}
+use Rattle.newick.proofs.WholeText.{ends, text-by-root}
 use Rattle.newick.proofs.reading.read_text.Statement.{statement}
 use Rattle.newick.proofs.reading.read_text.Tie as tie
-
-abbrev last : List ℕ → ℕ → List ℕ → ℕ → Reading
-last text name rows at = cond (eqb at (length text)) (got name rows at) (stuck at)
 
 -- Behind the `;`, what is to follow comes to the whole.
 behind : (c : tie.After-marked)
     → let s = c .before .before .before .before .before .before .before in
     Onward (text-read 256 (s .args .text .now)) (s .args .text .now) (c .before .before .before .read-node .last .1 .1 .1 .0) 256 (c .marked .result)
-    (last (s .args .text .now))
-unfolding text-read
-behind c = onward 59 refl (c .before .before .before .read-node .ensures) (c .marked .ensures)
+    (ends (s .args .text .now))
+behind c =
+    onward 59 (text-by-root 256 (c .before .before .before .before .before .before .before .args .text .now)) (c .before .before .before .read-node .ensures) (c .marked .ensures)
 
 read-node-requires : tie.Need-read-node-requires
 read-node-requires c κs = search needs

@@ -1,9 +1,10 @@
 -- Each return is one arm of the definition, by what the tree's check answered.
 use mathlib.Core.Path.{_≡_, refl, _∙_, sym}
 use borrow.Author.Needs.{needs}
+use Rattle.refusal.proofs.Told.{tells}
 use Rattle.tree.specs.declared.TreeChecked.the-variants.{Accepted}
 use Rattle.tree.specs.Check.{tree-checked}
-use Rattle.newick.specs.Calls.{newick-written, written-as, text-after}
+use Rattle.newick.specs.Calls.{written-numbers, newick-written, written-as, text-after}
 use Rattle.newick.proofs.writing.write_newick.Statement.{statement}
 use Rattle.newick.proofs.writing.write_newick.Tie as tie
 
@@ -24,7 +25,7 @@ put-tree-requires c κs =
 
 returns : tie.Need-returns
 unfolding newick-written written-as text-after
-returns c = (rw (sym (c .before .before .before .check-tree .ensures .answer) ∙ c .before .refusal .given .1), refl)
+returns c = (tells (rw (sym (c .before .before .before .check-tree .ensures .answer) ∙ c .before .refusal .given .1)), refl)
 
 same-length : tie.Need-same-length
 same-length c = search needs
@@ -35,7 +36,7 @@ returns-2 c =
     let start = c .before .before .before .before .before .before .before .before .before in
     let told : tree-checked 256 (start .args .modes) (start .args .tree .now) ≡ Accepted = cc in
     let put = c .before .before .put-tree .ensures in
-    (rw told (put .0), put .1)
+    (tells (rw told (put .0)), put .1)
 
 pub write-newick-spec : {M : Type 1} → statement M
 write-newick-spec =

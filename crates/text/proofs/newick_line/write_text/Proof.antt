@@ -31,7 +31,7 @@ returns c =
     let args = start .args in
     let out = args .out .now in
     let size = length-take-le 8191 out (omega (arith, start .pre)) in
-    let says = write .ensures .0 ∙ ap (newick-written 256 (args .modes) (args .tree .now)) size in
+    let says = write .ensures .0 .answer ∙ ap (newick-written 256 (args .modes) (args .tree .now)) size in
     (says, ap (λ l. l ++ drop 8191 out) (write .ensures .1) ∙ after-front 256 (args .modes) (args .tree .now) 8191 out (omega (arith, start .pre)) (write .result) says)
 
 pub write-text-spec : {M : Type 1} → statement M
