@@ -6,14 +6,14 @@ use Prim.Native.Nat.{ℕ, _<_, _≤_}
 use borrow.Author.Tests.{ltb-true}
 use lib.Dec.{ltb}
 use Rattle.lists.specs.Members.{every}
-use Rattle.lists.specs.Least.{least-of}
+use Rattle.lists.specs.Least.{best-of}
 use Rattle.lists.proofs.Every.{every-uncons, every-append}
-use Rattle.lists.proofs.Least.{least-passes}
+use Rattle.lists.proofs.Least.{best-passes}
 use Rattle.entities.specs.declared.Triple.{Triple}
 use Rattle.slots.specs.Nodes.{active}
 use Rattle.slots.proofs.NodeBounds.{Below, active-below}
 use Rattle.choice.specs.Choices.{choices-at}
-use Rattle.choice.specs.Choice.{Choice, candidates, rank, chosen}
+use Rattle.choice.specs.Choice.{Choice, candidates, better, chosen}
 
 -- What holds of the nodes holds of their choices.
 candidates-below : (modes : ℕ) (table assigned : List ℕ) (l : List ℕ) → Below modes l
@@ -31,15 +31,15 @@ candidates-below modes table assigned (node ∷ l) e =
     mine low [] = refl
     mine low (triple ∷ rest) = rw low (mine low rest)
 
-pub chosen-below : (modes : ℕ) (table : List ℕ) (heuristic round : ℕ) (assigned : List ℕ) (rows : List (List ℕ)) → 1 ≤ modes
-    → chosen modes table heuristic round assigned rows .node < modes
-unfolding chosen candidates least-of
-chosen-below modes table heuristic round assigned rows h =
-    of-least (flatMap (λ node. map {B = Choice} (λ triple. record { node = node; triple = triple }) (choices-at modes table assigned node)) (active modes table heuristic round assigned))
-    (candidates-below modes table assigned (active modes table heuristic round assigned) (active-below modes table heuristic round assigned))
+pub chosen-below : (modes : ℕ) (table : List ℕ) (heuristic : ℕ) (assigned : List ℕ) (rows : List (List ℕ)) → 1 ≤ modes
+    → chosen modes table heuristic assigned rows .node < modes
+unfolding chosen candidates best-of
+chosen-below modes table heuristic assigned rows h =
+    of-best (flatMap (λ node. map {B = Choice} (λ triple. record { node = node; triple = triple }) (choices-at modes table assigned node)) (active modes table heuristic assigned))
+    (candidates-below modes table assigned (active modes table heuristic assigned) (active-below modes table heuristic assigned))
   where
-    of-least : (l : List Choice) → every (λ choice. ltb (choice .node) modes) l ≡ true → least-of (rank rows) (record { node = 0; triple = record { x = 0; y = 0; z = 0 } }) l .node < modes
-    of-least [] e = h
-    of-least (first ∷ rest) e =
+    of-best : (l : List Choice) → every (λ choice. ltb (choice .node) modes) l ≡ true → best-of (better rows) (record { node = 0; triple = record { x = 0; y = 0; z = 0 } }) l .node < modes
+    of-best [] e = h
+    of-best (first ∷ rest) e =
         let p = every-uncons (λ choice. ltb (choice .node) modes) first rest e in
-        ltb-true _ modes (least-passes (rank rows) (λ choice. ltb (choice .node) modes) first rest (p .0) (p .1))
+        ltb-true _ modes (best-passes (better rows) (λ choice. ltb (choice .node) modes) first rest (p .0) (p .1))

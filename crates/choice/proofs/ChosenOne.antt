@@ -26,8 +26,8 @@ larger-not t u h k =
 larger-self : (t : Triple) → Larger t t → ⊥
 larger-self t h = larger-not t t h h
 
-module _ (modes : ℕ) (table : List ℕ) (heuristic round : ℕ) (assigned : List ℕ) (rows : List (List ℕ)) where
-  pub chosen-one : (one other : Choice) → Chosen modes table heuristic round assigned rows one → Chosen modes table heuristic round assigned rows other
+module _ (modes : ℕ) (table : List ℕ) (heuristic : ℕ) (assigned : List ℕ) (rows : List (List ℕ)) where
+  pub chosen-one : (one other : Choice) → Chosen modes table heuristic assigned rows one → Chosen modes table heuristic assigned rows other
       → one ≡ other
   chosen-one one other c d =
       let same : weight-of (one .triple) rows ≡ weight-of (other .triple) rows =

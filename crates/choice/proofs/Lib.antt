@@ -5,4 +5,6 @@ pub mod ChosenBelow
 pub mod ChosenRight
 pub mod ChosenOne
 pub mod SoughtSteps
+pub mod OrdersAgree
+pub mod NumberedChoices
 pub mod ChosenSought

@@ -1,9 +1,10 @@
 -- Seeking the best goes list by list, and a better one is ahead by weight, then by z, y, x.
 use mathlib.Core.Path.{_≡_, refl}
-use mathlib.Core.Bool.{not}
+use mathlib.Core.Bool.{true, false, cond, not}
 use mathlib.Core.List.{List, [], _∷_, _++_, map, flatMap, append-nil, map-append}
 use Prim.Native.Nat.{ℕ, _+_, _<_, _≤_}
 use native.Mathlib.Omega.{arith}
+use borrow.Author.Tests.{lt-ltb, le-ltb}
 use lib.Dec.{eqb}
 use lib.ListN.{length, getD, drop}
 use Rattle.lists.specs.Members.{keep}
@@ -11,39 +12,38 @@ use Rattle.lists.specs.Least.{least, lighter}
 use Rattle.lists.proofs.Steps.{drop-step}
 use Rattle.lists.proofs.Kept.{keep-joined}
 use Rattle.lists.proofs.Joined.{flatMap-joined}
-use Rattle.lists.proofs.Least.{ahead, behind, least-joined, least-map-joined}
+use Rattle.lists.proofs.Least.{best-joined, least-map-joined}
 use Rattle.entities.specs.declared.Triple.{Triple}
-use Rattle.slots.specs.Slots.{leaf-of}
+use Rattle.slots.specs.code.Numbers.{number-leaf}
 use Rattle.choice.specs.declared.Selection.{Selection}
 use Rattle.choice.specs.Choices.{with-z, without, choices-at}
-use Rattle.choice.specs.Choice.{packed}
-use Rattle.choice.specs.code.Seeking.{standing, weighed, sought, sought-over}
+use Rattle.choice.specs.code.Seeking.{packed, standing, weighed, sought, sought-over}
 
 module _ (best other : Selection) where
-  pub by-weight : other .«min_weight» < best .«min_weight» → lighter standing best other ≡ other
-  unfolding standing
-  by-weight h = ahead standing best other (omega arith)
+  pub by-weight : other .«min_weight» < best .«min_weight» → lighter standing other best ≡ true
+  unfolding lighter standing
+  by-weight h = lt-ltb (standing other) (standing best) (omega arith)
 
-  pub by-weight-not : best .«min_weight» < other .«min_weight» → lighter standing best other ≡ best
-  unfolding standing
-  by-weight-not h = behind standing best other (omega arith)
+  pub by-weight-not : best .«min_weight» < other .«min_weight» → lighter standing other best ≡ false
+  unfolding lighter standing
+  by-weight-not h = le-ltb (standing other) (standing best) (omega arith)
 
   pub by-numbers : other .«min_weight» ≡ best .«min_weight» → packed (best .«leaf_indices») < packed (other .«leaf_indices»)
-      → packed (other .«leaf_indices») < 281474976710656 → lighter standing best other ≡ other
-  unfolding standing
-  by-numbers e h k = ahead standing best other (omega arith)
+      → packed (other .«leaf_indices») < 281474976710656 → lighter standing other best ≡ true
+  unfolding lighter standing
+  by-numbers e h k = lt-ltb (standing other) (standing best) (omega arith)
 
   pub by-numbers-not : other .«min_weight» ≡ best .«min_weight» → packed (other .«leaf_indices») ≤ packed (best .«leaf_indices»)
-      → lighter standing best other ≡ best
-  unfolding standing
-  by-numbers-not e h = behind standing best other (omega arith)
+      → lighter standing other best ≡ false
+  unfolding lighter standing
+  by-numbers-not e h = le-ltb (standing other) (standing best) (omega arith)
 
 module _ (rows : List (List ℕ)) (node : ℕ) where
   pub sought-none : (best : Selection) → sought rows node best [] ≡ best
   unfolding sought least
   sought-none best = refl
 
-  pub sought-one : (best : Selection) (triple : Triple) → sought rows node best (triple ∷ []) ≡ lighter standing best (weighed rows node triple)
+  pub sought-one : (best : Selection) (triple : Triple) → sought rows node best (triple ∷ []) ≡ cond (lighter standing (weighed rows node triple) best) (weighed rows node triple) best
   unfolding sought least
   sought-one best triple = refl
 
@@ -54,22 +54,22 @@ module _ (rows : List (List ℕ)) (node : ℕ) where
   -- The choices with each mode of Z but the pair's.
   module _ (modes x y z pair : ℕ) where
     of-modes : List ℕ → List Triple
-    of-modes free = with-z x y (map (leaf-of modes z) (without pair free))
+    of-modes free = with-z x y (map (number-leaf modes z) (without pair free))
 
     of-modes-joined : (l m : List ℕ) → of-modes (l ++ m) ≡ of-modes l ++ of-modes m
     unfolding of-modes with-z without
     of-modes-joined l m =
         rw (
           keep-joined (λ other. not (eqb other pair)) l m,
-          map-append (leaf-of modes z) (keep (λ other. not (eqb other pair)) l) (keep (λ other. not (eqb other pair)) m),
-          map-append {B = Triple} (λ v. record { x = x; y = y; z = v }) (map (leaf-of modes z) (keep (λ other. not (eqb other pair)) l))
-              (map (leaf-of modes z) (keep (λ other. not (eqb other pair)) m)),
+          map-append (number-leaf modes z) (keep (λ other. not (eqb other pair)) l) (keep (λ other. not (eqb other pair)) m),
+          map-append {B = Triple} (λ v. record { x = x; y = y; z = v }) (map (number-leaf modes z) (keep (λ other. not (eqb other pair)) l))
+              (map (number-leaf modes z) (keep (λ other. not (eqb other pair)) m)),
         )
 
     pub modes-step : (best : Selection) (free : List ℕ) (i : ℕ) → i < length free
-        → sought rows node best (with-z x y (map (leaf-of modes z) (without pair (drop i free))))
-        ≡ sought rows node (sought rows node best (with-z x y (map (leaf-of modes z) (without pair (getD free i 0 ∷ [])))))
-        (with-z x y (map (leaf-of modes z) (without pair (drop (i + 1) free))))
+        → sought rows node best (with-z x y (map (number-leaf modes z) (without pair (drop i free))))
+        ≡ sought rows node (sought rows node best (with-z x y (map (number-leaf modes z) (without pair (getD free i 0 ∷ [])))))
+        (with-z x y (map (number-leaf modes z) (without pair (drop (i + 1) free))))
     unfolding of-modes
     modes-step best free i h =
         rw (drop-step free i 0 h, of-modes-joined (getD free i 0 ∷ []) (drop (i + 1) free))
@@ -88,10 +88,10 @@ module _ (modes : ℕ) (table assigned : List ℕ) (rows : List (List ℕ)) wher
   over-joined : (best : Selection) (l m : List ℕ)
       → sought-over modes table assigned rows best (l ++ m)
       ≡ sought-over modes table assigned rows (sought-over modes table assigned rows best l) m
-  unfolding sought-over
+  unfolding sought-over least
   over-joined best l m =
       let f : ℕ → List Selection = λ node. map (weighed rows node) (choices-at modes table assigned node) in
-      rw (flatMap-joined f l m) (least-joined standing best (flatMap f l) (flatMap f m))
+      rw (flatMap-joined f l m) (best-joined (lighter standing) best (flatMap f l) (flatMap f m))
 
   pub over-step : (best : Selection) (nodes : List ℕ) (i : ℕ) → i < length nodes
       → sought-over modes table assigned rows best (drop i nodes)

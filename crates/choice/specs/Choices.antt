@@ -6,7 +6,7 @@ use lib.Dec.{eqb}
 use Rattle.lists.specs.Members.{keep, some-of}
 use Rattle.lists.specs.Ranges.{listed}
 use Rattle.entities.specs.declared.Triple.{Triple}
-use Rattle.slots.specs.Slots.{slot, unfixed, leaf-of}
+use Rattle.slots.specs.Slots.{Slot, slot, unfixed, leaf-of, stands-as}
 
 -- The modes that no pair has yet, ascending.
 unfoldable pub unassigned : ℕ → List ℕ → List ℕ
@@ -17,19 +17,19 @@ unfoldable pub without : ℕ → List ℕ → List ℕ
 without mode free = keep (λ other. not (eqb other mode)) free
 
 -- The numbers that a slot may stand as, of these modes.
-unfoldable pub numbers : ℕ → ℕ → List ℕ → List ℕ
-numbers modes slot free = cond (unfixed modes slot) (map (leaf-of modes slot) free) (slot ∷ [])
+unfoldable pub numbers : ℕ → Slot → List ℕ → List ℕ
+numbers modes slot free = cond (unfixed slot) (map (leaf-of slot) free) (stands-as modes slot ∷ [])
 
 -- x and y with each number of a Z slot.
 unfoldable pub with-z : ℕ → ℕ → List ℕ → List Triple
 with-z x y zs = map (λ z. record { x = x; y = y; z = z }) zs
 
 -- The choices of three slots.
-unfoldable pub choices : ℕ → List ℕ → ℕ → ℕ → ℕ → List Triple
+unfoldable pub choices : ℕ → List ℕ → Slot → Slot → Slot → List Triple
 choices modes free x y z =
-    cond (unfixed modes x && unfixed modes y)
-    (flatMap (λ mode. with-z (leaf-of modes x mode) (leaf-of modes y mode) (numbers modes z (without mode free))) free)
-    (with-z x y (numbers modes z free))
+    cond (unfixed x && unfixed y)
+    (flatMap (λ mode. with-z (leaf-of x mode) (leaf-of y mode) (numbers modes z (without mode free))) free)
+    (with-z (stands-as modes x) (stands-as modes y) (numbers modes z free))
 
 -- The choices of a node.
 unfoldable pub choices-at : ℕ → List ℕ → List ℕ → ℕ → List Triple

@@ -1,2 +1,3 @@
 -- How the code goes through a round's choices: no promise needs it.
+pub mod Numbered
 pub mod Seeking

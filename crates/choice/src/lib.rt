@@ -1,6 +1,6 @@
 // The choice of a round: the least weight over the choices of its nodes, on a tie the largest z, y, x.
 ghost use mathlib.Core.Path.{_≡_};
-ghost use mathlib.Core.Bool.{true};
+ghost use mathlib.Core.Bool.{true, cond};
 ghost use mathlib.Core.List.{List, [], _∷_, map, flatMap};
 ghost use Prim.Native.Nat.{ℕ, _+_, _*_, _≤_, _<_};
 ghost use lib.Dec.{eqb, ltb};
@@ -11,10 +11,10 @@ ghost use Rattle.entities.specs.Limits.{«most-modes», «most-terms», «row-w
 ghost use Rattle.terms.specs.Rows.{«terms-of»};
 ghost use Rattle.terms.specs.code.Held.{Held, OddOf};
 ghost use Rattle.terms.specs.Weight.{«weight-of»};
-ghost use Rattle.slots.specs.Slots.{«leaf-of»};
-ghost use Rattle.choice.specs.Choices.{unassigned, without, numbers, «with-z», choices};
-ghost use Rattle.choice.specs.Choice.{packed as «packed-number»};
-ghost use Rattle.choice.specs.code.Seeking.{standing, worst, sought, «sought-over»};
+ghost use Rattle.slots.specs.code.Numbers.{«number-leaf»};
+ghost use Rattle.choice.specs.Choices.{unassigned, without, «with-z»};
+ghost use Rattle.choice.specs.code.Numbered.{numbered, «numbered-choices»};
+ghost use Rattle.choice.specs.code.Seeking.{packed as «packed-number», standing, worst, sought, «sought-over»};
 use entities::Triple;
 use slots::nodes;
 use terms::weight;
@@ -71,7 +71,7 @@ fn packed(triple: Triple) -> u64
 
 // The better of two: the lighter, on equal weight the one with the larger z, y, x, and of equals the first.
 fn combine(best: Selection, candidate: Selection) -> Selection
-    ensures { λ r. ⌜ r ≡ lighter standing best candidate ⌝ }
+    ensures { λ r. ⌜ r ≡ cond (lighter standing candidate best) candidate best ⌝ }
 {
     if candidate.min_weight < best.min_weight {
         return candidate;
@@ -133,7 +133,7 @@ fn best_of_mode<'a>(
     requires { ⌜ count ≤ length (now odd) ⌝ }
     requires { ⌜ OddOf (now rows) count (slots .x) (slots .y) (now odd) ⌝ }
     requires { ⌜ (modes ≤ most-modes) × (mode < modes) × (3 * modes < slots .z) × (slots .z ≤ 3 * modes + 2) ⌝ }
-    ensures { λ r. ⌜ r ≡ sought (terms-of row-width count (now (rows .entry))) node best (with-z (slots .x) (slots .y) (map (leaf-of modes (slots .z)) (without pair (mode ∷ [])))) ⌝ }
+    ensures { λ r. ⌜ r ≡ sought (terms-of row-width count (now (rows .entry))) node best (with-z (slots .x) (slots .y) (map (number-leaf modes (slots .z)) (without pair (mode ∷ [])))) ⌝ }
 {
     if mode == pair {
         return best;
@@ -163,7 +163,7 @@ fn best_of_modes<'a>(
     requires { ⌜ OddOf (now rows) count (slots .x) (slots .y) (now odd) ⌝ }
     requires { ⌜ (modes ≤ most-modes) × (3 * modes < slots .z) × (slots .z ≤ 3 * modes + 2) ⌝ }
     requires { ⌜ every (λ mode. ltb mode modes) (now free) ≡ true ⌝ }
-    ensures { λ r. ⌜ r ≡ sought (terms-of row-width count (now (rows .entry))) node start (with-z (slots .x) (slots .y) (map (leaf-of modes (slots .z)) (without pair (now (free .entry))))) ⌝ }
+    ensures { λ r. ⌜ r ≡ sought (terms-of row-width count (now (rows .entry))) node start (with-z (slots .x) (slots .y) (map (number-leaf modes (slots .z)) (without pair (now (free .entry))))) ⌝ }
 {
     let mut best = start;
     let mut at = 0;
@@ -188,7 +188,7 @@ fn best_of_pair<'a>(
     requires { ⌜ Held row-width count (now rows) ⌝ }
     requires { ⌜ (count ≤ most-terms) × (modes ≤ most-modes) × (slots .z ≤ 3 * modes + 2) ⌝ }
     requires { ⌜ every (λ mode. ltb mode modes) (now free) ≡ true ⌝ }
-    ensures { λ r. ⌜ r ≡ sought (terms-of row-width count (now (rows .entry))) node start (with-z (slots .x) (slots .y) (numbers modes (slots .z) (without pair (now (free .entry))))) ⌝ }
+    ensures { λ r. ⌜ r ≡ sought (terms-of row-width count (now (rows .entry))) node start (with-z (slots .x) (slots .y) (numbered modes (slots .z) (without pair (now (free .entry))))) ⌝ }
 {
     if !slots::unfixed(modes, slots.z) {
         return better_of(node, slots, weight::weight(rows, count, slots), start);
@@ -213,7 +213,7 @@ fn best_of_leaves<'a>(
     requires { ⌜ (count ≤ most-terms) × (modes ≤ most-modes) × (mode < modes) ⌝ }
     requires { ⌜ (3 * modes < slots .x) × (slots .x ≤ 3 * modes + 2) × (3 * modes < slots .y) × (slots .y ≤ 3 * modes + 2) × (slots .z ≤ 3 * modes + 2) ⌝ }
     requires { ⌜ every (λ mode. ltb mode modes) (now free) ≡ true ⌝ }
-    ensures { λ r. ⌜ r ≡ sought (terms-of row-width count (now (rows .entry))) node best (with-z (leaf-of modes (slots .x) mode) (leaf-of modes (slots .y) mode) (numbers modes (slots .z) (without mode (now (free .entry))))) ⌝ }
+    ensures { λ r. ⌜ r ≡ sought (terms-of row-width count (now (rows .entry))) node best (with-z (number-leaf modes (slots .x) mode) (number-leaf modes (slots .y) mode) (numbered modes (slots .z) (without mode (now (free .entry))))) ⌝ }
 {
     let leaves = Triple {
         x: slots::leaf_of(modes, slots.x, mode),
@@ -237,7 +237,7 @@ fn best_of_pairs<'a>(
     requires { ⌜ (count ≤ most-terms) × (modes ≤ most-modes) ⌝ }
     requires { ⌜ (3 * modes < slots .x) × (slots .x ≤ 3 * modes + 2) × (3 * modes < slots .y) × (slots .y ≤ 3 * modes + 2) × (slots .z ≤ 3 * modes + 2) ⌝ }
     requires { ⌜ every (λ mode. ltb mode modes) (now free) ≡ true ⌝ }
-    ensures { λ r. ⌜ r ≡ sought (terms-of row-width count (now (rows .entry))) node start (flatMap (λ mode. with-z (leaf-of modes (slots .x) mode) (leaf-of modes (slots .y) mode) (numbers modes (slots .z) (without mode (now (free .entry))))) (now (free .entry))) ⌝ }
+    ensures { λ r. ⌜ r ≡ sought (terms-of row-width count (now (rows .entry))) node start (flatMap (λ mode. with-z (number-leaf modes (slots .x) mode) (number-leaf modes (slots .y) mode) (numbered modes (slots .z) (without mode (now (free .entry))))) (now (free .entry))) ⌝ }
 {
     let mut best = start;
     let mut at = 0;
@@ -261,7 +261,7 @@ fn best_of_slots<'a>(
     requires { ⌜ Held row-width count (now rows) ⌝ }
     requires { ⌜ (count ≤ most-terms) × (modes ≤ most-modes) × (slots .x ≤ 3 * modes + 2) × (slots .y ≤ 3 * modes + 2) × (slots .z ≤ 3 * modes + 2) ⌝ }
     requires { ⌜ every (λ mode. ltb mode modes) (now free) ≡ true ⌝ }
-    ensures { λ r. ⌜ r ≡ sought (terms-of row-width count (now (rows .entry))) node best (choices modes (now (free .entry)) (slots .x) (slots .y) (slots .z)) ⌝ }
+    ensures { λ r. ⌜ r ≡ sought (terms-of row-width count (now (rows .entry))) node best (numbered-choices modes (now (free .entry)) (slots .x) (slots .y) (slots .z)) ⌝ }
 {
     // a mode that no leaf takes, so that Z may take any
     let none = modes as u16;

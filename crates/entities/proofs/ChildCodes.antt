@@ -9,19 +9,19 @@ use lib.Dec.{ltb}
 use Rattle.lists.specs.Counting.{same}
 use Rattle.lists.proofs.Tests.{same-or-not}
 use Rattle.lists.proofs.Sums.{same-one, same-none}
-use Rattle.entities.specs.Codes.{absent, code}
+use Rattle.entities.specs.Codes.{absent, child-code}
 
 module _ (modes : ℕ) where
-  pub code-absent : code modes (2 * modes) (2 * modes) ≡ absent
-  unfolding code
+  pub code-absent : child-code modes (2 * modes) (2 * modes) ≡ absent
+  unfolding child-code
   code-absent = rw (eq-eqb (2 * modes) (2 * modes) refl)
 
-  pub code-leaf : (entity : ℕ) → entity < 2 * modes → code modes (2 * modes) entity ≡ entity + modes
-  unfolding code
+  pub code-leaf : (entity : ℕ) → entity < 2 * modes → child-code modes (2 * modes) entity ≡ entity + modes
+  unfolding child-code
   code-leaf entity h = rw (ne-eqb entity (2 * modes) (λ q. omega arith), lt-ltb entity (2 * modes + 1) (omega arith))
 
-  pub code-node : (label : ℕ) → code modes (2 * modes) (2 * modes + 1 + label) ≡ label
-  unfolding code
+  pub code-node : (label : ℕ) → child-code modes (2 * modes) (2 * modes + 1 + label) ≡ label
+  unfolding child-code
   code-node label =
       let back : 2 * modes + 1 + label - (2 * modes + 1) ≡ label = omega arith in
       rw (ne-eqb (2 * modes + 1 + label) (2 * modes) (λ q. omega arith), le-ltb (2 * modes + 1 + label) (2 * modes + 1) (omega arith), back)
@@ -48,10 +48,10 @@ module _ (modes : ℕ) where
   entity-of number = cond (ltb number modes) (2 * modes + 1 + number) (cond (ltb number (3 * modes)) (number - modes) (2 * modes))
 
   module _ (small : 3 * modes ≤ absent) where
-    code-back : (entity : ℕ) → entity < 2 * modes + 1 + modes → entity-of (code modes (2 * modes) entity) ≡ entity
+    code-back : (entity : ℕ) → entity < 2 * modes + 1 + modes → entity-of (child-code modes (2 * modes) entity) ≡ entity
     unfolding entity-of
     code-back =
-        entity-cases (λ entity. entity-of (code modes (2 * modes) entity) ≡ entity)
+        entity-cases (λ entity. entity-of (child-code modes (2 * modes) entity) ≡ entity)
         (rw (code-absent, le-ltb absent modes (omega arith), le-ltb absent (3 * modes) small) refl)
         (λ leaf h.
         (let back : leaf + modes - modes ≡ leaf = omega arith in
@@ -59,12 +59,12 @@ module _ (modes : ℕ) where
         (λ label h. rw (code-node label, lt-ltb label modes h) refl)
 
     pub same-code : (a b : ℕ) → a < 2 * modes + 1 + modes → b < 2 * modes + 1 + modes
-        → same (code modes (2 * modes) a) (code modes (2 * modes) b) ≡ same a b
+        → same (child-code modes (2 * modes) a) (child-code modes (2 * modes) b) ≡ same a b
     same-code a b p q =
         ⊎-elim
-        (λ e. same-one (code modes (2 * modes) a) (code modes (2 * modes) b) (ap (code modes (2 * modes)) e) ∙ sym (same-one a b e))
+        (λ e. same-one (child-code modes (2 * modes) a) (child-code modes (2 * modes) b) (ap (child-code modes (2 * modes)) e) ∙ sym (same-one a b e))
         (λ other.
-        same-none (code modes (2 * modes) a) (code modes (2 * modes) b)
+        same-none (child-code modes (2 * modes) a) (child-code modes (2 * modes) b)
         (λ e. other (sym (code-back a p) ∙ ap entity-of e ∙ code-back b q))
         ∙ sym (same-none a b other))
         (same-or-not a b)

@@ -8,6 +8,6 @@ abbrev pub absent : ℕ
 absent = 65535
 
 -- The code of an entity, where the absent child is the leaf `end`.
-unfoldable pub code : ℕ → ℕ → ℕ → ℕ
-code modes end entity =
+unfoldable pub child-code : ℕ → ℕ → ℕ → ℕ
+child-code modes end entity =
     cond (eqb entity end) absent (cond (ltb entity (2 * modes + 1)) (entity + modes) (entity - (2 * modes + 1)))

@@ -1,7 +1,7 @@
 // The codes of children.
 ghost use mathlib.Core.Path.{_≡_};
 ghost use Prim.Native.Nat.{_≤_};
-ghost use Rattle.entities.specs.Codes.{code as «code-of»};
+ghost use Rattle.entities.specs.Codes.{«child-code»};
 ghost use Rattle.entities.specs.Limits.{«most-modes»};
 use crate::parents;
 
@@ -11,7 +11,7 @@ pub const ABSENT: u16 = 65535;
 // The child code of an entity; the leaf at the root's z-end is the absent child.
 pub fn code(modes: usize, end: u16, entity: u16) -> u16
     requires { ⌜ modes ≤ most-modes ⌝ }
-    ensures { λ r. ⌜ r ≡ code-of modes end entity ⌝ }
+    ensures { λ r. ⌜ r ≡ child-code modes end entity ⌝ }
 {
     if entity == end {
         return ABSENT;

@@ -9,7 +9,7 @@ use Rattle.lists.specs.Counting.{sum, same, occurrences}
 use Rattle.lists.proofs.Totals.{total, total-same}
 use Rattle.lists.proofs.Sums.{sum-of, occurrences-flatMap, same-none, total-once}
 use Rattle.entities.specs.declared.Triple.{Triple}
-use Rattle.entities.specs.Codes.{absent, code}
+use Rattle.entities.specs.Codes.{absent, child-code}
 use Rattle.entities.proofs.ChildCodes.{code-absent, same-code}
 use Rattle.merging.specs.History.{merge-of, next-parent}
 use Rattle.merging.specs.Lawful.{LawfulHistory}
@@ -59,25 +59,25 @@ module _ (modes : ℕ) (history : List Triple) (lawful : LawfulHistory modes his
 
   -- An entity's code stands among a node's children where the entity is one of its three.
   code-in-row : (entity : ℕ) → entity < 2 * modes + 1 + modes → (label : ℕ) → label < modes
-      → occurrences (code modes (2 * modes) entity) (children modes history label) ≡ three (λ child. same child entity) (merge-of history label)
+      → occurrences (child-code modes (2 * modes) entity) (children modes history label) ≡ three (λ child. same child entity) (merge-of history label)
   unfolding children occurrences
   code-in-row entity within label h =
       let n = node modes history lawful label (omega arith) in
       let triple = merge-of history label in
-      let coded : (child : ℕ) → child < 2 * modes + 1 + label → same (code modes (2 * modes) child) (code modes (2 * modes) entity) ≡ same child entity =
+      let coded : (child : ℕ) → child < 2 * modes + 1 + label → same (child-code modes (2 * modes) child) (child-code modes (2 * modes) entity) ≡ same child entity =
       λ child l. same-code modes small child entity (omega arith) within in
       rw (absent-leaf-last modes history lawful all some-modes, coded (triple .x) (n .x-before), coded (triple .y) (n .y-before), coded (triple .z) (n .z-before))
       (omega arith)
 
   pub child-once : (entity : ℕ) → entity < 3 * modes
-      → occurrences (code modes (2 * modes) entity) (flatMap (children modes history) (labels-of modes history)) ≡ 1
+      → occurrences (child-code modes (2 * modes) entity) (flatMap (children modes history) (labels-of modes history)) ≡ 1
   unfolding next-parent
   child-once entity h =
       let weight : ℕ → ℕ = λ child. same child entity in
-      let counted = occurrences-flatMap (code modes (2 * modes) entity) (children modes history) (labels-of modes history) in
-      let by-label = walk-sum modes history lawful all some-modes small (λ label. occurrences (code modes (2 * modes) entity) (children modes history label)) in
+      let counted = occurrences-flatMap (child-code modes (2 * modes) entity) (children modes history) (labels-of modes history) in
+      let by-label = walk-sum modes history lawful all some-modes small (λ label. occurrences (child-code modes (2 * modes) entity) (children modes history label)) in
       let by-merge =
-      total-same (λ label. occurrences (code modes (2 * modes) entity) (children modes history label)) (λ label. three weight (merge-of history label)) modes
+      total-same (λ label. occurrences (child-code modes (2 * modes) entity) (children modes history label)) (λ label. three weight (merge-of history label)) modes
       (code-in-row entity (omega arith)) in
       let merges = rw all at (merges-total weight history) in
       let everything = rw all at (merged-all modes history lawful weight) in

@@ -14,7 +14,7 @@ use Rattle.lists.proofs.Totals.{total, total-same, total-none, total-ones, tota
 use Rattle.lists.proofs.Sums.{sum-of, sum-append, sum-keep, sum-length, sum-occurrences, total-once, total-never}
 use Rattle.lists.proofs.Every.{every-append, keeps-passing}
 use Rattle.entities.specs.declared.Triple.{Triple}
-use Rattle.entities.specs.Codes.{absent, code}
+use Rattle.entities.specs.Codes.{absent, child-code}
 use Rattle.entities.proofs.ChildCodes.{code-absent, code-leaf, code-node, entity-cases}
 use Rattle.merging.specs.Lawful.{LawfulHistory}
 use Rattle.merging.specs.History.{merge-of}
@@ -57,12 +57,12 @@ module _ (modes : ℕ) (history : List Triple) (lawful : LawfulHistory modes his
   leaf-amount rule leaf h = amount-leaf modes history (on-nodes modes rule) leaf h ∙ on-leaf modes rule leaf h
 
   child-below : (rule : ℕ → ℕ) (entity : ℕ) → entity < 2 * modes + 1 + modes
-      → cond (ltb (code modes (2 * modes) entity) modes) (below rule (code modes (2 * modes) entity)) 0
+      → cond (ltb (child-code modes (2 * modes) entity) modes) (below rule (child-code modes (2 * modes) entity)) 0
       ≡ amount modes history (on-nodes modes rule) entity
   unfolding below
   child-below rule =
       entity-cases modes
-      (λ entity. cond (ltb (code modes (2 * modes) entity) modes) (below rule (code modes (2 * modes) entity)) 0
+      (λ entity. cond (ltb (child-code modes (2 * modes) entity) modes) (below rule (child-code modes (2 * modes) entity)) 0
       ≡ amount modes history (on-nodes modes rule) entity)
       (rw (code-absent modes, le-ltb absent modes (omega arith), leaf-amount rule (2 * modes) (omega arith)) refl)
       (λ leaf h. rw (code-leaf modes leaf h, le-ltb (leaf + modes) modes (omega arith), leaf-amount rule leaf (omega arith)) refl)

@@ -5,7 +5,7 @@ use lib.Dec.{ltb}
 use lib.ListN.{length}
 use Rattle.lists.specs.Members.{keep}
 use Rattle.entities.specs.declared.Triple.{Triple}
-use Rattle.entities.specs.Codes.{code}
+use Rattle.entities.specs.Codes.{child-code}
 use Rattle.merging.specs.History.{merge-of, z-end}
 
 -- "After n steps the last parent is the root. The absent child replaces the end of its z-chain."
@@ -15,9 +15,9 @@ absent-leaf modes history = z-end modes history (2 * modes + length history)
 -- The codes of a node's children, X, Y, Z.
 unfoldable pub children : ℕ → List Triple → ℕ → List ℕ
 children modes history label =
-    code modes (absent-leaf modes history) (merge-of history label .x)
-    ∷ (code modes (absent-leaf modes history) (merge-of history label .y)
-    ∷ (code modes (absent-leaf modes history) (merge-of history label .z) ∷ []))
+    child-code modes (absent-leaf modes history) (merge-of history label .x)
+    ∷ (child-code modes (absent-leaf modes history) (merge-of history label .y)
+    ∷ (child-code modes (absent-leaf modes history) (merge-of history label .z) ∷ []))
 
 -- The labels of the rows: a node, then its node children queued behind the rest.
 unfoldable pub walk : ℕ → List Triple → ℕ → List ℕ → List ℕ

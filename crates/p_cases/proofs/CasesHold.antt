@@ -9,7 +9,7 @@ use Rattle.lists.specs.Ranges.{listed, ascends, ascends-from}
 use Rattle.lists.specs.Least.{least, lighter, least-of}
 use Rattle.lists.specs.Written.{written-at}
 use Rattle.refusal.specs.Numbers.{refused-numbers, done-numbers}
-use Rattle.entities.specs.Codes.{code}
+use Rattle.entities.specs.Codes.{child-code}
 use Rattle.fields.specs.Decimal.{is-digit, value-after, value, leads-well, is-number, digits, decimal}
 use Rattle.fields.specs.Fields.{fields-after, fields, tabbed}
 use Rattle.fields.specs.Lines.{lines-after, lines, kept-of}
@@ -88,5 +88,5 @@ use Rattle.p_cases.specs.Cases.{
 }
 
 pub cases-hold : CasesHold
-unfolding cases holds header line meant resuming weighed told weighing assigning flatMap every keep leading some-of alike firsts firsts-after sum same occurrences listed ascends ascends-from least lighter written-at rows-of term terms-of modes-good good-indices good-row good-rows checked weight-of term-weight odd-ones reduction rewriting sorted put-in replacement dropped next-parent among is-open z-end holder rows-after is-lawful three-open paired named entities pairs-with lawful-pairs weight-in candidates least-of chosen greedy finished run-weight trials merge-of code absent-leaf children walk rows-for flatpack is-digit value-after value leads-well is-number digits decimal fields-after fields word version header-good header-of merge-good merge-of-line tabbed header-text merge-text lines-after lines kept-of obeyed-next obeyed-lines obeyed-header obeyed-texts obeyed line-of greedy-lines new-text ending with-journal roomy with-terms resumed returned nodes child place-of parent-of climb root-of leaves-once absent-once nodes-once all-reached one-tree chain-end pair-under pair-right pairs-right codes-good tree-checked edge-under edges node-weight row-weight tree-weight weighed-terms tree-weighed pair-of parity-of leaf-slot slot-of slot slots unfixed leaf-of distance is-fixed complete remaining largest farthest narrowed active unassigned without numbers with-z choices choices-at topphatt-candidates packed rank topphatt-chosen before fixed fixed-by after next rounds ended answer-table with-room topphatt-with-terms with-tree outcome topphatt-returned trial-total hatt-run row-over laid-over laid modes-in spelled end-shape shape-under newick-text written-as newick-written modes-word term-word modes-line term-line well-formed formed-from formed term-row whole said run-ended ran-by ran text-line weight-word trials-word node-word code-text node-line node-lines done-text run-printed answer-text line-as table-line newick-printed newick-answer-text word-at words two-bytes eight-bytes term-numbers room-of resume-called hatt-called result-of answer-bytes printed calling judged-merge judged-form judged-line obeyed-as header-behind numbers-of lent-then renewed-after renewed stays settled reduced-row refused-numbers done-numbers done-by topphatt-numbers topphatt-left rooms-in bytes-left
+unfolding cases holds header line meant resuming weighed told weighing assigning flatMap every keep leading some-of alike firsts firsts-after sum same occurrences listed ascends ascends-from least lighter written-at rows-of term terms-of modes-good good-indices good-row good-rows checked weight-of term-weight odd-ones reduction rewriting sorted put-in replacement dropped next-parent among is-open z-end holder rows-after is-lawful three-open paired named entities pairs-with lawful-pairs weight-in candidates least-of chosen greedy finished run-weight trials merge-of child-code absent-leaf children walk rows-for flatpack is-digit value-after value leads-well is-number digits decimal fields-after fields word version header-good header-of merge-good merge-of-line tabbed header-text merge-text lines-after lines kept-of obeyed-next obeyed-lines obeyed-header obeyed-texts obeyed line-of greedy-lines new-text ending with-journal roomy with-terms resumed returned nodes child place-of parent-of climb root-of leaves-once absent-once nodes-once all-reached one-tree chain-end pair-under pair-right pairs-right codes-good tree-checked edge-under edges node-weight row-weight tree-weight weighed-terms tree-weighed pair-of parity-of leaf-slot slot-of slot slots unfixed leaf-of distance is-fixed complete remaining largest farthest narrowed active unassigned without numbers with-z choices choices-at topphatt-candidates packed rank topphatt-chosen before fixed fixed-by after next rounds ended answer-table with-room topphatt-with-terms with-tree outcome topphatt-returned trial-total hatt-run row-over laid-over laid modes-in spelled end-shape shape-under newick-text written-as newick-written modes-word term-word modes-line term-line well-formed formed-from formed term-row whole said run-ended ran-by ran text-line weight-word trials-word node-word code-text node-line node-lines done-text run-printed answer-text line-as table-line newick-printed newick-answer-text word-at words two-bytes eight-bytes term-numbers room-of resume-called hatt-called result-of answer-bytes printed calling judged-merge judged-form judged-line obeyed-as header-behind numbers-of lent-then renewed-after renewed stays settled reduced-row refused-numbers done-numbers done-by topphatt-numbers topphatt-left rooms-in bytes-left
 cases-hold = refl

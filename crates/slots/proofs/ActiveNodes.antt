@@ -1,10 +1,10 @@
 -- The nodes of a round: some of the farthest remaining ones, ascending, and at least one where any remains.
 use mathlib.Core.Path.{_≡_, refl, ap}
-use mathlib.Core.Bool.{Bool, true, false, cond, not, _||_}
+use mathlib.Core.Bool.{Bool, true, false, cond, not}
 use mathlib.Core.List.{List, [], _∷_, map, List·Memᴰ, List·Memᴰ·head, List·Memᴰ·tail}
 use Prim.Native.Nat.{ℕ, _-_, _<_, _≤_, max}
 use native.Mathlib.Omega.{arith}
-use borrow.Author.Tests.{eqb-true, eq-eqb, leb-true, leb-false}
+use borrow.Author.Tests.{eqb-true, eq-eqb, leb-true, leb-false, not-true}
 use lib.Dec.{eqb, leb}
 use lib.ListN.{length, take, drop, length-take, length-drop}
 use Rattle.lists.specs.Members.{firsts}
@@ -66,32 +66,32 @@ largest-of f (a ∷ (b ∷ l)) h = go (largest-of f (b ∷ l) (omega arith))
         → (v : ℕ) × List·Memᴰ v (a ∷ (b ∷ l)) × (f v ≡ max (f a) (largest (map f (b ∷ l))))
     go r = choose (leb (f (r .0)) (f a)) r refl
 
-module _ (modes : ℕ) (table : List ℕ) (heuristic round : ℕ) (assigned : List ℕ) where
-  -- Active nodes are nodes; none that remains is farther; in round 0 any may be active, later only incomplete ones.
+module _ (modes : ℕ) (table : List ℕ) (heuristic : ℕ) (assigned : List ℕ) where
+  -- Active nodes are nodes that aren't complete, and no such node is farther.
   pub record Active (node : ℕ) : Type 0 where
     pub inside : node < modes
-    pub left : (eqb round 0 || not (complete modes table assigned node)) ≡ true
-    pub far : (other : ℕ) → other < modes → (eqb round 0 || not (complete modes table assigned other)) ≡ true
+    pub left : complete modes table assigned node ≡ false
+    pub far : (other : ℕ) → other < modes → complete modes table assigned other ≡ false
         → distance table modes other ≤ distance table modes node
 
-  of-remaining : {node : ℕ} → List·Memᴰ node (remaining modes table round assigned)
-      → (node < modes) × ((eqb round 0 || not (complete modes table assigned node)) ≡ true)
+  of-remaining : {node : ℕ} → List·Memᴰ node (remaining modes table assigned)
+      → (node < modes) × (complete modes table assigned node ≡ false)
   unfolding remaining nodes
   of-remaining m =
-      let r = of-kept (λ node. eqb round 0 || not (complete modes table assigned node)) (listed (λ node. node) 0 modes) m in
-      (omega (arith, counted-below _ 0 modes (r .0)), r .1)
+      let r = of-kept (λ node. not (complete modes table assigned node)) (listed (λ node. node) 0 modes) m in
+      (omega (arith, counted-below _ 0 modes (r .0)), not-true (complete modes table assigned _) (r .1))
 
-  remains : (node : ℕ) → node < modes → (eqb round 0 || not (complete modes table assigned node)) ≡ true
-      → List·Memᴰ node (remaining modes table round assigned)
+  remains : (node : ℕ) → node < modes → complete modes table assigned node ≡ false
+      → List·Memᴰ node (remaining modes table assigned)
   unfolding remaining nodes
   remains node h e =
-      kept (λ node. eqb round 0 || not (complete modes table assigned node)) (listed (λ node. node) 0 modes) e
+      kept (λ node. not (complete modes table assigned node)) (listed (λ node. node) 0 modes) (rw e)
       (counted node 0 modes (omega arith) (omega arith))
 
-  pub of-active : {node : ℕ} → List·Memᴰ node (active modes table heuristic round assigned) → Active node
+  pub of-active : {node : ℕ} → List·Memᴰ node (active modes table heuristic assigned) → Active node
   unfolding active farthest
   of-active {node} m =
-      let left = remaining modes table round assigned in
+      let left = remaining modes table assigned in
       let f = of-kept (λ v. eqb (distance table modes v) (largest (map (distance table modes) left))) left
       (of-narrowed heuristic _ _ m) in
       let r = of-remaining (f .0) in
@@ -102,17 +102,17 @@ module _ (modes : ℕ) (table : List ℕ) (heuristic round : ℕ) (assigned : Li
         far = λ other h e. omega (arith, largest-most (distance table modes) left other (remains other h e));
       }
 
-  pub active-ascends : Ascending _<_ (active modes table heuristic round assigned)
+  pub active-ascends : Ascending _<_ (active modes table heuristic assigned)
   unfolding active farthest remaining nodes
   active-ascends =
       narrowed-ascends heuristic _ _ (kept-ascends _<_ _ _ (kept-ascends _<_ _ _ (counted-ascends 0 modes)))
 
   -- Where a node remains, a node is active.
-  pub some-active : (node : ℕ) → node < modes → (eqb round 0 || not (complete modes table assigned node)) ≡ true
-      → 0 < length (active modes table heuristic round assigned)
+  pub some-active : (node : ℕ) → node < modes → complete modes table assigned node ≡ false
+      → 0 < length (active modes table heuristic assigned)
   unfolding active farthest
   some-active node h e =
-      let left = remaining modes table round assigned in
+      let left = remaining modes table assigned in
       let top = largest-of (distance table modes) left (some-member (remains node h e)) in
       some-narrowed heuristic _ _
       (some-member

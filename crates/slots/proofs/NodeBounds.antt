@@ -20,9 +20,9 @@ Below modes l = every (λ v. ltb v modes) l ≡ true
 pub listed-below : (modes : ℕ) → Below modes (listed (λ v. v) 0 modes)
 listed-below modes = every-from (λ v. ltb v modes) 0 modes (λ v low high. lt-ltb v modes (omega arith))
 
-pub remaining-below : (modes : ℕ) (table : List ℕ) (round : ℕ) (assigned : List ℕ) → Below modes (remaining modes table round assigned)
+pub remaining-below : (modes : ℕ) (table assigned : List ℕ) → Below modes (remaining modes table assigned)
 unfolding remaining nodes
-remaining-below modes table round assigned = every-kept (λ v. ltb v modes) _ (listed (λ v. v) 0 modes) (listed-below modes)
+remaining-below modes table assigned = every-kept (λ v. ltb v modes) _ (listed (λ v. v) 0 modes) (listed-below modes)
 
 pub farthest-below : (modes : ℕ) (table left : List ℕ) → Below modes left → Below modes (farthest modes table left)
 unfolding farthest
@@ -37,9 +37,9 @@ narrowed-below modes heuristic like far e = go (eqb heuristic 0) (eqb heuristic 
     go false true = every-taken (λ v. ltb v modes) 1 far e
     go false false = every-dropped (λ v. ltb v modes) (length far - 1) far e
 
-pub active-below : (modes : ℕ) (table : List ℕ) (heuristic round : ℕ) (assigned : List ℕ)
-    → Below modes (active modes table heuristic round assigned)
+pub active-below : (modes : ℕ) (table : List ℕ) (heuristic : ℕ) (assigned : List ℕ)
+    → Below modes (active modes table heuristic assigned)
 unfolding active
-active-below modes table heuristic round assigned =
-    narrowed-below modes heuristic _ (farthest modes table (remaining modes table round assigned))
-    (farthest-below modes table (remaining modes table round assigned) (remaining-below modes table round assigned))
+active-below modes table heuristic assigned =
+    narrowed-below modes heuristic _ (farthest modes table (remaining modes table assigned))
+    (farthest-below modes table (remaining modes table assigned) (remaining-below modes table assigned))

@@ -1,15 +1,14 @@
 -- What a slot is, by its code: a child, a fixed leaf, an unfixed leaf or empty; only a leaf whose pair has no mode is unfixed.
 use mathlib.Core.Path.{_≡_, refl, _∙_}
-use mathlib.Core.Bool.{Bool, true, false, not, _&&_}
+use mathlib.Core.Bool.{Bool, true, false, cond, not}
 use mathlib.Core.List.{List}
 use Prim.Native.Nat.{ℕ, _+_, _*_, _<_, _≤_}
 use native.Mathlib.Omega.{arith}
-use borrow.Author.Tests.{lt-ltb, le-ltb, ne-eqb, ltb-true, ltb-false}
+use borrow.Author.Tests.{lt-ltb, le-ltb, eqb-true, eqb-false, ltb-true, ltb-false}
 use lib.Dec.{eqb, ltb}
 use lib.ListN.{getD}
 use Rattle.tree.specs.Table.{child}
-use Rattle.slots.specs.Slots.{pair-of, parity-of, leaf-slot, slot-of, slot, unfixed}
-use Rattle.slots.specs.Nodes.{is-fixed}
+use Rattle.slots.specs.Slots.{Slot, child-node, even-leaf, odd-leaf, empty, fixed-leaf, pair-of, parity-of, leaf-slot, slot-of, slot, unfixed, is-fixed, leaf-of}
 
 -- The code of a leaf whose pair has no mode.
 pub record Without (modes : ℕ) (assigned : List ℕ) (code : ℕ) : Type 0 where
@@ -22,11 +21,15 @@ module _ (modes : ℕ) (assigned : List ℕ) (code : ℕ) where
   unfolding pair-of
   pair-below low high = omega arith
 
-  pub slot-child : code < modes → slot-of modes assigned code ≡ 2 * modes + 1 + code
+  pub parity-most : parity-of modes code ≤ 1
+  unfolding parity-of
+  parity-most = omega arith
+
+  pub slot-child : code < modes → slot-of modes assigned code ≡ child-node code
   unfolding slot-of
   slot-child h = rw (lt-ltb code modes h)
 
-  pub slot-empty : 3 * modes ≤ code → slot-of modes assigned code ≡ 2 * modes
+  pub slot-empty : 3 * modes ≤ code → slot-of modes assigned code ≡ empty
   unfolding slot-of
   slot-empty h = let low : modes ≤ code = omega arith in rw (le-ltb code modes low, le-ltb code (3 * modes) h)
 
@@ -36,47 +39,59 @@ module _ (modes : ℕ) (assigned : List ℕ) (code : ℕ) where
   slot-leaf low high = rw (le-ltb code modes low, lt-ltb code (3 * modes) high)
 
   pub slot-fixed : modes ≤ code → code < 3 * modes → getD assigned (pair-of modes code) modes < modes
-      → slot-of modes assigned code ≡ 2 * getD assigned (pair-of modes code) modes + parity-of modes code
+      → slot-of modes assigned code ≡ fixed-leaf (2 * getD assigned (pair-of modes code) modes + parity-of modes code)
   unfolding leaf-slot
   slot-fixed low high some = slot-leaf low high ∙ rw (lt-ltb (getD assigned (pair-of modes code) modes) modes some)
 
-  pub slot-without : Without modes assigned code → slot-of modes assigned code ≡ 3 * modes + 1 + parity-of modes code
+  slot-without : Without modes assigned code → slot-of modes assigned code ≡ cond (eqb (parity-of modes code) 0) even-leaf odd-leaf
   unfolding leaf-slot
   slot-without w = slot-leaf (w .low) (w .high) ∙ rw (le-ltb (getD assigned (pair-of modes code) modes) modes (w .none))
 
-  parity-most : parity-of modes code ≤ 1
-  unfolding parity-of
-  parity-most = omega arith
-
-  pub without-unfixed : Without modes assigned code → unfixed modes (slot-of modes assigned code) ≡ true
+  pub without-unfixed : Without modes assigned code → unfixed (slot-of modes assigned code) ≡ true
   unfolding unfixed
-  without-unfixed w = lt-ltb (3 * modes) (slot-of modes assigned code) (omega (arith, slot-without w))
+  without-unfixed w = rw (slot-without w) (go (eqb (parity-of modes code) 0))
+    where
+      go : (b : Bool) → unfixed (cond b even-leaf odd-leaf) ≡ true
+      go true = refl
+      go false = refl
 
-  pub child-not-unfixed : code < modes → unfixed modes (slot-of modes assigned code) ≡ false
-  unfolding unfixed
-  child-not-unfixed h = le-ltb (3 * modes) (slot-of modes assigned code) (omega (arith, slot-child h))
+  without-not-fixed : Without modes assigned code → is-fixed (slot-of modes assigned code) ≡ false
+  unfolding is-fixed
+  without-not-fixed w = rw (slot-without w) (go (eqb (parity-of modes code) 0))
+    where
+      go : (b : Bool) → is-fixed (cond b even-leaf odd-leaf) ≡ false
+      go true = refl
+      go false = refl
+
+  -- The leaf that it takes of a mode has its parity.
+  pub without-leaf : Without modes assigned code → (mode : ℕ) → leaf-of (slot-of modes assigned code) mode ≡ 2 * mode + parity-of modes code
+  unfolding leaf-of
+  without-leaf w mode = rw (slot-without w) (go (eqb (parity-of modes code) 0) refl)
+    where
+      go : (b : Bool) → eqb (parity-of modes code) 0 ≡ b → leaf-of (cond b even-leaf odd-leaf) mode ≡ 2 * mode + parity-of modes code
+      go true e = omega (arith, eqb-true (parity-of modes code) 0 e)
+      go false e =
+          let odd = eqb-false (parity-of modes code) 0 e in
+          let most = parity-most in
+          omega arith
 
   pub fixed-not-unfixed : modes ≤ code → code < 3 * modes → getD assigned (pair-of modes code) modes < modes
-      → unfixed modes (slot-of modes assigned code) ≡ false
+      → unfixed (slot-of modes assigned code) ≡ false
   unfolding unfixed
-  fixed-not-unfixed low high some =
-      le-ltb (3 * modes) (slot-of modes assigned code) (omega (arith, slot-fixed low high some, parity-most))
+  fixed-not-unfixed low high some = rw (slot-fixed low high some)
 
-  pub empty-not-unfixed : 3 * modes ≤ code → unfixed modes (slot-of modes assigned code) ≡ false
+  pub unfixed-without : unfixed (slot-of modes assigned code) ≡ true → Without modes assigned code
   unfolding unfixed
-  empty-not-unfixed h = le-ltb (3 * modes) (slot-of modes assigned code) (omega (arith, slot-empty h))
-
-  pub unfixed-without : unfixed modes (slot-of modes assigned code) ≡ true → Without modes assigned code
   unfixed-without e =
       go (ltb code modes) refl (ltb code (3 * modes)) refl (ltb (getD assigned (pair-of modes code) modes) modes) refl
     where
-      no : unfixed modes (slot-of modes assigned code) ≡ false → Without modes assigned code
+      no : unfixed (slot-of modes assigned code) ≡ false → Without modes assigned code
       no f = let z : _≡_ {A = ℕ} 0 1 = cc in absurd (omega arith)
 
       go : (n : Bool) → ltb code modes ≡ n → (l : Bool) → ltb code (3 * modes) ≡ l
           → (m : Bool) → ltb (getD assigned (pair-of modes code) modes) modes ≡ m → Without modes assigned code
-      go true q l r m s = no (child-not-unfixed (ltb-true code modes q))
-      go false q false r m s = no (empty-not-unfixed (ltb-false code (3 * modes) r))
+      go true q l r m s = no (rw (slot-child (ltb-true code modes q)))
+      go false q false r m s = no (rw (slot-empty (ltb-false code (3 * modes) r)))
       go false q true r true s =
           no
           (fixed-not-unfixed (ltb-false code modes q) (ltb-true code (3 * modes) r) (ltb-true (getD assigned (pair-of modes code) modes) modes s))
@@ -88,29 +103,23 @@ module _ (modes : ℕ) (assigned : List ℕ) (code : ℕ) where
           }
 
   -- A slot under X or Y that isn't unfixed is fixed: it isn't empty.
-  pub never-empty : code < 3 * modes → slot-of modes assigned code ≡ 2 * modes → ⊥
-  never-empty h e =
-      go (ltb code modes) refl (ltb (getD assigned (pair-of modes code) modes) modes) refl
+  pub low-fixed : code < 3 * modes → is-fixed (slot-of modes assigned code) ≡ not (unfixed (slot-of modes assigned code))
+  unfolding is-fixed unfixed slot-of leaf-slot
+  low-fixed h = go (ltb code modes) (ltb code (3 * modes)) (lt-ltb code (3 * modes) h)
     where
-      go : (n : Bool) → ltb code modes ≡ n → (m : Bool) → ltb (getD assigned (pair-of modes code) modes) modes ≡ m → ⊥
-      go true q m s = omega (arith, slot-child (ltb-true code modes q))
-      go false q true s =
-          let some = ltb-true (getD assigned (pair-of modes code) modes) modes s in
-          omega (arith, slot-fixed (ltb-false code modes q) h some, parity-most)
-      go false q false s =
-          omega (
-            arith,
-            slot-without
-                (record { low = ltb-false code modes q; high = h; none = ltb-false (getD assigned (pair-of modes code) modes) modes s }),
-          )
+      leaf : (m even : Bool) (number : ℕ)
+          → is-fixed (cond m (fixed-leaf number) (cond even even-leaf odd-leaf)) ≡ not (unfixed (cond m (fixed-leaf number) (cond even even-leaf odd-leaf)))
+      leaf true even number = refl
+      leaf false true number = refl
+      leaf false false number = refl
 
-  pub low-fixed : code < 3 * modes → is-fixed modes (slot-of modes assigned code) ≡ not (unfixed modes (slot-of modes assigned code))
-  unfolding is-fixed
-  low-fixed h = go (unfixed modes (slot-of modes assigned code))
-    where
-      go : (b : Bool) → (not b && not (eqb (slot-of modes assigned code) (2 * modes))) ≡ not b
-      go true = refl
-      go false = rw (ne-eqb (slot-of modes assigned code) (2 * modes) (never-empty h))
+      of : Bool → Bool → Slot
+      of n l =
+          cond n (child-node code) (cond l (leaf-slot modes (getD assigned (pair-of modes code) modes) (parity-of modes code)) empty)
+
+      go : (n l : Bool) → l ≡ true → is-fixed (of n l) ≡ not (unfixed (of n l))
+      go true l e = refl
+      go false l e = rw e (leaf (ltb (getD assigned (pair-of modes code) modes) modes) (eqb (parity-of modes code) 0) _)
 
 -- The leaves of pair k.
 module _ (modes k : ℕ) where
@@ -136,7 +145,16 @@ module _ (modes k : ℕ) where
   pub odd-without : (assigned : List ℕ) → k < modes → modes ≤ getD assigned k modes → Without modes assigned (modes + 2 * k + 1)
   odd-without assigned h none = record { low = omega arith; high = omega arith; none = rw odd-pair none }
 
-pub edge-unfixed : (modes : ℕ) (table assigned : List ℕ) (node edge : ℕ) → Without modes assigned (child table node edge)
-    → unfixed modes (slot modes table assigned node edge) ≡ true
-unfolding slot
-edge-unfixed modes table assigned node edge w = without-unfixed modes assigned (child table node edge) w
+-- The slot of a node.
+module _ (modes : ℕ) (table assigned : List ℕ) (node edge : ℕ) where
+  pub edge-unfixed : Without modes assigned (child table node edge) → unfixed (slot modes table assigned node edge) ≡ true
+  unfolding slot
+  edge-unfixed w = without-unfixed modes assigned (child table node edge) w
+
+  pub edge-not-fixed : Without modes assigned (child table node edge) → is-fixed (slot modes table assigned node edge) ≡ false
+  unfolding slot
+  edge-not-fixed w = without-not-fixed modes assigned (child table node edge) w
+
+  pub edge-without : unfixed (slot modes table assigned node edge) ≡ true → Without modes assigned (child table node edge)
+  unfolding slot
+  edge-without e = unfixed-without modes assigned (child table node edge) e

@@ -1,16 +1,15 @@
 // The nodes of a round: those that remain, farthest from the root, and what the heuristic keeps of them.
 ghost use mathlib.Core.Path.{_≡_};
-ghost use mathlib.Core.Bool.{true, cond, _||_, not};
+ghost use mathlib.Core.Bool.{true, cond};
 ghost use mathlib.Core.List.{List, [], _∷_, _++_, map};
 ghost use Prim.Native.Nat.{ℕ, _+_, _*_, _≤_, _<_, max};
-ghost use lib.Dec.{eqb, ltb};
+ghost use lib.Dec.{ltb};
 ghost use lib.ListN.{length, take, drop};
 ghost use Rattle.lists.specs.Members.{every, «some-of», alike, firsts};
 ghost use Rattle.entities.specs.Limits.{«most-modes»};
 ghost use Rattle.slots.specs.Slots.{slots as «slots-at»};
 ghost use Rattle.slots.specs.Nodes.{
   distance as «distance-of»,
-  «is-fixed»,
   complete as «is-complete»,
   remaining,
   largest as «largest-of»,
@@ -18,6 +17,7 @@ ghost use Rattle.slots.specs.Nodes.{
   narrowed,
   active as «active-nodes»,
 };
+ghost use Rattle.slots.specs.code.Numbers.{«number-fixed»};
 ghost use Rattle.slots.specs.code.Promises.{Distances};
 use entities::Triple;
 use tree::table;
@@ -54,7 +54,7 @@ pub fn fill_distances(modes: usize, tree: &[u16], distances: &mut [usize])
 // The slot is a fixed leaf or a child.
 fn is_fixed(modes: usize, slot: u16) -> bool
     requires { ⌜ modes ≤ most-modes ⌝ }
-    ensures { λ r. ⌜ r ≡ is-fixed modes slot ⌝ }
+    ensures { λ r. ⌜ r ≡ number-fixed modes slot ⌝ }
 {
     if crate::unfixed(modes, slot) {
         return false;
@@ -77,17 +77,6 @@ fn complete(modes: usize, tree: &[u16], assigned: &[u16], node: usize) -> bool
     !crate::unfixed(modes, at.z)
 }
 
-// The node is on the round list: at first every node, then those that aren't complete.
-fn remains(modes: usize, tree: &[u16], assigned: &[u16], round: usize, node: usize) -> bool
-    requires { ⌜ (modes ≤ most-modes) × (length (now assigned) ≡ modes) × (length (now tree) ≡ 3 * modes) × (node < modes) ⌝ }
-    ensures { λ r. ⌜ r ≡ (eqb round 0 || not (is-complete modes (now (tree .entry)) (now (assigned .entry)) node)) ⌝ }
-{
-    if round == 0 {
-        return true;
-    }
-    !complete(modes, tree, assigned, node)
-}
-
 // A number put behind the first so many where it is to stay; how many there are then.
 pub fn put_if(numbers: &mut [u16], count: usize, number: u16, stays: bool) -> usize
     requires { ⌜ count < length (now numbers) ⌝ }
@@ -100,21 +89,15 @@ pub fn put_if(numbers: &mut [u16], count: usize, number: u16, stays: bool) -> us
     count + 1
 }
 
-// The nodes on the round list, ascending; how many there are.
-fn fill_remaining(
-    modes: usize,
-    tree: &[u16],
-    assigned: &[u16],
-    round: usize,
-    left: &mut [u16],
-) -> usize
+// The nodes that aren't complete, ascending; how many there are.
+fn fill_remaining(modes: usize, tree: &[u16], assigned: &[u16], left: &mut [u16]) -> usize
     requires { ⌜ (modes ≤ most-modes) × (length (now assigned) ≡ modes) × (length (now tree) ≡ 3 * modes) × (modes ≤ length (now left)) ⌝ }
-    ensures { λ r. ⌜ (r ≤ modes) × (take r (now (left .exit)) ≡ remaining modes (now (tree .entry)) round (now (assigned .entry))) ⌝ }
+    ensures { λ r. ⌜ (r ≤ modes) × (take r (now (left .exit)) ≡ remaining modes (now (tree .entry)) (now (assigned .entry))) ⌝ }
 {
     let mut count = 0;
     let mut node = 0;
     while node < modes {
-        let stays = remains(modes, tree, assigned, round, node);
+        let stays = !complete(modes, tree, assigned, node);
         count = put_if(left, count, node as u16, stays);
         node += 1;
     }
@@ -278,16 +261,15 @@ pub fn fill_active(
     tree: &[u16],
     distances: &[usize],
     heuristic: usize,
-    round: usize,
     assigned: &[u16],
     active: &mut [u16],
 ) -> usize
     requires { ⌜ (modes ≤ most-modes) × (length (now assigned) ≡ modes) × (length (now tree) ≡ 3 * modes) × (modes ≤ length (now active)) ⌝ }
     requires { ⌜ Distances modes (now tree) (now distances) ⌝ }
-    ensures { λ r. ⌜ (r ≤ modes) × (take r (now (active .exit)) ≡ active-nodes modes (now (tree .entry)) heuristic round (now (assigned .entry))) ⌝ }
+    ensures { λ r. ⌜ (r ≤ modes) × (take r (now (active .exit)) ≡ active-nodes modes (now (tree .entry)) heuristic (now (assigned .entry))) ⌝ }
 {
     let mut left = [0u16; 256];
-    let remaining = fill_remaining(modes, tree, assigned, round, &mut left);
+    let remaining = fill_remaining(modes, tree, assigned, &mut left);
     let mut far = [0u16; 256];
     let count = fill_far(modes, distances, &left[..remaining], &mut far);
     fill_narrowed(modes, tree, assigned, heuristic, &far[..count], active)

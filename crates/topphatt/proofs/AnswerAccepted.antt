@@ -28,9 +28,7 @@ use Rattle.tree.proofs.EachHosts.{host, host-pair}
 use Rattle.slots.specs.Slots.{parity-of}
 use Rattle.slots.proofs.SlotCases.{even-pair, odd-pair, even-parity, odd-parity}
 use Rattle.topphatt.specs.Answer.{answer-table}
-use Rattle.topphatt.specs.Rounds.{Task, ended}
 use Rattle.topphatt.specs.Assignment.{AllAssigned}
-use Rattle.topphatt.proofs.RoundsGo.{all-assigned}
 use Rattle.topphatt.proofs.AnswerShape.{relabelled, node-kept, absent-kept, mode-of, mode-below, leaf-relabelled, answer-at, answer-length, pair-with, node-same, node-counts, same-shape}
 
 module _ (modes : ℕ) (table assigned : List ℕ) (all : AllAssigned modes table assigned) (fits : 3 * modes ≤ absent) where
@@ -203,9 +201,3 @@ module _ (modes : ℕ) (table assigned : List ℕ) (all : AllAssigned modes tabl
           one = says-one-tree modes answer (root-of modes table) answer-says;
           right = omega (arith, pairs-lead modes answer answer-pairs);
         })
-
--- After all rounds.
-pub answer-accepted : (most : ℕ) (task : Task) → tree-checked most (task .job .modes) (task .table) ≡ Accepted → 3 * task .job .modes + 2 < 65536
-    → tree-checked most (task .job .modes) (answer-table (task .job .modes) (ended task .assigned) (task .table)) ≡ Accepted
-answer-accepted most task accepted few =
-    accepted-still (task .job .modes) (task .table) (ended task .assigned) (all-assigned most task accepted few) (omega arith) most accepted

@@ -13,26 +13,24 @@ use Rattle.lists.proofs.Tests.{same-or-not}
 use Rattle.lists.proofs.Sums.{same-one, same-none}
 use Rattle.lists.proofs.Replaced.{occurrences-map}
 use Rattle.lists.proofs.Occurring.{occurs-twice}
-use Rattle.entities.specs.Codes.{code, absent}
+use Rattle.entities.specs.Codes.{child-code, absent}
 use Rattle.tree.specs.declared.TreeChecked.the-variants.{Accepted}
 use Rattle.tree.specs.Table.{place-of}
 use Rattle.tree.specs.Check.{tree-checked}
 use Rattle.tree.proofs.Standing.{place-within, stands-there}
 use Rattle.tree.proofs.AcceptedTree.{accepted-says}
-use Rattle.slots.specs.Slots.{pair-of, parity-of, slot-of}
+use Rattle.slots.specs.Slots.{pair-of, parity-of, slot-of, stands-as}
 use Rattle.slots.proofs.SlotCases.{slot-child, slot-empty, slot-fixed, pair-below}
 use Rattle.topphatt.specs.Answer.{answer-table}
-use Rattle.topphatt.specs.Rounds.{Task, ended}
 use Rattle.topphatt.specs.Assignment.{AllAssigned, SameShape}
-use Rattle.topphatt.proofs.RoundsGo.{all-assigned}
 
 -- What the answer has in place of a code.
 unfoldable pub relabelled : ℕ → List ℕ → ℕ → ℕ
-relabelled modes assigned given = code modes (2 * modes) (slot-of modes assigned given)
+relabelled modes assigned given = child-code modes (2 * modes) (stands-as modes (slot-of modes assigned given))
 
 module _ (modes : ℕ) (table assigned : List ℕ) (all : AllAssigned modes table assigned) (fits : 3 * modes ≤ absent) where
   pub node-kept : (given : ℕ) → given < modes → relabelled modes assigned given ≡ given
-  unfolding relabelled code
+  unfolding relabelled child-code stands-as
   node-kept given h =
       let e = slot-child modes assigned given h in
       let back : 2 * modes + 1 + given - (2 * modes + 1) ≡ given = omega arith in
@@ -40,7 +38,7 @@ module _ (modes : ℕ) (table assigned : List ℕ) (all : AllAssigned modes tabl
       (e, ne-eqb (2 * modes + 1 + given) (2 * modes) (λ q. absurd (omega arith)), le-ltb (2 * modes + 1 + given) (2 * modes + 1) (omega arith), back)
 
   pub absent-kept : (given : ℕ) → 3 * modes ≤ given → relabelled modes assigned given ≡ absent
-  unfolding relabelled code
+  unfolding relabelled child-code stands-as
   absent-kept given h = rw (slot-empty modes assigned given h, eq-eqb (2 * modes) (2 * modes) refl)
 
   -- The mode of a leaf's pair.
@@ -52,13 +50,13 @@ module _ (modes : ℕ) (table assigned : List ℕ) (all : AllAssigned modes tabl
   mode-below given low high = all .inside (pair-of modes given) (pair-below modes assigned given low high)
 
   pub leaf-relabelled : (given : ℕ) → modes ≤ given → given < 3 * modes → relabelled modes assigned given ≡ modes + 2 * mode-of given + parity-of modes given
-  unfolding relabelled code mode-of parity-of
+  unfolding relabelled child-code stands-as mode-of parity-of
   leaf-relabelled given low high =
+      let leaf = 2 * mode-of given + parity-of modes given in
       let m = mode-below given low high in
-      let e = slot-fixed modes assigned given low high m in
-      let small : slot-of modes assigned given < 2 * modes = omega arith in
+      let small : leaf < 2 * modes = omega arith in
       rw
-      (ne-eqb (slot-of modes assigned given) (2 * modes) (λ q. absurd (omega arith)), lt-ltb (slot-of modes assigned given) (2 * modes + 1) (omega arith))
+      (slot-fixed modes assigned given low high m, ne-eqb leaf (2 * modes) (λ q. absurd (omega arith)), lt-ltb leaf (2 * modes + 1) (omega arith))
       (omega arith)
 
   -- A place of the answer.
@@ -139,7 +137,7 @@ module _ (modes : ℕ) (table assigned : List ℕ) (all : AllAssigned modes tabl
 
   pub answer-length : length (answer-table modes assigned table) ≡ length table
   unfolding answer-table
-  answer-length = length-map table (λ given. code modes (2 * modes) (slot-of modes assigned given))
+  answer-length = length-map table (λ given. child-code modes (2 * modes) (stands-as modes (slot-of modes assigned given)))
 
   leaf-counts : (sought k : ℕ) → modes ≤ sought → sought < 3 * modes → k < modes → getD assigned k modes ≡ pair-of modes sought
       → occurrences sought (answer-table modes assigned table) ≡ occurrences (modes + 2 * k + parity-of modes sought) table
@@ -167,9 +165,3 @@ module _ (modes : ℕ) (table assigned : List ℕ) (all : AllAssigned modes tabl
               ∙ accepted-says most modes table accepted .leaf-once (modes + 2 * from .0 + parity-of modes sought) (omega arith)
               (omega (arith, from .1));
         }
-
--- After all rounds.
-pub answer-shape : (most : ℕ) (task : Task) → tree-checked most (task .job .modes) (task .table) ≡ Accepted → 3 * task .job .modes + 2 < 65536
-    → SameShape (task .job .modes) (task .table) (answer-table (task .job .modes) (ended task .assigned) (task .table))
-answer-shape most task accepted few =
-    same-shape (task .job .modes) (task .table) (ended task .assigned) (all-assigned most task accepted few) (omega arith) most accepted

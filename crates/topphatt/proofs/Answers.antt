@@ -1,5 +1,5 @@
 -- Each return is one case of the answer.
-use mathlib.Core.Path.{_≡_, refl, ap, _∙_}
+use mathlib.Core.Path.{_≡_, ap, _∙_}
 use mathlib.Core.List.{List}
 use Prim.Native.Nat.{ℕ, _*_, _<_, _≤_}
 use borrow.Author.Tests.{le-leb, lt-leb}
@@ -12,8 +12,8 @@ use Rattle.terms.proofs.RowSteps.{length-terms}
 use Rattle.topphatt.specs.declared.Assigned.{Assigned}
 use Rattle.topphatt.specs.declared.Assigned.the-variants.{Weight, Unassigned}
 use Rattle.topphatt.specs.Rounds.{Task, ended}
-use Rattle.topphatt.specs.Answer.{Outcome, done, refused, answer-table, Asked, task-of, Rooms, done-by, with-room}
-use Rattle.topphatt.specs.Promises.{numbers-of, told-numbers, returned, Lent, lent, lent-then, Assigns}
+use Rattle.topphatt.specs.Answer.{Outcome, refused, answer-table, Asked, task-of, Rooms, done-by, with-room}
+use Rattle.topphatt.specs.Promises.{numbers-of, returned, Lent, lent, lent-then, Assigns}
 
 -- Whatever is lent, a room that is too small refuses, and else the answer is that of the rounds.
 module _ (rooms : Rooms) (call : Asked) (count : ℕ) where
@@ -31,15 +31,9 @@ module _ (rooms : Rooms) (call : Asked) (count : ℕ) where
   room-done h k =
       rw (length-terms 8 count (call .numbers), le-leb (8 * count) (rooms .work) h, le-leb (3 * call .modes) (rooms .table) k)
 
--- The numbers of an answer are those of its meaning.
-numbers-so : (outcome : Outcome) → numbers-of (returned outcome) ≡ told-numbers outcome
-unfolding numbers-of told-numbers returned
-numbers-so (done count weight codes) = refl
-numbers-so (refused refusal) = refl
-
 module _ (meant : Lent → Outcome) (before : Lent) where
   assigns : (after : Lent) (r : Assigned) → r ≡ returned (meant before) → after ≡ lent-then (meant before) before → Assigns meant before after r
-  assigns after r e l = record { answer = e; numbers = ap numbers-of e ∙ numbers-so (meant before); leaves = l }
+  assigns after r e l = record { answer = e; numbers = ap numbers-of e; leaves = l }
 
   -- A refusal leaves what is lent as it is.
   pub refused-so : (refusal : Refusal) → meant before ≡ refused refusal → Assigns meant before before (Unassigned refusal)
@@ -51,7 +45,7 @@ module _ (meant : Lent → Outcome) (before : Lent) where
       → Assigns meant before after r → Assigns other before after r
   assigns-so other after r e a = record {
     answer = a .answer ∙ ap returned e;
-    numbers = a .numbers ∙ ap told-numbers e;
+    numbers = a .numbers ∙ ap (λ outcome. numbers-of (returned outcome)) e;
     leaves = a .leaves ∙ ap (λ outcome. lent-then outcome before) e;
   }
 

@@ -2,19 +2,18 @@
 use mathlib.Core.Path.{_≡_}
 use mathlib.Core.Bool.{true, false}
 use mathlib.Core.List.{List}
-use Prim.Native.Nat.{ℕ, _-_, _/_}
+use Prim.Native.Nat.{ℕ, _/_}
 use lib.ListN.{set}
 use Rattle.tree.specs.Table.{child}
-use Rattle.slots.specs.Slots.{slot, slot-of, unfixed, pair-of}
+use Rattle.slots.specs.Slots.{slot, unfixed, pair-of}
 use Rattle.topphatt.specs.Rounds.{fixed}
 
 module _ (modes : ℕ) (table : List ℕ) (node edge number : ℕ) (assigned : List ℕ) where
-  pub fixed-not : unfixed modes (slot-of modes assigned (child table node edge)) ≡ false
-      → fixed modes table node edge number assigned ≡ assigned
-  unfolding fixed slot
+  pub fixed-not : unfixed (slot modes table assigned node edge) ≡ false → fixed modes table node edge number assigned ≡ assigned
+  unfolding fixed
   fixed-not e = rw e
 
-  pub fixed-set : unfixed modes (slot-of modes assigned (child table node edge)) ≡ true
-      → fixed modes table node edge number assigned ≡ set assigned ((child table node edge - modes) / 2) (number / 2)
-  unfolding fixed slot pair-of
+  pub fixed-set : unfixed (slot modes table assigned node edge) ≡ true
+      → fixed modes table node edge number assigned ≡ set assigned (pair-of modes (child table node edge)) (number / 2)
+  unfolding fixed
   fixed-set e = rw e

@@ -1,7 +1,5 @@
 -- Two answers that the promise of `assign` allows are equal, and so is every number that they leave.
 use mathlib.Core.Path.{_≡_, sym, _∙_}
-use mathlib.Core.List.{List}
-use Prim.Native.Nat.{ℕ}
 use Rattle.topphatt.specs.declared.Assigned.{Assigned}
 use Rattle.topphatt.specs.Answer.{Outcome}
 use Rattle.topphatt.specs.Promises.{Lent, Assigns}

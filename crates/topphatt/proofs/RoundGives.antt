@@ -3,22 +3,20 @@ use mathlib.Core.Path.{_≡_, refl, ap, _∙_, sym}
 use mathlib.Core.Bool.{Bool, true, false}
 use mathlib.Core.List.{List, List·Memᴰ}
 use mathlib.Core.Logic.{⊎-elim}
-use Prim.Native.Nat.{ℕ, _*_, _/_, _<_, _≤_}
+use Prim.Native.Nat.{ℕ, _/_, _<_}
 use native.Mathlib.Omega.{arith}
-use lib.Dec.{eqb}
 use lib.ListN.{getD, set}
 use lib.Seq.{getD-set-same, getD-set-other}
 use Rattle.lists.specs.Counting.{occurrences}
 use Rattle.lists.proofs.Occurring.{none-occurs}
 use Rattle.entities.specs.declared.Triple.{Triple}
-use Rattle.entities.specs.Codes.{absent}
 use Rattle.tree.specs.declared.TreeChecked.the-variants.{Accepted}
 use Rattle.tree.specs.Table.{child}
 use Rattle.tree.specs.Check.{tree-checked}
-use Rattle.slots.specs.Slots.{pair-of, parity-of, slot-of, slot, unfixed, leaf-of}
+use Rattle.slots.specs.Slots.{pair-of, slot-of, slot, unfixed, leaf-of}
 use Rattle.slots.specs.Nodes.{active}
 use Rattle.slots.proofs.ActiveNodes.{of-active}
-use Rattle.slots.proofs.SlotCases.{Without, slot-without, without-unfixed, unfixed-without, fixed-not-unfixed, pair-below, even-pair, odd-pair, even-without, edge-unfixed}
+use Rattle.slots.proofs.SlotCases.{Without, without-leaf, parity-most, without-unfixed, fixed-not-unfixed, pair-below, even-pair, odd-pair, even-without, edge-unfixed, edge-without}
 use Rattle.slots.proofs.ActiveSlots.{PairHere, OnlyZ, active-slots, here-unfixed}
 use Rattle.choice.specs.Choices.{unassigned, without, numbers, choices-at}
 use Rattle.choice.specs.Choice.{Choice, candidates}
@@ -27,28 +25,18 @@ use Rattle.choice.proofs.ChosenRight.{of-candidates}
 use Rattle.topphatt.specs.Rounds.{fixed, fixed-by}
 use Rattle.topphatt.specs.Assignment.{Fair, Given}
 use Rattle.topphatt.proofs.FairCounts.{given, given-twice, others-stay}
-
-module _ (modes : ℕ) (table : List ℕ) (node edge number : ℕ) (assigned : List ℕ) where
-  stays-fixed : unfixed modes (slot modes table assigned node edge) ≡ false → fixed modes table node edge number assigned ≡ assigned
-  unfolding fixed
-  stays-fixed e = rw e
-
-  gets-fixed : Without modes assigned (child table node edge)
-      → fixed modes table node edge number assigned ≡ set assigned (pair-of modes (child table node edge)) (number / 2)
-  unfolding fixed slot
-  gets-fixed w = rw (without-unfixed modes assigned (child table node edge) w)
+use Rattle.topphatt.proofs.FixedSteps.{fixed-not, fixed-set}
 
 -- The leaf that an unfixed slot takes of a mode is one of the mode's two.
-leaf-mode : (modes : ℕ) (assigned : List ℕ) (code mode : ℕ) → Without modes assigned code → leaf-of modes (slot-of modes assigned code) mode / 2 ≡ mode
-unfolding leaf-of parity-of
-leaf-mode modes assigned code mode w = omega (arith, slot-without modes assigned code w)
+leaf-mode : (modes : ℕ) (assigned : List ℕ) (code mode : ℕ) → Without modes assigned code → leaf-of (slot-of modes assigned code) mode / 2 ≡ mode
+leaf-mode modes assigned code mode w = omega (arith, without-leaf modes assigned code w mode, parity-most modes assigned code)
 
 module _ (modes : ℕ) (table : List ℕ) (node : ℕ) where
   -- A Z leaf without a mode is given one that no pair has.
   z-given : (assigned : List ℕ) (number mode : ℕ) → Fair modes assigned → Without modes assigned (child table node 2) → number / 2 ≡ mode → mode < modes
       → occurrences mode assigned ≡ 0 → Given modes assigned (fixed modes table node 2 number assigned)
   z-given assigned number mode fair w half low new =
-      rw (gets-fixed modes table node 2 number assigned w, half)
+      rw (fixed-set modes table node 2 number assigned (edge-unfixed modes table assigned node 2 w), half)
       (given modes assigned fair (pair-of modes (child table node 2)) mode (pair-below modes assigned (child table node 2) (w .low) (w .high)) (w .none) low new)
 
   module _ (assigned : List ℕ) (fair : Fair modes assigned) where
@@ -60,7 +48,7 @@ module _ (modes : ℕ) (table : List ℕ) (node : ℕ) where
         → Given modes assigned (fixed-by modes table (record { node = node; triple = triple }) assigned)
     unfolding fixed-by slot
     single-gives triple only m =
-        rw (stays-fixed modes table node 0 (triple .x) assigned (only .x-fixed), stays-fixed modes table node 1 (triple .y) assigned (only .y-fixed))
+        rw (fixed-not modes table node 0 (triple .x) assigned (only .x-fixed), fixed-not modes table node 1 (triple .y) assigned (only .y-fixed))
         (⊎-elim
         (λ leaf.
         let new = free-new (leaf .1 .1) in
@@ -86,12 +74,12 @@ module _ (modes : ℕ) (table : List ℕ) (node : ℕ) where
       unfolding paired
       mode-now = getD-set-same assigned k mode modes (omega (arith, fair .whole, here .inside))
 
-      x-sets : fixed modes table node 0 (leaf-of modes (slot modes table assigned node 0) mode) assigned ≡ paired
+      x-sets : fixed modes table node 0 (leaf-of (slot modes table assigned node 0) mode) assigned ≡ paired
       unfolding paired slot
       x-sets =
           let w : Without modes assigned (child table node 0) = rw (here .x-is) (even-without modes k assigned (here .inside) (here .none)) in
           let pair : pair-of modes (child table node 0) ≡ k = ap (pair-of modes) (here .x-is) ∙ even-pair modes k in
-          gets-fixed modes table node 0 (leaf-of modes (slot-of modes assigned (child table node 0)) mode) assigned w
+          fixed-set modes table node 0 (leaf-of (slot-of modes assigned (child table node 0)) mode) assigned (edge-unfixed modes table assigned node 0 w)
           ∙ rw (pair, leaf-mode modes assigned (child table node 0) mode w)
 
       y-stays : (number : ℕ) → fixed modes table node 1 number paired ≡ paired
@@ -99,7 +87,7 @@ module _ (modes : ℕ) (table : List ℕ) (node : ℕ) where
       y-stays number =
           let pair : pair-of modes (child table node 1) ≡ k = ap (pair-of modes) (here .y-is) ∙ odd-pair modes k in
           let has : getD paired (pair-of modes (child table node 1)) modes < modes = rw pair (omega (arith, mode-now, free-new member .0)) in
-          stays-fixed modes table node 1 number paired
+          fixed-not modes table node 1 number paired
           (fixed-not-unfixed modes paired (child table node 1) (omega (arith, here .y-is)) (omega (arith, here .y-is, here .inside)) has)
 
       -- A Z leaf that has no mode now had none before: it isn't of the pair.
@@ -114,11 +102,7 @@ module _ (modes : ℕ) (table : List ℕ) (node : ℕ) where
             none = rw (getD-set-other assigned k (pair-of modes (child table node 2)) mode modes other) at (w .none);
           }
 
-      z-open : unfixed modes (slot modes table paired node 2) ≡ true → Without modes paired (child table node 2)
-      unfolding slot
-      z-open e = unfixed-without modes paired (child table node 2) e
-
-      z-half : Without modes assigned (child table node 2) → (other : ℕ) → leaf-of modes (slot modes table assigned node 2) other / 2 ≡ other
+      z-half : Without modes assigned (child table node 2) → (other : ℕ) → leaf-of (slot modes table assigned node 2) other / 2 ≡ other
       unfolding slot
       z-half v other = leaf-mode modes assigned (child table node 2) other v
 
@@ -129,10 +113,10 @@ module _ (modes : ℕ) (table : List ℕ) (node : ℕ) where
           others-stay modes assigned fair k mode (here .inside) (here .none) (new .0) (new .1) other low apart
 
       z-gives : (number : ℕ) → List·Memᴰ number (numbers modes (slot modes table assigned node 2) (without mode (unassigned modes assigned)))
-          → (b : Bool) → unfixed modes (slot modes table paired node 2) ≡ b → Given modes assigned (fixed modes table node 2 number paired)
-      z-gives number m false q = rw (stays-fixed modes table node 2 number paired q) first-given
+          → (b : Bool) → unfixed (slot modes table paired node 2) ≡ b → Given modes assigned (fixed modes table node 2 number paired)
+      z-gives number m false q = rw (fixed-not modes table node 2 number paired q) first-given
       z-gives number m true q =
-          let w : Without modes paired (child table node 2) = z-open q in
+          let w : Without modes paired (child table node 2) = edge-without modes table paired node 2 q in
           let v = z-before w in
           ⊎-elim
           (λ leaf.
@@ -148,30 +132,30 @@ module _ (modes : ℕ) (table : List ℕ) (node : ℕ) where
           absurd (omega arith))
           (of-numbers modes (slot modes table assigned node 2) (without mode (unassigned modes assigned)) m)
 
-      pair-gives : (triple : Triple) → triple .x ≡ leaf-of modes (slot modes table assigned node 0) mode
+      pair-gives : (triple : Triple) → triple .x ≡ leaf-of (slot modes table assigned node 0) mode
           → List·Memᴰ (triple .z) (numbers modes (slot modes table assigned node 2) (without mode (unassigned modes assigned)))
           → Given modes assigned (fixed-by modes table (record { node = node; triple = triple }) assigned)
       unfolding fixed-by
       pair-gives triple x-is m =
-          rw (x-is, x-sets, y-stays (triple .y)) (z-gives (triple .z) m (unfixed modes (slot modes table paired node 2)) refl)
+          rw (x-is, x-sets, y-stays (triple .y)) (z-gives (triple .z) m (unfixed (slot modes table paired node 2)) refl)
 
-module _ (most modes : ℕ) (table : List ℕ) (accepted : tree-checked most modes table ≡ Accepted) (fits : 3 * modes ≤ absent)
-    (heuristic round : ℕ) (assigned : List ℕ) (fresh : eqb round 0 ≡ true → (k : ℕ) → modes ≤ getD assigned k modes) (fair : Fair modes assigned) where
+module _ (most modes : ℕ) (table : List ℕ) (accepted : tree-checked most modes table ≡ Accepted)
+    (heuristic : ℕ) (assigned : List ℕ) (fair : Fair modes assigned) where
   -- Of an active node's X and Y slots both are unfixed or neither is.
-  pub slots-together : (node : ℕ) → List·Memᴰ node (active modes table heuristic round assigned)
-      → unfixed modes (slot modes table assigned node 0) ≡ unfixed modes (slot modes table assigned node 1)
+  pub slots-together : (node : ℕ) → List·Memᴰ node (active modes table heuristic assigned)
+      → unfixed (slot modes table assigned node 0) ≡ unfixed (slot modes table assigned node 1)
   slots-together node m =
       ⊎-elim
       (λ (here : (k : ℕ) × PairHere modes table assigned node k).
       let both = here-unfixed modes table assigned node (here .0) (here .1) in both .0 ∙ sym (both .1))
       (λ (only : OnlyZ modes table assigned node). only .x-fixed ∙ sym (only .y-fixed))
-      (active-slots most modes table accepted fits heuristic round assigned fresh node (of-active modes table heuristic round assigned m))
+      (active-slots most modes table accepted heuristic assigned node (of-active modes table heuristic assigned m))
 
-  pub choice-gives : (choice : Choice) → List·Memᴰ choice (candidates modes table heuristic round assigned)
+  pub choice-gives : (choice : Choice) → List·Memᴰ choice (candidates modes table heuristic assigned)
       → Given modes assigned (fixed-by modes table choice assigned)
   unfolding choices-at
   choice-gives choice m =
-      let from = of-candidates modes table heuristic round assigned m in
+      let from = of-candidates modes table heuristic assigned m in
       let node = choice .node in
       let x = slot modes table assigned node 0 in
       let y = slot modes table assigned node 1 in
@@ -197,4 +181,4 @@ module _ (most modes : ℕ) (table : List ℕ) (accepted : tree-checked most mod
       absurd (omega arith))
       (λ (c : Singly modes free x y z (choice .triple)). single-gives modes table node assigned fair (choice .triple) only (c .z-is))
       (of-choices modes free x y z (from .1)))
-      (active-slots most modes table accepted fits heuristic round assigned fresh node (of-active modes table heuristic round assigned (from .0)))
+      (active-slots most modes table accepted heuristic assigned node (of-active modes table heuristic assigned (from .0)))

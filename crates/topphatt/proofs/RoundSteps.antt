@@ -7,27 +7,26 @@ use native.Mathlib.Nat.{sub-zero}
 use native.Mathlib.Omega.{arith}
 use lib.Dec.{eqb}
 use lib.ListN.{length, replicate}
-use Rattle.lists.specs.Least.{least-of}
+use Rattle.lists.specs.Least.{best-of}
 use Rattle.terms.specs.Rows.{terms-of}
 use Rattle.terms.specs.Weight.{weight-of}
 use Rattle.terms.specs.Reduction.{reduction, live}
 use Rattle.terms.proofs.AsTold.{live-weight}
 use Rattle.choice.specs.Choices.{unassigned}
-use Rattle.choice.specs.Choice.{Choice, candidates, packed, rank, chosen}
+use Rattle.choice.specs.Choice.{Choice, candidates, better, chosen}
 use Rattle.topphatt.specs.declared.rounds.Progress.{Progress}
 use Rattle.topphatt.specs.Rounds.{Rounds, Task, before, fixed-by, after, choice-in, next, rounds, ended}
 use Rattle.topphatt.specs.code.Going.{task-with, state-of}
 
 pub stepped : (task : Task) (rows assigned : List ℕ) (progress : Progress) (now-rows now-assigned : List ℕ) (r : Progress) (choice : Choice)
     → choice ≡ choice-in task (state-of rows assigned progress)
-    → r .round ≡ suc (progress .round)
     → now-assigned ≡ fixed-by (task .job .modes) (task .table) choice assigned
     → terms-of 8 (r .count) now-rows ≡ reduction (choice .triple) (2 * task .job .modes + 1 + choice .node) (terms-of 8 (progress .count) rows)
     → r .weight ≡ progress .weight + weight-of (choice .triple) (terms-of 8 (progress .count) rows)
     → state-of now-rows now-assigned r ≡ next task (state-of rows assigned progress)
 unfolding state-of next after
-stepped task rows assigned progress now-rows now-assigned r choice right turn fixing reducing weighing =
-    rw (← right, turn, fixing, reducing, weighing)
+stepped task rows assigned progress now-rows now-assigned r choice right fixing reducing weighing =
+    rw (← right, fixing, reducing, weighing)
 
 module _ (task : Task) where
   module _ (state : Rounds) (at : ℕ) where
@@ -56,10 +55,10 @@ unfolding state-of
 state-assigned rows assigned progress = refl
 
 -- A choice among the rows that are there is the choice among all: a row that is gone weighs nothing.
-pub chosen-live : (modes : ℕ) (table : List ℕ) (heuristic round : ℕ) (assigned : List ℕ) (rows : List (List ℕ))
-    → chosen modes table heuristic round assigned (live rows) ≡ chosen modes table heuristic round assigned rows
-unfolding chosen rank
-chosen-live modes table heuristic round assigned rows =
+pub chosen-live : (modes : ℕ) (table : List ℕ) (heuristic : ℕ) (assigned : List ℕ) (rows : List (List ℕ))
+    → chosen modes table heuristic assigned (live rows) ≡ chosen modes table heuristic assigned rows
+unfolding chosen better
+chosen-live modes table heuristic assigned rows =
     let none : Choice = record { node = 0; triple = record { x = 0; y = 0; z = 0 } } in
-    ap (λ measure. least-of measure none (candidates modes table heuristic round assigned))
-    (fun-ext (λ choice. ap (λ weight. weight * 281474976710656 + (281474976710655 - packed (choice .triple))) (live-weight (choice .triple) rows)))
+    ap (λ test. best-of test none (candidates modes table heuristic assigned))
+    (fun-ext (λ c. fun-ext (λ d. rw (live-weight (c .triple) rows, live-weight (d .triple) rows))))

@@ -8,25 +8,24 @@ use Prim.Native.Nat.{ℕ, _+_, _*_, _<_, _≤_}
 use native.Mathlib.Omega.{arith}
 use borrow.Author.Tests.{ltb-true, ltb-false, ne-eqb}
 use lib.Dec.{eqb, ltb}
-use lib.ListN.{length, getD}
+use lib.ListN.{length}
 use Rattle.lists.proofs.Tests.{same-or-not}
 use Rattle.lists.proofs.Membership.{kept, joined}
 use Rattle.lists.specs.Ordered.{Ascending}
 use Rattle.lists.proofs.Ordered.{counted-ascends, kept-ascends}
 use Rattle.lists.proofs.Narrowing.{some-member, member-of-some}
-use Rattle.entities.specs.Codes.{absent}
 use Rattle.tree.specs.declared.TreeChecked.the-variants.{Accepted}
 use Rattle.tree.specs.Table.{child}
 use Rattle.tree.specs.Pairs.{chain-end}
 use Rattle.tree.specs.Check.{tree-checked}
 use Rattle.tree.proofs.TableSteps.{chain-rests}
 use Rattle.tree.proofs.EachHosts.{host, host-pair, child-apart}
-use Rattle.slots.specs.Slots.{pair-of, slot, unfixed, leaf-of}
+use Rattle.slots.specs.Slots.{Slot, pair-of, slot, unfixed, leaf-of, stands-as}
 use Rattle.slots.specs.Nodes.{active, complete}
 use Rattle.slots.proofs.ActiveNodes.{Active, of-active, some-active}
-use Rattle.slots.proofs.SlotCases.{Without, unfixed-without, pair-below, even-without, edge-unfixed}
+use Rattle.slots.proofs.SlotCases.{Without, pair-below, even-without, edge-unfixed, edge-not-fixed, edge-without}
 use Rattle.slots.proofs.Distances.{chain-holder}
-use Rattle.slots.proofs.ActiveSlots.{PairHere, OnlyZ, active-slots, here-unfixed, left-incomplete, z-incomplete, x-incomplete}
+use Rattle.slots.proofs.ActiveSlots.{PairHere, OnlyZ, active-slots, here-unfixed, z-incomplete, x-incomplete}
 use Rattle.choice.specs.Choices.{unassigned, without, numbers, with-z, choices, choices-at}
 use Rattle.choice.specs.Choice.{candidates}
 use Rattle.topphatt.specs.Assignment.{Fair}
@@ -34,27 +33,27 @@ use Rattle.topphatt.proofs.FairCounts.{pair-without, two-left}
 
 module _ (modes : ℕ) where
   -- A slot has a number where it isn't unfixed, and where a mode is free.
-  fixed-number : (slot : ℕ) (free : List ℕ) → unfixed modes slot ≡ false → List·Memᴰ slot (numbers modes slot free)
+  fixed-number : (slot : Slot) (free : List ℕ) → unfixed slot ≡ false → List·Memᴰ (stands-as modes slot) (numbers modes slot free)
   unfolding numbers
   fixed-number slot free e = rw e (List·Memᴰ·head refl)
 
-  free-number : (slot mode : ℕ) (free : List ℕ) → unfixed modes slot ≡ true → List·Memᴰ mode free → List·Memᴰ (leaf-of modes slot mode) (numbers modes slot free)
+  free-number : (slot : Slot) (mode : ℕ) (free : List ℕ) → unfixed slot ≡ true → List·Memᴰ mode free → List·Memᴰ (leaf-of slot mode) (numbers modes slot free)
   unfolding numbers
-  free-number slot mode free e m = rw e (Memᴰ·map (leaf-of modes slot) m)
+  free-number slot mode free e m = rw e (Memᴰ·map (leaf-of slot) m)
 
-  pair-choice : (free : List ℕ) (x y z mode number : ℕ) → unfixed modes x ≡ true → unfixed modes y ≡ true → List·Memᴰ mode free
+  pair-choice : (free : List ℕ) (x y z : Slot) (mode number : ℕ) → unfixed x ≡ true → unfixed y ≡ true → List·Memᴰ mode free
       → List·Memᴰ number (numbers modes z (without mode free)) → 0 < length (choices modes free x y z)
   unfolding choices with-z
   pair-choice free x y z mode number ex ey m n =
       rw (ex, ey)
       (some-member
-      (joined (λ v. with-z (leaf-of modes x v) (leaf-of modes y v) (numbers modes z (without v free))) free m
-      (Memᴰ·map (λ v. record { x = leaf-of modes x mode; y = leaf-of modes y mode; z = v }) n)))
+      (joined (λ v. with-z (leaf-of x v) (leaf-of y v) (numbers modes z (without v free))) free m
+      (Memᴰ·map (λ v. record { x = leaf-of x mode; y = leaf-of y mode; z = v }) n)))
 
-  single-choice : (free : List ℕ) (x y z number : ℕ) → unfixed modes x ≡ false → List·Memᴰ number (numbers modes z free)
+  single-choice : (free : List ℕ) (x y z : Slot) (number : ℕ) → unfixed x ≡ false → List·Memᴰ number (numbers modes z free)
       → 0 < length (choices modes free x y z)
   unfolding choices with-z
-  single-choice free x y z number ex n = rw ex (some-member (Memᴰ·map (λ v. record { x = x; y = y; z = v }) n))
+  single-choice free x y z number ex n = rw ex (some-member (Memᴰ·map (λ v. record { x = stands-as modes x; y = stands-as modes y; z = v }) n))
 
   -- Of two free modes the second is left when the first is taken.
   second-left : (free : List ℕ) → Ascending _<_ free → 2 ≤ length free → (mode : ℕ) × (other : ℕ) × List·Memᴰ mode free × List·Memᴰ other (without mode free)
@@ -82,8 +81,7 @@ module _ (most modes : ℕ) (table : List ℕ) (accepted : tree-checked most mod
       absurd (omega (arith, child-apart most modes table accepted node 2 node 1 h (omega arith) h (omega arith) (odd ∙ sym (p .y-is)))))
       (same-or-not (child table node 2) (modes + 2 * k))
 
-  module _ (fits : 3 * modes ≤ absent) (heuristic round : ℕ) (assigned : List ℕ)
-      (fresh : eqb round 0 ≡ true → (k : ℕ) → modes ≤ getD assigned k modes) (fair : Fair modes assigned) (left : 0 < length (unassigned modes assigned)) where
+  module _ (heuristic : ℕ) (assigned : List ℕ) (fair : Fair modes assigned) (left : 0 < length (unassigned modes assigned)) where
     -- A pair without a mode has a leaf under X of its node, or under Z of a node.
     some-incomplete : (node : ℕ) × (node < modes) × (complete modes table assigned node ≡ false)
     some-incomplete =
@@ -102,32 +100,28 @@ module _ (most modes : ℕ) (table : List ℕ) (accepted : tree-checked most mod
         go k w node h e false q =
             let x-is : child table node 0 ≡ modes + 2 * k =
             sym (chain-rests modes table modes (child table node 0) (ltb-false (child table node 0) modes q)) ∙ e in
-            (node, h, x-incomplete modes table assigned node (rw x-is w))
+            (node, h, x-incomplete modes table assigned node (edge-not-fixed modes table assigned node 0 (rw x-is w)))
 
-    module _ (node : ℕ) (a : Active modes table heuristic round assigned node) where
-      z-without : unfixed modes (slot modes table assigned node 2) ≡ true → Without modes assigned (child table node 2)
-      unfolding slot
-      z-without e = unfixed-without modes assigned (child table node 2) e
-
-      choices-paired : (k : ℕ) → PairHere modes table assigned node k → (b : Bool) → unfixed modes (slot modes table assigned node 2) ≡ b
+    module _ (node : ℕ) (a : Active modes table heuristic assigned node) where
+      choices-paired : (k : ℕ) → PairHere modes table assigned node k → (b : Bool) → unfixed (slot modes table assigned node 2) ≡ b
           → 0 < length
           (choices modes (unassigned modes assigned) (slot modes table assigned node 0) (slot modes table assigned node 1) (slot modes table assigned node 2))
       choices-paired k here true q =
           let z = slot modes table assigned node 2 in
           let free = unassigned modes assigned in
           let both = here-unfixed modes table assigned node k here in
-          let w = z-without q in
+          let w = edge-without modes table assigned node 2 q in
           let two = two-left modes assigned fair (pair-of modes (child table node 2)) k (pair-below modes assigned (child table node 2) (w .low) (w .high)) (here .inside)
           (z-apart node k assigned (a .inside) here w) (w .none) (here .none) in
           let r = second-left modes free (free-ascends modes assigned) two in
-          pair-choice modes free (slot modes table assigned node 0) (slot modes table assigned node 1) z (r .0) (leaf-of modes z (r .1)) (both .0) (both .1) (r .2)
+          pair-choice modes free (slot modes table assigned node 0) (slot modes table assigned node 1) z (r .0) (leaf-of z (r .1)) (both .0) (both .1) (r .2)
           (free-number modes z (r .1) (without (r .0) free) q (r .3))
       choices-paired k here false q =
           let z = slot modes table assigned node 2 in
           let free = unassigned modes assigned in
           let both = here-unfixed modes table assigned node k here in
           let first = member-of-some free left in
-          pair-choice modes free (slot modes table assigned node 0) (slot modes table assigned node 1) z (first .0) z (both .0) (both .1) (first .1)
+          pair-choice modes free (slot modes table assigned node 0) (slot modes table assigned node 1) z (first .0) (stands-as modes z) (both .0) (both .1) (first .1)
           (fixed-number modes z (without (first .0) free) q)
 
       choices-there : 0 < length (choices-at modes table assigned node)
@@ -137,21 +131,20 @@ module _ (most modes : ℕ) (table : List ℕ) (accepted : tree-checked most mod
           let z = slot modes table assigned node 2 in
           let first = member-of-some free left in
           ⊎-elim
-          (λ (here : (k : ℕ) × PairHere modes table assigned node k). choices-paired (here .0) (here .1) (unfixed modes z) refl)
+          (λ (here : (k : ℕ) × PairHere modes table assigned node k). choices-paired (here .0) (here .1) (unfixed z) refl)
           (λ (only : OnlyZ modes table assigned node).
-          single-choice modes free (slot modes table assigned node 0) (slot modes table assigned node 1) z (leaf-of modes z (first .0)) (only .x-fixed)
+          single-choice modes free (slot modes table assigned node 0) (slot modes table assigned node 1) z (leaf-of z (first .0)) (only .x-fixed)
           (free-number modes z (first .0) free (edge-unfixed modes table assigned node 2 (only .z-without)) (first .1)))
-          (active-slots most modes table accepted fits heuristic round assigned fresh node a)
+          (active-slots most modes table accepted heuristic assigned node a)
 
-    pub some-choice : 0 < length (candidates modes table heuristic round assigned)
+    pub some-choice : 0 < length (candidates modes table heuristic assigned)
     unfolding candidates
     some-choice =
         let v = some-incomplete in
-        let first = member-of-some (active modes table heuristic round assigned)
-        (some-active modes table heuristic round assigned (v .0) (v .1)
-        (left-incomplete most modes table accepted fits heuristic round assigned fresh (v .0) (v .2))) in
+        let first = member-of-some (active modes table heuristic assigned)
+        (some-active modes table heuristic assigned (v .0) (v .1) (v .2)) in
         let triple = member-of-some (choices-at modes table assigned (first .0))
-        (choices-there (first .0) (of-active modes table heuristic round assigned (first .1))) in
+        (choices-there (first .0) (of-active modes table heuristic assigned (first .1))) in
         some-member
         (joined (λ node. map (λ triple. record { node = node; triple = triple }) (choices-at modes table assigned node))
-        (active modes table heuristic round assigned) (first .1) (Memᴰ·map (λ triple. record { node = first .0; triple = triple }) (triple .1)))
+        (active modes table heuristic assigned) (first .1) (Memᴰ·map (λ triple. record { node = first .0; triple = triple }) (triple .1)))

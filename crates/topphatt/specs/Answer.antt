@@ -6,7 +6,7 @@ use lib.Dec.{leb}
 use lib.ListN.{length}
 use Rattle.refusal.specs.declared.Refusal.{Refusal}
 use Rattle.refusal.specs.declared.Refusal.the-variants.{Room, Heuristic}
-use Rattle.entities.specs.Codes.{code}
+use Rattle.entities.specs.Codes.{child-code}
 use Rattle.entities.specs.Limits.{row-width}
 use Rattle.terms.specs.Job.{job-of}
 use Rattle.terms.specs.Good.{checked}
@@ -15,12 +15,12 @@ use Rattle.terms.specs.declared.checking.Checked.the-variants.{Good, Refused as
 use Rattle.tree.specs.Check.{tree-checked}
 use Rattle.tree.specs.declared.TreeChecked.{TreeChecked}
 use Rattle.tree.specs.declared.TreeChecked.the-variants.{Accepted, Refused as BadTree}
-use Rattle.slots.specs.Slots.{slot-of}
+use Rattle.slots.specs.Slots.{slot-of, stands-as}
 use Rattle.topphatt.specs.Rounds.{Task, ended}
 
 -- The codes of the slots, where the given tree has its own.
 unfoldable pub answer-table : ℕ → List ℕ → List ℕ → List ℕ
-answer-table modes assigned table = map (λ given. code modes (2 * modes) (slot-of modes assigned given)) table
+answer-table modes assigned table = map (λ given. child-code modes (2 * modes) (stands-as modes (slot-of modes assigned given))) table
 
 -- What an assignment comes to: so many rows, the weight and the table; or a refusal.
 pub data Outcome : Type 0 where

@@ -14,7 +14,7 @@ use Rattle.slots.specs.Nodes.{complete, remaining}
 use Rattle.choice.specs.Choices.{unassigned}
 use Rattle.choice.specs.Choice.{Choice, candidates, Chosen}
 use Rattle.topphatt.specs.Rounds.{Rounds, Task, before, after}
-use Rattle.topphatt.specs.Answer.{answer-table}
+use Rattle.topphatt.specs.Answer.{done, answer-table, Asked, task-of, Rooms, outcome}
 
 -- Each pair has a mode or none, which is n; no two pairs have the same mode.
 pub record Fair (modes : ℕ) (assigned : List ℕ) : Type 0 where
@@ -31,25 +31,20 @@ pub record Given (modes : ℕ) (assigned now : List ℕ) : Type 0 where
 -- The choice of a round, as a reader states it.
 abbrev pub ChosenIn : Task → Rounds → Choice → Type 0
 ChosenIn task state choice =
-    Chosen (task .job .modes) (task .table) (task .heuristic) (state .round) (state .assigned) (state .rows) choice
+    Chosen (task .job .modes) (task .table) (task .heuristic) (state .assigned) (state .rows) choice
 
 -- A round has a choice, and takes the one that document 01 describes; of its node's X and Y slots both are unfixed or neither is; it gives
 -- modes to pairs; its node is then complete, and the complete nodes leave the round list.
 pub record RoundGoes (task : Task) (state : Rounds) (choice : Choice) : Type 0 where
-  pub some-choice : 0 < length (candidates (task .job .modes) (task .table) (task .heuristic) (state .round) (state .assigned))
+  pub some-choice : 0 < length (candidates (task .job .modes) (task .table) (task .heuristic) (state .assigned))
   pub right : ChosenIn task state choice
-  pub together : unfixed (task .job .modes) (slot (task .job .modes) (task .table) (state .assigned) (choice .node) 0)
-      ≡ unfixed (task .job .modes) (slot (task .job .modes) (task .table) (state .assigned) (choice .node) 1)
+  pub together : unfixed (slot (task .job .modes) (task .table) (state .assigned) (choice .node) 0)
+      ≡ unfixed (slot (task .job .modes) (task .table) (state .assigned) (choice .node) 1)
   pub gives : Given (task .job .modes) (state .assigned) (after task choice state .assigned)
   pub done : complete (task .job .modes) (task .table) (after task choice state .assigned) (choice .node) ≡ true
-  pub leave : remaining (task .job .modes) (task .table) (after task choice state .round) (after task choice state .assigned)
+  pub leave : remaining (task .job .modes) (task .table) (after task choice state .assigned)
       ≡ keep (λ node. not (complete (task .job .modes) (task .table) (after task choice state .assigned) node))
-      (remaining (task .job .modes) (task .table) (state .round) (state .assigned))
-
--- What holds before the first round and after each: the modes are fairly given, and in round 0 none is.
-pub record UnderWay (modes : ℕ) (state : Rounds) : Type 0 where
-  pub fair : Fair modes (state .assigned)
-  pub fresh : state .round ≡ 0 → (k : ℕ) → modes ≤ getD (state .assigned) k modes
+      (remaining (task .job .modes) (task .table) (state .assigned))
 
 -- The rounds from one state to another, as document 01 tells them: while a mode is unassigned, a round that goes as it describes.
 pub data Went (task : Task) : Rounds → Rounds → Type 0 where
@@ -63,7 +58,7 @@ pub record AllAssigned (modes : ℕ) (table assigned : List ℕ) : Type 0 where
   pub whole : length assigned ≡ modes
   pub inside : (k : ℕ) → k < modes → getD assigned k modes < modes
   pub each-once : (mode : ℕ) → mode < modes → occurrences mode assigned ≡ 1
-  pub none-unfixed : (node edge : ℕ) → unfixed modes (slot modes table assigned node edge) ≡ false
+  pub none-unfixed : (node edge : ℕ) → unfixed (slot modes table assigned node edge) ≡ false
 
 -- The answer has every node and the absent child where the given tree has them, and each leaf once.
 pub record SameShape (modes : ℕ) (table answer : List ℕ) : Type 0 where
@@ -81,3 +76,13 @@ pub record AnswerRight (most : ℕ) (task : Task) (weight : ℕ) (answer : List 
   pub all : AllAssigned (task .job .modes) (task .table) (end .assigned)
   pub shape : SameShape (task .job .modes) (task .table) answer
   pub accepted : tree-checked most (task .job .modes) answer ≡ Accepted
+
+-- Demand 2 of every call that is done: its rounds are those that document 01 tells, each with the choice that it describes.
+abbrev pub EveryAssignment : Type 0
+EveryAssignment =
+    (rooms : Rooms) (call : Asked) (count weight : ℕ) (answer : List ℕ)
+    → outcome rooms call ≡ done count weight answer → AnswerRight (rooms .modes) (task-of call count) weight answer
+
+-- Two runs of rounds that document 01 tells from the same beginning end the same.
+abbrev pub OneEnd : Type 0
+OneEnd = (task : Task) (start end other : Rounds) → Went task start end → Went task start other → end ≡ other

@@ -10,15 +10,10 @@ use Rattle.topphatt.specs.declared.Assigned.{Assigned}
 use Rattle.topphatt.specs.declared.Assigned.the-variants.{Weight, Unassigned}
 use Rattle.topphatt.specs.Answer.{Outcome, done, refused, Rooms}
 
--- The numbers of an answer: refusal, place, weight.
+-- "The answer is … the sum of chosen weights"; a refusal "its number and a place, zeros elsewhere": refusal, place, weight.
 unfoldable pub numbers-of : Assigned → List ℕ
 numbers-of (Weight weight) = done-numbers (weight ∷ [])
 numbers-of (Unassigned refusal) = refused-numbers 1 refusal
-
--- "The answer is … the sum of chosen weights"; a refusal "its number and a place, zeros elsewhere".
-unfoldable pub told-numbers : Outcome → List ℕ
-told-numbers (done count weight codes) = done-numbers (weight ∷ [])
-told-numbers (refused refusal) = refused-numbers 1 refusal
 
 -- What the call returns.
 unfoldable pub returned : Outcome → Assigned
@@ -48,5 +43,5 @@ lent-then (refused refusal) given = given
 -- The answer of the meaning and its numbers, and every number of what was lent after the call.
 pub record Assigns (meant : Lent → Outcome) (before after : Lent) (r : Assigned) : Type 0 where
   pub answer : r ≡ returned (meant before)
-  pub numbers : numbers-of r ≡ told-numbers (meant before)
+  pub numbers : numbers-of r ≡ numbers-of (returned (meant before))
   pub leaves : after ≡ lent-then (meant before) before

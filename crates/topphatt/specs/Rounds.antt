@@ -13,9 +13,8 @@ use Rattle.slots.specs.Slots.{pair-of, slot, unfixed}
 use Rattle.choice.specs.Choices.{unassigned}
 use Rattle.choice.specs.Choice.{Choice, chosen}
 
--- What the rounds have come to: how many there were, the mode of each pair, the rows, and the sum of chosen weights.
+-- What the rounds have come to: the mode of each pair, the rows, and the sum of chosen weights.
 pub record Rounds : Type 0 where
-  pub round : ℕ
   pub assigned : List ℕ
   pub rows : List (List ℕ)
   pub weight : ℕ
@@ -28,12 +27,12 @@ pub record Task : Type 0 where
 
 -- Before the first round no pair has a mode.
 unfoldable pub before : Job → Rounds
-before job = record { round = 0; assigned = replicate (job .modes) (job .modes); rows = job .terms; weight = 0 }
+before job = record { assigned = replicate (job .modes) (job .modes); rows = job .terms; weight = 0 }
 
 -- A leaf that isn't fixed yet is fixed as this number, and its partner with it: their pair gets the number's mode.
 unfoldable pub fixed : ℕ → List ℕ → ℕ → ℕ → ℕ → List ℕ → List ℕ
 fixed modes table node edge number assigned =
-    cond (unfixed modes (slot modes table assigned node edge))
+    cond (unfixed (slot modes table assigned node edge))
     (set assigned (pair-of modes (child table node edge)) (number / 2))
     assigned
 
@@ -47,7 +46,6 @@ fixed-by modes table choice assigned =
 -- A round with this choice.
 unfoldable pub after : Task → Choice → Rounds → Rounds
 after task choice state = record {
-  round = suc (state .round);
   assigned = fixed-by (task .job .modes) (task .table) choice (state .assigned);
   rows = reduction (choice .triple) (parent-number (task .job .modes) (choice .node)) (state .rows);
   weight = state .weight + weight-of (choice .triple) (state .rows);
@@ -56,7 +54,7 @@ after task choice state = record {
 -- The choice of a round.
 abbrev pub choice-in : Task → Rounds → Choice
 choice-in task state =
-    chosen (task .job .modes) (task .table) (task .heuristic) (state .round) (state .assigned) (state .rows)
+    chosen (task .job .modes) (task .table) (task .heuristic) (state .assigned) (state .rows)
 
 -- One round.
 unfoldable pub next : Task → Rounds → Rounds

@@ -3,12 +3,12 @@ ghost use mathlib.Core.Path.{_≡_};
 ghost use Prim.Native.Nat.{_*_, _≤_, _<_};
 ghost use lib.ListN.{length, replicate};
 ghost use Rattle.lists.specs.Written.{«written-at»};
-ghost use Rattle.entities.specs.Codes.{code};
+ghost use Rattle.entities.specs.Codes.{«child-code»};
 ghost use Rattle.entities.specs.Limits.{«most-modes», «most-terms», «row-width»};
 ghost use Rattle.terms.specs.Rows.{«terms-of»};
 ghost use Rattle.terms.specs.code.Held.{Held};
 ghost use Rattle.terms.specs.Good.{checked};
-ghost use Rattle.slots.specs.Slots.{«slot-of»};
+ghost use Rattle.slots.specs.Slots.{«slot-of», «stands-as»};
 ghost use Rattle.slots.specs.code.Promises.{Distances};
 ghost use Rattle.topphatt.specs.Rounds.{ended};
 ghost use Rattle.topphatt.specs.Answer.{«answer-table», asked, «task-of», «done-by», «with-room», «with-terms», outcome};
@@ -33,7 +33,7 @@ pub enum Assigned {
 // The code of the slot that stands where the given tree has this code.
 fn answer_code(modes: usize, assigned: &[u16], given: u16) -> u16
     requires { ⌜ (modes ≤ most-modes) × (length (now assigned) ≡ modes) ⌝ }
-    ensures { λ r. ⌜ r ≡ code modes (2 * modes) (slot-of modes (now (assigned .entry)) given) ⌝ }
+    ensures { λ r. ⌜ r ≡ child-code modes (2 * modes) (stands-as modes (slot-of modes (now (assigned .entry)) given)) ⌝ }
 {
     let slot = slots::slot_of(modes, assigned, entities::wide(given));
     codes::code(modes, (2 * modes) as u16, slot)

@@ -68,15 +68,7 @@ fn choose<'a>(
     let mut free = [0u16; 256];
     let unassigned = choice::fill_unassigned(modes, assigned, &mut free);
     let mut active = [0u16; 256];
-    let nodes = nodes::fill_active(
-        modes,
-        tree,
-        distances,
-        heuristic,
-        progress.round,
-        assigned,
-        &mut active,
-    );
+    let nodes = nodes::fill_active(modes, tree, distances, heuristic, assigned, &mut active);
     choice::select(
         rows,
         progress.count,

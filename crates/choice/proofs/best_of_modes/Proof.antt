@@ -8,7 +8,7 @@ use lib.ListN.{length, drop, drop-of-length-le}
 use Rattle.lists.specs.Members.{keep}
 use Rattle.lists.proofs.Every.{below-at}
 use Rattle.terms.specs.Rows.{terms-of}
-use Rattle.slots.specs.Slots.{leaf-of}
+use Rattle.slots.specs.code.Numbers.{number-leaf}
 use Rattle.choice.specs.code.Seeking.{sought}
 use Rattle.choice.specs.Choices.{with-z, without}
 use Rattle.choice.proofs.SoughtSteps.{sought-none, modes-step}
@@ -17,8 +17,8 @@ use Rattle.choice.proofs.best_of_modes.Tie as tie
 
 abbrev Inv-loop : tie.InvT-loop
 Inv-loop rows count odd free modes node slots pair best₀ at₀ best at = (at ≤ length free)
-    × (sought (terms-of 8 count rows) node best₀ (with-z (slots .x) (slots .y) (map (leaf-of modes (slots .z)) (without pair free)))
-    ≡ sought (terms-of 8 count rows) node best (with-z (slots .x) (slots .y) (map (leaf-of modes (slots .z)) (without pair (drop at free)))))
+    × (sought (terms-of 8 count rows) node best₀ (with-z (slots .x) (slots .y) (map (number-leaf modes (slots .z)) (without pair free)))
+    ≡ sought (terms-of 8 count rows) node best (with-z (slots .x) (slots .y) (map (number-leaf modes (slots .z)) (without pair (drop at free)))))
 
 abbrev μ-loop : tie.MeasureT-loop
 μ-loop rows count odd free modes node slots pair best₀ at₀ best at = length free - at
@@ -52,7 +52,7 @@ loop-again c =
       omega arith,
       here .loop .inv .1
           ∙ modes-step (terms-of 8 (args .count) (args .rows .now)) (args .node) (args .modes) (args .slots .x) (args .slots .y) (args .slots .z) (args .pair) (here .loop .best) (args .free .now) (here .loop .at) (omega arith)
-          ∙ ap (λ b. sought (terms-of 8 (args .count) (args .rows .now)) (args .node) b (with-z (args .slots .x) (args .slots .y) (map (leaf-of (args .modes) (args .slots .z)) (without (args .pair) (drop (here .loop .at + 1) (args .free .now)))))) (sym (c .best-of-mode .ensures)),
+          ∙ ap (λ b. sought (terms-of 8 (args .count) (args .rows .now)) (args .node) b (with-z (args .slots .x) (args .slots .y) (map (number-leaf (args .modes) (args .slots .z)) (without (args .pair) (drop (here .loop .at + 1) (args .free .now)))))) (sym (c .best-of-mode .ensures)),
     )
 
 returns : tie.Need-returns Inv-loop μ-loop

@@ -4,8 +4,9 @@ use native.Mathlib.Omega.{arith}
 use borrow.Author.Tests.{not-true, not-false}
 use borrow.Author.Needs.{needs}
 use lib.ListN.{length}
-use Rattle.slots.proofs.SlotKinds.{unfixed-above}
-use Rattle.choice.specs.Choices.{with-z, numbers}
+use Rattle.slots.proofs.SlotNumbers.{unfixed-above}
+use Rattle.choice.specs.Choices.{with-z}
+use Rattle.choice.specs.code.Numbered.{numbered}
 use Rattle.choice.proofs.best_of_pair.Statement.{statement}
 use Rattle.choice.proofs.best_of_pair.Tie as tie
 
@@ -19,7 +20,7 @@ better-of-requires : tie.Need-better-of-requires
 better-of-requires c κs = search needs
 
 returns : tie.Need-returns
-unfolding numbers with-z
+unfolding numbered with-z
 returns c =
     let asked = c .before .before in
     rw (sym (asked .before .unfixed .ensures) ∙ not-true _ (asked .if1 .taken)) (c .better-of .ensures _ (c .before .weight .ensures .0))
@@ -43,7 +44,7 @@ best-of-modes-requires c κs =
     (start .pre .0, (omega arith, (called .ensures, ((omega arith, above, omega arith), start .pre .1 .1))))
 
 returns-2 : tie.Need-returns-2
-unfolding numbers
+unfolding numbered
 returns-2 c =
     let asked = c .before .before .before .before .before in
     rw (sym (asked .before .unfixed .ensures) ∙ not-false _ (asked .if1 .left)) (c .best-of-modes .ensures)

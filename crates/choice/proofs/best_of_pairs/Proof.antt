@@ -9,17 +9,18 @@ use Rattle.lists.proofs.Every.{below-at}
 use Rattle.lists.proofs.Steps.{joined-step, joined-end}
 use Rattle.entities.specs.declared.Triple.{Triple}
 use Rattle.terms.specs.Rows.{terms-of}
-use Rattle.slots.specs.Slots.{leaf-of}
+use Rattle.slots.specs.code.Numbers.{number-leaf}
 use Rattle.choice.specs.code.Seeking.{sought}
-use Rattle.choice.specs.Choices.{with-z, without, numbers}
+use Rattle.choice.specs.Choices.{with-z, without}
+use Rattle.choice.specs.code.Numbered.{numbered}
 use Rattle.choice.proofs.SoughtSteps.{sought-none, sought-joined}
 use Rattle.choice.proofs.best_of_pairs.Statement.{statement}
 use Rattle.choice.proofs.best_of_pairs.Tie as tie
 
 abbrev Inv-loop : tie.InvT-loop
 Inv-loop rows count free modes node slots best₀ at₀ best at = (at ≤ length free)
-    × (sought (terms-of 8 count rows) node best₀ (flatMap (λ mode. with-z (leaf-of modes (slots .x) mode) (leaf-of modes (slots .y) mode) (numbers modes (slots .z) (without mode free))) free)
-    ≡ sought (terms-of 8 count rows) node best (flatMap (λ mode. with-z (leaf-of modes (slots .x) mode) (leaf-of modes (slots .y) mode) (numbers modes (slots .z) (without mode free))) (drop at free)))
+    × (sought (terms-of 8 count rows) node best₀ (flatMap (λ mode. with-z (number-leaf modes (slots .x) mode) (number-leaf modes (slots .y) mode) (numbered modes (slots .z) (without mode free))) free)
+    ≡ sought (terms-of 8 count rows) node best (flatMap (λ mode. with-z (number-leaf modes (slots .x) mode) (number-leaf modes (slots .y) mode) (numbered modes (slots .z) (without mode free))) (drop at free)))
 
 abbrev μ-loop : tie.MeasureT-loop
 μ-loop rows count free modes node slots best₀ at₀ best at = length free - at
@@ -52,7 +53,7 @@ loop-again c =
     let args = here .before .before .before .args in
     let rows = terms-of 8 (args .count) (args .rows .now) in
     let free = args .free .now in
-    let of : ℕ → List Triple = λ mode. with-z (leaf-of (args .modes) (args .slots .x) mode) (leaf-of (args .modes) (args .slots .y) mode) (numbers (args .modes) (args .slots .z) (without mode free)) in (
+    let of : ℕ → List Triple = λ mode. with-z (number-leaf (args .modes) (args .slots .x) mode) (number-leaf (args .modes) (args .slots .y) mode) (numbered (args .modes) (args .slots .z) (without mode free)) in (
       omega arith,
       here .loop .inv .1
           ∙ rw (joined-step of free (here .loop .at) 0 (omega arith))

@@ -3,8 +3,8 @@ use mathlib.Core.Path.{_∙_, sym}
 use native.Mathlib.Omega.{arith}
 use borrow.Author.Tests.{not-true, not-false}
 use borrow.Author.Needs.{needs}
-use Rattle.slots.proofs.SlotKinds.{unfixed-above}
-use Rattle.choice.specs.Choices.{choices}
+use Rattle.slots.proofs.SlotNumbers.{unfixed-above}
+use Rattle.choice.specs.code.Numbered.{numbered-choices}
 use Rattle.choice.proofs.FreeModes.{without-none}
 use Rattle.choice.proofs.best_of_slots.Statement.{statement}
 use Rattle.choice.proofs.best_of_slots.Tie as tie
@@ -19,7 +19,7 @@ best-of-pair-requires : tie.Need-best-of-pair-requires
 best-of-pair-requires c κs = search needs
 
 returns : tie.Need-returns
-unfolding choices
+unfolding numbered-choices
 returns c =
     let start = c .before .before .before .before .before in
     rw (sym (c .before .before .unfixed .ensures) ∙ not-true _ (c .before .if1 .taken))
@@ -32,7 +32,7 @@ best-of-pair-requires-2 : tie.Need-best-of-pair-requires-2
 best-of-pair-requires-2 c κs = search needs
 
 returns-2 : tie.Need-returns-2
-unfolding choices
+unfolding numbered-choices
 returns-2 c =
     let start = c .before .before .before .before .before .before .before in
     rw (
@@ -49,7 +49,7 @@ best-of-pairs-requires c κs =
     (start .pre .0, ((omega arith, omega arith), ((x, omega arith, y, omega arith, omega arith), start .pre .1 .1)))
 
 returns-3 : tie.Need-returns-3
-unfolding choices
+unfolding numbered-choices
 returns-3 c =
     rw (
       sym (c .before .before .before .before .unfixed .ensures) ∙ not-false _ (c .before .before .before .if1 .left),

@@ -1,5 +1,4 @@
 -- By weight, then by z, y, x.
-use mathlib.Core.Path.{sym}
 use native.Mathlib.Omega.{arith}
 use borrow.Author.Needs.{needs}
 use Rattle.choice.proofs.SoughtSteps.{by-weight, by-weight-not, by-numbers, by-numbers-not}
@@ -7,10 +6,12 @@ use Rattle.choice.proofs.combine.Statement.{statement}
 use Rattle.choice.proofs.combine.Tie as tie
 
 returns : tie.Need-returns
-returns c = sym (by-weight _ _ (c .if1 .taken))
+returns c = let args = c .before .before .before .args in rw (by-weight (args .best) (args .candidate) (c .if1 .taken))
 
 returns-2 : tie.Need-returns-2
-returns-2 c = sym (by-weight-not _ _ (c .if2 .taken))
+returns-2 c =
+    let args = c .before .before .before .before .before .before .args in
+    rw (by-weight-not (args .best) (args .candidate) (c .if2 .taken))
 
 packed-requires : tie.Need-packed-requires
 packed-requires c κs = search needs
@@ -23,14 +24,14 @@ returns-3 c =
     let args = c .before .before .before .before .before .before .before .before .before .args in
     let best = c .before .before .packed .ensures .0 in
     let other = c .before .packed2 .ensures .0 in
-    sym (by-numbers (args .best) (args .candidate) (omega arith) (omega arith) (omega arith))
+    rw (by-numbers (args .best) (args .candidate) (omega arith) (omega arith) (omega arith))
 
 returns-4 : tie.Need-returns-4
 returns-4 c =
     let args = c .before .before .before .before .before .before .before .before .before .args in
     let best = c .before .before .packed .ensures .0 in
     let other = c .before .packed2 .ensures .0 in
-    sym (by-numbers-not (args .best) (args .candidate) (omega arith) (omega arith))
+    rw (by-numbers-not (args .best) (args .candidate) (omega arith) (omega arith))
 
 pub combine-spec : {M : Type 1} → statement M
 combine-spec =

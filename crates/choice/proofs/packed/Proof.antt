@@ -1,6 +1,6 @@
 -- The sum that the definition names.
 use borrow.Author.Needs.{needs}
-use Rattle.choice.specs.Choice.{packed}
+use Rattle.choice.specs.code.Seeking.{packed}
 use Rattle.choice.proofs.packed.Statement.{statement}
 use Rattle.choice.proofs.packed.Tie as tie
 

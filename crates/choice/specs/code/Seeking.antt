@@ -6,13 +6,17 @@ use Rattle.entities.specs.declared.Triple.{Triple}
 use Rattle.terms.specs.Weight.{weight-of}
 use Rattle.choice.specs.declared.Selection.{Selection}
 use Rattle.choice.specs.Choices.{choices-at}
-use Rattle.choice.specs.Choice.{Choice, packed}
+use Rattle.choice.specs.Choice.{Choice}
 
 -- A choice with its weight.
 unfoldable pub weighed : List (List ℕ) → ℕ → Triple → Selection
 weighed rows node triple = record { «min_weight» = weight-of triple rows; «min_parent» = node; «leaf_indices» = triple }
 
--- The rank of a choice whose weight is known.
+-- z, y and x as one number, where each is below 65536.
+unfoldable pub packed : Triple → ℕ
+packed triple = (triple .z * 65536 + triple .y) * 65536 + triple .x
+
+-- Smaller where the weight is less and, on equal weight, where z, y, x are larger.
 unfoldable pub standing : Selection → ℕ
 standing selection =
     selection .«min_weight» * 281474976710656 + (281474976710655 - packed (selection .«leaf_indices»))

@@ -1,6 +1,6 @@
 -- The sum that the definition names.
 use borrow.Author.Needs.{needs}
-use Rattle.slots.specs.Slots.{leaf-of}
+use Rattle.slots.specs.code.Numbers.{number-leaf}
 use Rattle.slots.proofs.leaf_of.Statement.{statement}
 use Rattle.slots.proofs.leaf_of.Tie as tie
 
@@ -23,7 +23,7 @@ add-result-2 : tie.Need-add-result-2
 add-result-2 c = search needs
 
 returns : tie.Need-returns
-unfolding leaf-of
+unfolding number-leaf
 returns c = search needs
 
 pub leaf-of-spec : {M : Type 1} → statement M

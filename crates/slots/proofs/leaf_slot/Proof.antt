@@ -1,8 +1,10 @@
 -- The test of the mode decides.
+use mathlib.Core.Path.{sym}
 use native.Mathlib.Omega.{arith}
-use borrow.Author.Tests.{lt-ltb, le-ltb}
+use borrow.Author.Tests.{lt-ltb}
 use borrow.Author.Needs.{needs}
-use Rattle.slots.specs.Slots.{leaf-slot}
+use Rattle.slots.specs.Slots.{leaf-slot, stands-as}
+use Rattle.slots.proofs.SlotNumbers.{leaf-stands}
 use Rattle.slots.proofs.leaf_slot.Statement.{statement}
 use Rattle.slots.proofs.leaf_slot.Tie as tie
 
@@ -16,7 +18,7 @@ cast-result : tie.Need-cast-result
 cast-result c = search needs
 
 returns : tie.Need-returns
-unfolding leaf-slot
+unfolding leaf-slot stands-as
 returns c = (rw (lt-ltb _ _ (c .if1 .taken)), omega arith)
 
 mul-result-2 : tie.Need-mul-result-2
@@ -32,8 +34,9 @@ cast-result-2 : tie.Need-cast-result-2
 cast-result-2 c = search needs
 
 returns-2 : tie.Need-returns-2
-unfolding leaf-slot
-returns-2 c = (rw (le-ltb _ _ (c .if1 .left)), omega arith)
+returns-2 c =
+    let start = c .before in
+    (sym (leaf-stands (start .args .modes) (start .args .mode) (start .args .parity) (c .if1 .left) (start .pre .1)), omega arith)
 
 pub leaf-slot-spec : {M : Type 1} → statement M
 leaf-slot-spec =

@@ -3,9 +3,9 @@ use mathlib.Core.Path.{_∙_, ap, sym}
 use Prim.Native.Nat.{_-_, _%_}
 use native.Mathlib.Omega.{arith}
 use borrow.Author.Needs.{needs}
-use Rattle.slots.specs.Slots.{leaf-slot}
+use Rattle.slots.specs.Slots.{leaf-slot, stands-as}
 use Rattle.slots.proofs.SlotCases.{slot-child, slot-empty}
-use Rattle.slots.proofs.SlotKinds.{slot-read}
+use Rattle.slots.proofs.SlotNumbers.{slot-read}
 use Rattle.slots.proofs.slot_of.Statement.{statement}
 use Rattle.slots.proofs.slot_of.Tie as tie
 
@@ -13,7 +13,8 @@ parent-number-requires : tie.Need-parent-number-requires
 parent-number-requires c κs = search needs
 
 returns : tie.Need-returns
-returns c = (c .parent-number .ensures ∙ sym (slot-child _ _ _ (c .before .if1 .taken)), omega arith)
+unfolding stands-as
+returns c = (rw (slot-child _ _ _ (c .before .if1 .taken)) (c .parent-number .ensures), omega arith)
 
 mul-if2 : tie.Need-mul-if2
 mul-if2 c = search needs
@@ -25,7 +26,8 @@ cast-result : tie.Need-cast-result
 cast-result c = search needs
 
 returns-2 : tie.Need-returns-2
-returns-2 c = (sym (slot-empty _ _ _ (c .if2 .taken)), omega arith)
+unfolding stands-as
+returns-2 c = (rw (slot-empty _ _ _ (c .if2 .taken)), omega arith)
 
 mul-wide : tie.Need-mul-wide
 mul-wide c = search needs
@@ -43,7 +45,7 @@ returns-3 : tie.Need-returns-3
 returns-3 c =
     let args = c .before .before .before .before .before .before .args in
     let read = slot-read (args .modes) (args .assigned .now) (args .code) (omega arith) (omega arith) (omega arith) in
-    (c .leaf-slot .ensures .0 ∙ ap (λ v. leaf-slot (args .modes) v ((args .code - args .modes) % 2)) (c .before .wide .ensures .0) ∙ sym read, c .leaf-slot .ensures .1)
+    (c .leaf-slot .ensures .0 ∙ ap (λ v. stands-as (args .modes) (leaf-slot (args .modes) v ((args .code - args .modes) % 2))) (c .before .wide .ensures .0) ∙ ap (stands-as (args .modes)) (sym read), c .leaf-slot .ensures .1)
 
 pub slot-of-spec : {M : Type 1} → statement M
 slot-of-spec =

@@ -1,6 +1,6 @@
 -- The test that the definition names.
 use borrow.Author.Needs.{needs}
-use Rattle.slots.specs.Slots.{unfixed}
+use Rattle.slots.specs.code.Numbers.{number-unfixed}
 use Rattle.slots.proofs.unfixed.Statement.{statement}
 use Rattle.slots.proofs.unfixed.Tie as tie
 
@@ -11,7 +11,7 @@ wide-requires : tie.Need-wide-requires
 wide-requires c κs = search needs
 
 returns : tie.Need-returns
-unfolding unfixed
+unfolding number-unfixed
 returns c = rw (c .wide .ensures .0)
 
 pub unfixed-spec : {M : Type 1} → statement M

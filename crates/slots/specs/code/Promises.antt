@@ -4,14 +4,14 @@ use mathlib.Core.List.{List}
 use Prim.Native.Nat.{ℕ, _+_, _*_, _≤_, _<_}
 use lib.ListN.{length, getD}
 use Rattle.entities.specs.declared.Triple.{Triple}
-use Rattle.slots.specs.Slots.{slot}
+use Rattle.slots.specs.Slots.{slot, stands-as}
 use Rattle.slots.specs.Nodes.{distance}
 
--- The slots of a node, and that each fits.
+-- The slots of a node by their numbers, and that each fits.
 pub record SlotsAre (modes : ℕ) (table assigned : List ℕ) (node : ℕ) (r : Triple) : Type 0 where
-  pub x-is : r .x ≡ slot modes table assigned node 0
-  pub y-is : r .y ≡ slot modes table assigned node 1
-  pub z-is : r .z ≡ slot modes table assigned node 2
+  pub x-is : r .x ≡ stands-as modes (slot modes table assigned node 0)
+  pub y-is : r .y ≡ stands-as modes (slot modes table assigned node 1)
+  pub z-is : r .z ≡ stands-as modes (slot modes table assigned node 2)
   pub x-fits : r .x ≤ 3 * modes + 2
   pub y-fits : r .y ≤ 3 * modes + 2
   pub z-fits : r .z ≤ 3 * modes + 2

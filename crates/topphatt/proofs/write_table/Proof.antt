@@ -8,14 +8,14 @@ use lib.ListN.{getD, length, take, set, length-set}
 use lib.Seq.{take-all}
 use Rattle.lists.specs.Written.{written-at}
 use Rattle.lists.proofs.Behind.{mapped-start, mapped-next}
-use Rattle.entities.specs.Codes.{code}
-use Rattle.slots.specs.Slots.{slot-of}
+use Rattle.entities.specs.Codes.{child-code}
+use Rattle.slots.specs.Slots.{slot-of, stands-as}
 use Rattle.topphatt.specs.Answer.{answer-table}
 use Rattle.topphatt.proofs.write_table.Statement.{statement}
 use Rattle.topphatt.proofs.write_table.Tie as tie
 
 abbrev Inv-loop : tie.InvT-loop
-Inv-loop modes tree assigned table₀ at₀ table at = (at ≤ length tree) × (length table ≡ length table₀) × (table ≡ written-at 0 (map (λ given. code modes (2 * modes) (slot-of modes assigned given)) (take at tree)) table₀)
+Inv-loop modes tree assigned table₀ at₀ table at = (at ≤ length tree) × (length table ≡ length table₀) × (table ≡ written-at 0 (map (λ given. child-code modes (2 * modes) (stands-as modes (slot-of modes assigned given))) (take at tree)) table₀)
 
 abbrev μ-loop : tie.MeasureT-loop
 μ-loop modes tree assigned table₀ at₀ table at = length tree - at
@@ -23,7 +23,7 @@ abbrev μ-loop : tie.MeasureT-loop
 loop-holds : tie.Need-loop-holds Inv-loop μ-loop
 loop-holds c =
     let args = c .before .before .before .args in
-    (omega arith, omega arith, mapped-start (λ given. code (args .modes) (2 * args .modes) (slot-of (args .modes) (args .assigned .now) given)) (args .tree .now) (args .table .now))
+    (omega arith, omega arith, mapped-start (λ given. child-code (args .modes) (2 * args .modes) (stands-as (args .modes) (slot-of (args .modes) (args .assigned .now) given))) (args .tree .now) (args .table .now))
 
 mul-answer-code : tie.Need-mul-answer-code Inv-loop μ-loop
 mul-answer-code c = search needs
@@ -50,7 +50,7 @@ loop-again : tie.Need-loop-again Inv-loop μ-loop
 loop-again c =
     let here = c .before .before .before in
     let args = here .before .before .before .before .args in
-    let rule : ℕ → ℕ = λ given. code (args .modes) (2 * args .modes) (slot-of (args .modes) (args .assigned .now) given) in (
+    let rule : ℕ → ℕ = λ given. child-code (args .modes) (2 * args .modes) (stands-as (args .modes) (slot-of (args .modes) (args .assigned .now) given)) in (
       omega arith,
       simp length-set (omega arith),
       rw (c .answer-code .ensures) (ap (λ t. set t (here .loop .at) (rule (getD (args .tree .now) (here .loop .at) 0))) (here .loop .inv .2) ∙ mapped-next rule (args .tree .now) (args .table .now) (here .loop .at) 0 (omega arith) (omega arith)),

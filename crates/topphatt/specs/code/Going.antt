@@ -23,7 +23,6 @@ task-with modes table heuristic terms = record { job = record { modes = modes; t
 -- What the rounds have come to.
 unfoldable pub state-of : List ℕ → List ℕ → Progress → Rounds
 state-of rows assigned progress = record {
-  round = progress .round;
   assigned = assigned;
   rows = terms-of row-width (progress .count) rows;
   weight = progress .weight;
@@ -42,7 +41,7 @@ pub record Going (most modes : ℕ) (table distances rows assigned : List ℕ) (
 
 -- The choice of a round was found, and its weight, where there is a choice.
 pub record Chose (modes : ℕ) (table : List ℕ) (heuristic : ℕ) (rows assigned : List ℕ) (progress : Progress) (r : Selection) : Type 0 where
-  pub right : choice-of r ≡ chosen modes table heuristic (progress .round) assigned (terms-of row-width (progress .count) rows)
+  pub right : choice-of r ≡ chosen modes table heuristic assigned (terms-of row-width (progress .count) rows)
   pub within : r .«min_parent» < modes
   pub weighs : r .«min_weight» ≤ progress .count → r .«min_weight» ≡ weight-of (r .«leaf_indices») (terms-of row-width (progress .count) rows)
 

@@ -3,12 +3,12 @@ use Prim.Native.Nat.{_+_, _*_}
 use native.Mathlib.Omega.{arith}
 use borrow.Author.Tests.{eq-eqb, ne-eqb, lt-ltb, le-ltb}
 use borrow.Author.Needs.{needs}
-use Rattle.entities.specs.Codes.{code}
+use Rattle.entities.specs.Codes.{child-code}
 use Rattle.entities.proofs.codes.code.Statement.{statement}
 use Rattle.entities.proofs.codes.code.Tie as tie
 
 returns : tie.Need-returns
-unfolding code
+unfolding child-code
 returns c = rw (eq-eqb _ _ (c .if1 .taken))
 
 parent-number-requires : tie.Need-parent-number-requires
@@ -21,13 +21,13 @@ add-result : tie.Need-add-result
 add-result c = search needs
 
 returns-2 : tie.Need-returns-2
-unfolding code
+unfolding child-code
 returns-2 c =
     let args = c .before .before .before .args in
     rw (ne-eqb _ _ (c .before .before .if1 .left), lt-ltb (args .entity) (2 * args .modes + 1) (omega arith))
 
 returns-3 : tie.Need-returns-3
-unfolding code
+unfolding child-code
 returns-3 c =
     let args = c .before .before .before .args in
     rw (ne-eqb _ _ (c .before .before .if1 .left), le-ltb (args .entity) (2 * args .modes + 1) (omega arith)) (omega arith)

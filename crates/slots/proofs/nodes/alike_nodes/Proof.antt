@@ -1,7 +1,7 @@
 -- The slots of both, as lists.
 use mathlib.Core.Path.{_∙_}
 use borrow.Author.Needs.{needs}
-use Rattle.slots.proofs.SlotKinds.{slots-listed}
+use Rattle.slots.proofs.SlotNumbers.{slots-listed}
 use Rattle.slots.proofs.nodes.alike_nodes.Statement.{statement}
 use Rattle.slots.proofs.nodes.alike_nodes.Tie as tie
 

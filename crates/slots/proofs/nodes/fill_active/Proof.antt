@@ -12,11 +12,11 @@ use Rattle.slots.proofs.nodes.fill_active.Tie as tie
 
 -- How many are left is how many the front has.
 left-size : (c : tie.After-fill-remaining)
-    → length (take (c .fill-remaining .result) (c .fill-remaining .last .1 .1 .1 .1 .0)) ≡ c .fill-remaining .result
+    → length (take (c .fill-remaining .result) (c .fill-remaining .last .1 .1 .1 .0)) ≡ c .fill-remaining .result
 left-size c =
     let called = c .fill-remaining in
-    let whole : length (called .last .1 .1 .1 .1 .0) ≡ 256 = called .kept .1 .1 .1 .1 .0 in
-    length-take-le (called .result) (called .last .1 .1 .1 .1 .0) (omega arith)
+    let whole : length (called .last .1 .1 .1 .0) ≡ 256 = called .kept .1 .1 .1 .0 in
+    length-take-le (called .result) (called .last .1 .1 .1 .0) (omega arith)
 
 -- How many are far is how many that front has, and no more than there are.
 far-size : (c : tie.After-fill-far)
@@ -54,7 +54,7 @@ fill-far-requires c κs =
     let size = left-size (c .before .before .before) in
     let most = called .ensures .0 in
     let few = start .pre .0 .0 in
-    ((start .pre .1 .room, omega arith), rw (called .ensures .1) (remaining-below (start .args .modes) (start .args .tree .now) (start .args .round) (start .args .assigned .now)))
+    ((start .pre .1 .room, omega arith), rw (called .ensures .1) (remaining-below (start .args .modes) (start .args .tree .now) (start .args .assigned .now)))
 
 array-share-prefix-far : tie.Need-array-share-prefix-far
 array-share-prefix-far c = far-size (c .before) .0
@@ -72,7 +72,7 @@ fill-narrowed-requires c κs =
     let pre = start .pre .0 in (
       (pre .0, pre .1, pre .2, omega arith),
       rw (far .ensures .1 (start .args .tree .now) (start .pre .1))
-          (farthest-below (start .args .modes) (start .args .tree .now) _ (rw (left .ensures .1) (remaining-below (start .args .modes) (start .args .tree .now) (start .args .round) (start .args .assigned .now)))),
+          (farthest-below (start .args .modes) (start .args .tree .now) _ (rw (left .ensures .1) (remaining-below (start .args .modes) (start .args .tree .now) (start .args .assigned .now)))),
     )
 
 same-length : tie.Need-same-length

@@ -1,13 +1,12 @@
 -- The nodes gathered and those ahead are all that remain.
 use mathlib.Core.List.{_++_}
-use mathlib.Core.Bool.{_||_, not}
+use mathlib.Core.Bool.{not}
 use mathlib.Core.Path.{_≡_}
 use Prim.Native.Nat.{_≤_, _-_}
 use native.Mathlib.Nat.{sub-zero}
 use native.Mathlib.Omega.{arith}
 use borrow.Author.Needs.{needs}
 use lib.ListN.{length, take}
-use lib.Dec.{eqb}
 use Rattle.lists.specs.Ranges.{listed}
 use Rattle.lists.specs.Members.{keep}
 use Rattle.lists.proofs.Joined.{gathered, gathered-all}
@@ -18,17 +17,17 @@ use Rattle.slots.proofs.nodes.fill_remaining.Statement.{statement}
 use Rattle.slots.proofs.nodes.fill_remaining.Tie as tie
 
 abbrev Inv-loop : tie.InvT-loop
-Inv-loop modes tree assigned round left₀ count₀ node₀ left count node = (node ≤ modes) × (count ≤ node) × (length left ≡ length left₀) × (take count left ++ keep (λ v. eqb round 0 || not (complete modes tree assigned v)) (listed (λ v. v) node (modes - node)) ≡ remaining modes tree round assigned)
+Inv-loop modes tree assigned left₀ count₀ node₀ left count node = (node ≤ modes) × (count ≤ node) × (length left ≡ length left₀) × (take count left ++ keep (λ v. not (complete modes tree assigned v)) (listed (λ v. v) node (modes - node)) ≡ remaining modes tree assigned)
 
 abbrev μ-loop : tie.MeasureT-loop
-μ-loop modes tree assigned round left₀ count₀ node₀ left count node = modes - node
+μ-loop modes tree assigned left₀ count₀ node₀ left count node = modes - node
 
 loop-holds : tie.Need-loop-holds Inv-loop μ-loop
 unfolding remaining nodes
 loop-holds c = (omega arith, omega arith, omega arith, rw sub-zero)
 
-remains-requires : tie.Need-remains-requires Inv-loop μ-loop
-remains-requires c κs = search needs
+complete-requires : tie.Need-complete-requires Inv-loop μ-loop
+complete-requires c κs = search needs
 
 cast-put-if : tie.Need-cast-put-if Inv-loop μ-loop
 cast-put-if c = search needs
@@ -48,7 +47,7 @@ loop-again c =
     let args = here .before .before .before .before .args in
     let put = c .before .before .put-if in
     let same = put .kept .0 in
-    let one = rw (c .before .before .before .before .remains .ensures) at (put .ensures .1) in (
+    let one = rw (c .before .before .before .before .complete .ensures) at (put .ensures .1) in (
       omega arith,
       omega arith,
       omega arith,
@@ -70,7 +69,7 @@ fill-remaining-spec =
     Inv-loop
     μ-loop
     loop-holds
-    remains-requires
+    complete-requires
     cast-put-if
     put-if-requires
     add-node

@@ -1,5 +1,6 @@
 -- The free modes, the round's nodes, and the best over them.
-use mathlib.Core.Path.{_≡_, sym, _∙_, ap}
+use mathlib.Core.Path.{_≡_, sym, ap}
+use Prim.Native.Nat.{_+_, _*_, _<_}
 use native.Mathlib.Omega.{arith}
 use borrow.Author.Needs.{needs}
 use lib.Seq.{length-take-le}
@@ -7,9 +8,8 @@ use lib.ListN.{length, take}
 use Rattle.terms.specs.Rows.{terms-of}
 use Rattle.terms.proofs.RowSteps.{length-terms}
 use Rattle.slots.proofs.NodeBounds.{active-below}
-use Rattle.choice.specs.Choice.{chosen}
 use Rattle.choice.specs.code.Seeking.{choice-of}
-use Rattle.choice.proofs.ChosenSought.{over-chosen, over-weighs}
+use Rattle.choice.proofs.ChosenSought.{over-chosen}
 use Rattle.choice.proofs.ChosenBelow.{chosen-below}
 use Rattle.topphatt.proofs.rounds.choose.Statement.{statement}
 use Rattle.topphatt.proofs.rounds.choose.Tie as tie
@@ -26,13 +26,13 @@ free-size c =
 
 -- How many nodes there are is how many the front has.
 active-size : (c : tie.After-fill-active)
-    → length (take (c .fill-active .result) (c .fill-active .last .1 .1 .1 .1 .1 .1 .0)) ≡ c .fill-active .result
+    → length (take (c .fill-active .result) (c .fill-active .last .1 .1 .1 .1 .1 .0)) ≡ c .fill-active .result
 active-size c =
     let called = c .fill-active in
-    let whole : length (called .last .1 .1 .1 .1 .1 .1 .0) ≡ 256 = called .kept .1 .1 .1 .1 .1 .1 .0 in
+    let whole : length (called .last .1 .1 .1 .1 .1 .0) ≡ 256 = called .kept .1 .1 .1 .1 .1 .0 in
     let few = called .ensures .0 in
     let most = c .before .before .before .before .before .before .before .before .before .pre .few in
-    length-take-le (called .result) (called .last .1 .1 .1 .1 .1 .1 .0) (omega arith)
+    length-take-le (called .result) (called .last .1 .1 .1 .1 .1 .0) (omega arith)
 
 slice-aggregate-fill-unassigned : tie.Need-slice-aggregate-fill-unassigned
 slice-aggregate-fill-unassigned c = search needs
@@ -69,7 +69,7 @@ select-requires c κs =
         (pre .fits, pre .few, pre .pairs, pre .whole),
         (
           free .ensures .1,
-          rw (nodes .ensures .1) (active-below (start .args .modes) (start .args .tree .now) (start .args .heuristic) (start .args .progress .round) (start .args .assigned .now)),
+          rw (nodes .ensures .1) (active-below (start .args .modes) (start .args .tree .now) (start .args .heuristic) (start .args .assigned .now)),
         ),
       ),
     )
@@ -82,13 +82,13 @@ returns c =
     let rows = terms-of 8 (args .progress .count) (args .rows .now) in
     let size = length-terms 8 (args .progress .count) (args .rows .now) in
     let nodes = c .before .before .before .before .fill-active in
-    let right : choice-of (c .select .result) ≡ chosen (args .modes) (args .tree .now) (args .heuristic) (args .progress .round) (args .assigned .now) rows =
-    ap choice-of (rw (nodes .ensures .1) at (c .select .ensures))
-    ∙ over-chosen rows (args .modes) (args .tree .now) (args .heuristic) (args .progress .round) (args .assigned .now) (args .progress .count) (omega arith) in
+    let few : 3 * args .modes + 2 < 65536 = omega (arith, start .pre .few) in
+    let found = rw (← rw (nodes .ensures .1) at (c .select .ensures)) at
+    (over-chosen rows (args .progress .count) (omega arith) (args .modes) few (args .tree .now) (args .heuristic) (args .assigned .now)) in
     record {
-      right = right;
-      within = rw (ap (λ choice. choice .node) right) (chosen-below (args .modes) (args .tree .now) (args .heuristic) (args .progress .round) (args .assigned .now) rows (start .pre .some));
-      weighs = rw (c .select .ensures) (over-weighs rows (args .modes) (args .tree .now) (args .assigned .now) (args .progress .count) _ (omega arith));
+      right = found .right;
+      within = rw (ap (λ choice. choice .node) (found .right)) (chosen-below (args .modes) (args .tree .now) (args .heuristic) (args .assigned .now) rows (start .pre .some));
+      weighs = found .weighs;
     }
 
 pub choose-spec : {M : Type 1} → statement M

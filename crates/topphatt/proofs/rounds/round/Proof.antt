@@ -1,6 +1,6 @@
 -- The choice among the rows that are there, its weight, its leaves fixed, the rows reduced.
 use mathlib.Core.Path.{_≡_, refl, _∙_, ap}
-use Prim.Native.Nat.{_+_, _*_, _≤_}
+use Prim.Native.Nat.{_+_, _*_}
 use native.Mathlib.Omega.{arith}
 use borrow.Author.Needs.{needs}
 use Rattle.terms.specs.Rows.{terms-of}
@@ -9,6 +9,7 @@ use Rattle.terms.specs.Reduction.{reduction}
 use Rattle.terms.proofs.AsTold.{live-weight}
 use Rattle.choice.specs.Choice.{chosen}
 use Rattle.choice.specs.code.Seeking.{choice-of}
+use Rattle.topphatt.specs.declared.rounds.Progress.{Progress}
 use Rattle.topphatt.specs.code.Going.{task-with, state-of}
 use Rattle.topphatt.proofs.RoundSteps.{stepped, chosen-live}
 use Rattle.topphatt.proofs.rounds.round.Statement.{statement}
@@ -86,24 +87,27 @@ returns c =
     let args = start .args in
     let there = c .before .before .before .before .before .before .before .before .before .before .before .before .before .before .before .before .before .before .put-live .ensures in
     let chose = c .before .before .before .before .before .before .before .before .before .before .before .before .before .before .choose in
-    let light = c .before .before .before .before .before .before .before .before .before .before .before .before .chosen-weight .ensures in
+    let weighed = c .before .before .before .before .before .before .before .before .before .before .before .before .chosen-weight in
+    let light = weighed .ensures in
     let fixing = c .before .before .before .before .before .before .before .before .before .before .fix-all .ensures in
     let node = c .before .before .before .before .before .before .before .wide .ensures .0 in
     let parent = c .before .before .before .before .before .before .parent-number .ensures in
     let reduced = c .before .before .before .before .reduce-hamiltonian .ensures in
     let terms = terms-of 8 (args .progress .count) (args .rows .now) in
     let triple = chose .result .«leaf_indices» in
-    let right : choice-of (chose .result) ≡ chosen (args .modes) (args .tree .now) (args .heuristic) (args .progress .round) (args .assigned .now) terms =
+    let right : choice-of (chose .result) ≡ chosen (args .modes) (args .tree .now) (args .heuristic) (args .assigned .now) terms =
     chose .ensures .right
-    ∙ ap (chosen (args .modes) (args .tree .now) (args .heuristic) (args .progress .round) (args .assigned .now)) (there .terms)
-    ∙ chosen-live (args .modes) (args .tree .now) (args .heuristic) (args .progress .round) (args .assigned .now) terms in
+    ∙ ap (chosen (args .modes) (args .tree .now) (args .heuristic) (args .assigned .now)) (there .terms)
+    ∙ chosen-live (args .modes) (args .tree .now) (args .heuristic) (args .assigned .now) terms in
+    let then : Progress =
+    record { round = args .progress .round + 1; count = args .progress .count; weight = args .progress .weight + weighed .result } in
     let weighs = light .0 ∙ ap (weight-of triple) (there .terms) ∙ live-weight triple terms in
     record {
       on = omega arith;
       same-count = refl;
       right = λ first.
-          stepped (task-with (args .modes) (args .tree .now) (args .heuristic) first) (args .rows .now) (args .assigned .now) (args .progress) _ _ _
-          (choice-of (chose .result)) right (omega arith) (fixing .right)
+          stepped (task-with (args .modes) (args .tree .now) (args .heuristic) first) (args .rows .now) (args .assigned .now) (args .progress) _ _ then
+          (choice-of (chose .result)) right (fixing .right)
           (reduced .terms ∙ ap (λ p. reduction triple p terms) (parent ∙ ap (λ n. 2 * args .modes + 1 + n) node))
           (ap (λ w. args .progress .weight + w) weighs);
       going = record {
