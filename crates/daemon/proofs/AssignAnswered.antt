@@ -1,7 +1,7 @@
 -- Assigning called from C answers what the assignment comes to: nothing is written where it refuses, and all that is known where it is done.
 use mathlib.Core.Path.{_≡_, refl, ap, _∙_, sym}
 use mathlib.Core.List.{List}
-use Prim.Native.Nat.{ℕ, _+_, _*_, _<_, _≤_}
+use Prim.Native.Nat.{ℕ, _+_, _*_, _≤_}
 use native.Mathlib.Omega.{arith}
 use borrow.Author.Tests.{leb-true}
 use lib.Dec.{leb}
@@ -51,11 +51,11 @@ pub record TableFits (modes room : ℕ) (codes : List ℕ) : Type 0 where
   pub has-room : 3 * modes ≤ room
   pub exact : length codes ≡ 3 * modes
 
-pub table-fits : (rooms : Rooms) (call : Asked) (count weight : ℕ) (codes : List ℕ) → 3 * rooms .modes + 2 < 65536
+pub table-fits : (rooms : Rooms) (call : Asked) (count weight : ℕ) (codes : List ℕ)
     → outcome rooms call ≡ done count weight codes → TableFits (call .modes) (rooms .table) codes
-table-fits rooms call count weight codes few says =
+table-fits rooms call count weight codes says =
     let known = assign-done rooms call count weight codes says in
-    let right = outcome-right rooms call count weight codes few says in
+    let right = outcome-right rooms call count weight codes says in
     let parts = accepted-parts (rooms .modes) (call .modes) codes (right .accepted) in
     record {
       some-modes = parts .some;

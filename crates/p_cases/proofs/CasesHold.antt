@@ -1,12 +1,11 @@
 -- Document 01's P cases, all of them: the definitions say what it shows.
-use mathlib.Core.Path.{_≡_, refl}
-use mathlib.Core.Bool.{true}
+use mathlib.Core.Path.{refl}
 use mathlib.Core.List.{flatMap}
 use Rattle.lists.specs.Members.{every, keep, leading, some-of, alike, firsts, firsts-after}
 use Rattle.lists.specs.Counting.{sum, same, occurrences}
 use Rattle.lists.specs.Renewed.{renewed-after, renewed}
 use Rattle.lists.specs.Ranges.{listed, ascends, ascends-from}
-use Rattle.lists.specs.Least.{least, lighter, least-of}
+use Rattle.lists.specs.Least.{best-after, best-of, lighter, least, least-of}
 use Rattle.lists.specs.Written.{written-at}
 use Rattle.refusal.specs.Numbers.{refused-numbers, done-numbers}
 use Rattle.entities.specs.Codes.{child-code}
@@ -23,7 +22,7 @@ use Rattle.merging.specs.Choice.{weight-in, candidates, chosen}
 use Rattle.merging.specs.Run.{greedy, finished, run-weight, trials}
 use Rattle.merging.specs.Flatpack.{absent-leaf, children, walk, rows-for, flatpack}
 use Rattle.merging.specs.Trials.{trial-total}
-use Rattle.journal.specs.LineForms.{word, version, header-good, header-of, merge-good, merge-of-line, header-text, merge-text}
+use Rattle.journal.specs.LineForms.{header-good, header-of, merge-good, merge-of-line, header-text, merge-text}
 use Rattle.journal.specs.Obeying.{
   judged-merge,
   judged-form,
@@ -42,25 +41,22 @@ use Rattle.tree.specs.Table.{nodes, child, place-of, parent-of, climb}
 use Rattle.tree.specs.OneTree.{root-of, leaves-once, absent-once, nodes-once, all-reached, one-tree}
 use Rattle.tree.specs.Pairs.{chain-end, pair-under, pair-right, pairs-right}
 use Rattle.tree.specs.Check.{codes-good, tree-checked}
-use Rattle.tree.specs.Weight.{edge-under, edges, node-weight, row-weight, tree-weight, weighed-terms, tree-weighed}
+use Rattle.tree.specs.Weight.{edge-under, edges, node-weight, row-weight, tree-weight, weighed-terms, weighed-tree, tree-weighed, weight-numbers}
 use Rattle.tree.specs.Laying.{row-over, laid-over, laid, modes-in}
-use Rattle.slots.specs.Slots.{pair-of, parity-of, leaf-slot, slot-of, slot, slots, unfixed, leaf-of}
-use Rattle.slots.specs.Nodes.{distance, is-fixed, complete, remaining, largest, farthest, narrowed, active}
+use Rattle.slots.specs.Slots.{pair-of, parity-of, leaf-slot, slot-of, slot, unfixed, is-fixed, leaf-of, stands-as, slots}
+use Rattle.slots.specs.Nodes.{distance, complete, remaining, largest, farthest, narrowed, active}
 use Rattle.choice.specs.Choices.{unassigned, without, numbers, with-z, choices, choices-at}
-use Rattle.choice.specs.Choice.{candidates as topphatt-candidates, packed, rank, chosen as topphatt-chosen}
+use Rattle.choice.specs.Choice.{candidates as topphatt-candidates, larger, better, chosen as topphatt-chosen}
 use Rattle.topphatt.specs.Rounds.{before, fixed, fixed-by, after, next, rounds, ended}
 use Rattle.topphatt.specs.Answer.{answer-table, done-by, with-room, with-terms as topphatt-with-terms, with-tree, outcome}
 use Rattle.topphatt.specs.Promises.{numbers-of as topphatt-numbers, returned as topphatt-returned, lent-then as topphatt-left}
 use Rattle.newick.specs.Grammar.{spelled}
 use Rattle.newick.specs.Writing.{end-shape, shape-under, newick-text}
 use Rattle.newick.specs.Calls.{written-as, newick-written}
-use Rattle.text.specs.Input.{modes-word, term-word, modes-line, term-line, well-formed, formed-from, formed, term-row, whole, said}
-use Rattle.text.specs.Running.{program-rooms, ended as run-ended, ran-by, ran}
+use Rattle.text.specs.Input.{modes-line, term-line, well-formed, formed-from, formed, term-row, whole, said}
+use Rattle.text.specs.Running.{ended as run-ended, ran-by, ran}
 use Rattle.text.specs.Output.{
   line-of as text-line,
-  weight-word,
-  trials-word,
-  node-word,
   code-text,
   node-line,
   node-lines,
@@ -70,23 +66,21 @@ use Rattle.text.specs.Output.{
 }
 use Rattle.text.specs.NewickLine.{line-as, table-line, newick-printed, newick-answer-text}
 use Rattle.daemon.specs.Bytes.{word-at, words, two-bytes, eight-bytes}
-use Rattle.daemon.specs.Calls.{term-numbers, room-of, rooms-in, resume-called, hatt-called}
+use Rattle.daemon.specs.Calls.{roomy as bytes-roomy, with-terms as with-bytes, resume-called, hatt-called}
 use Rattle.daemon.specs.Promises.{result-of, answer-bytes, lent-then as bytes-left}
 use Rattle.p_cases.specs.Cases.{
   holds,
-  header,
-  line,
   meant,
   resuming,
-  weighed,
   told,
   weighing,
   assigning,
   printed,
   calling,
   cases,
+  CasesHold,
 }
 
 pub cases-hold : CasesHold
-unfolding cases holds header line meant resuming weighed told weighing assigning flatMap every keep leading some-of alike firsts firsts-after sum same occurrences listed ascends ascends-from least lighter written-at rows-of term terms-of modes-good good-indices good-row good-rows checked weight-of term-weight odd-ones reduction rewriting sorted put-in replacement dropped next-parent among is-open z-end holder rows-after is-lawful three-open paired named entities pairs-with lawful-pairs weight-in candidates least-of chosen greedy finished run-weight trials merge-of child-code absent-leaf children walk rows-for flatpack is-digit value-after value leads-well is-number digits decimal fields-after fields word version header-good header-of merge-good merge-of-line tabbed header-text merge-text lines-after lines kept-of obeyed-next obeyed-lines obeyed-header obeyed-texts obeyed line-of greedy-lines new-text ending with-journal roomy with-terms resumed returned nodes child place-of parent-of climb root-of leaves-once absent-once nodes-once all-reached one-tree chain-end pair-under pair-right pairs-right codes-good tree-checked edge-under edges node-weight row-weight tree-weight weighed-terms tree-weighed pair-of parity-of leaf-slot slot-of slot slots unfixed leaf-of distance is-fixed complete remaining largest farthest narrowed active unassigned without numbers with-z choices choices-at topphatt-candidates packed rank topphatt-chosen before fixed fixed-by after next rounds ended answer-table with-room topphatt-with-terms with-tree outcome topphatt-returned trial-total hatt-run row-over laid-over laid modes-in spelled end-shape shape-under newick-text written-as newick-written modes-word term-word modes-line term-line well-formed formed-from formed term-row whole said run-ended ran-by ran text-line weight-word trials-word node-word code-text node-line node-lines done-text run-printed answer-text line-as table-line newick-printed newick-answer-text word-at words two-bytes eight-bytes term-numbers room-of resume-called hatt-called result-of answer-bytes printed calling judged-merge judged-form judged-line obeyed-as header-behind numbers-of lent-then renewed-after renewed stays settled reduced-row refused-numbers done-numbers done-by topphatt-numbers topphatt-left rooms-in bytes-left
+unfolding cases holds meant resuming told weighing assigning flatMap every keep leading some-of alike firsts firsts-after sum same occurrences listed ascends ascends-from least lighter written-at rows-of term terms-of modes-good good-indices good-row good-rows checked weight-of term-weight odd-ones reduction rewriting sorted put-in replacement dropped next-parent among is-open z-end holder rows-after is-lawful three-open paired named entities pairs-with lawful-pairs weight-in candidates least-of chosen greedy finished run-weight trials merge-of child-code absent-leaf children walk rows-for flatpack is-digit value-after value leads-well is-number digits decimal fields-after fields header-good header-of merge-good merge-of-line tabbed header-text merge-text lines-after lines kept-of obeyed-next obeyed-lines obeyed-header obeyed-texts obeyed line-of greedy-lines new-text ending with-journal roomy with-terms resumed returned nodes child place-of parent-of climb root-of leaves-once absent-once nodes-once all-reached one-tree chain-end pair-under pair-right pairs-right codes-good tree-checked edge-under edges node-weight row-weight tree-weight weighed-terms tree-weighed pair-of parity-of leaf-slot slot-of slot slots unfixed leaf-of distance complete remaining largest farthest narrowed active unassigned without numbers with-z choices choices-at topphatt-candidates topphatt-chosen before fixed fixed-by after next rounds ended answer-table with-room topphatt-with-terms with-tree outcome topphatt-returned trial-total hatt-run row-over laid-over laid modes-in spelled end-shape shape-under newick-text written-as newick-written modes-line term-line well-formed formed-from formed term-row whole said run-ended ran-by ran text-line code-text node-line node-lines done-text run-printed answer-text line-as table-line newick-printed newick-answer-text word-at words two-bytes eight-bytes resume-called hatt-called result-of answer-bytes printed calling judged-merge judged-form judged-line obeyed-as header-behind numbers-of lent-then renewed-after renewed stays settled reduced-row refused-numbers done-numbers done-by topphatt-numbers topphatt-left bytes-left best-after best-of weighed-tree weight-numbers stands-as is-fixed larger better bytes-roomy with-bytes
 cases-hold = refl

@@ -25,11 +25,11 @@ use Rattle.tree.proofs.OneTreeSays.{OneTreeSays, says-one-tree, parent-below}
 use Rattle.tree.proofs.AcceptedTree.{accepted-says, pairs-lead}
 use Rattle.tree.proofs.TableSteps.{code-good}
 use Rattle.tree.proofs.EachHosts.{host, host-pair}
-use Rattle.slots.specs.Slots.{parity-of}
+use Rattle.slots.specs.Slots.{pair-of, parity-of}
 use Rattle.slots.proofs.SlotCases.{even-pair, odd-pair, even-parity, odd-parity}
 use Rattle.topphatt.specs.Answer.{answer-table}
 use Rattle.topphatt.specs.Assignment.{AllAssigned}
-use Rattle.topphatt.proofs.AnswerShape.{relabelled, node-kept, absent-kept, mode-of, mode-below, leaf-relabelled, answer-at, answer-length, pair-with, node-same, node-counts, same-shape}
+use Rattle.topphatt.proofs.AnswerShape.{relabelled, node-kept, absent-kept, mode-of, mode-below, leaf-relabelled, answer-at, answer-length, pair-with, node-same, node-counts, answer-shape}
 
 module _ (modes : ℕ) (table assigned : List ℕ) (all : AllAssigned modes table assigned) (fits : 3 * modes ≤ absent) where
   answer : List ℕ
@@ -87,18 +87,13 @@ module _ (modes : ℕ) (table assigned : List ℕ) (all : AllAssigned modes tabl
           (on (child table given 2))
       go false q on = rw (same-node given, q) (on given)
 
-  -- The leaves of a pair become those of its mode.
-  even-now : (k mode : ℕ) → k < modes → getD assigned k modes ≡ mode → relabelled modes assigned (modes + 2 * k) ≡ modes + 2 * mode
+  -- A leaf of a pair becomes that of the pair's mode.
+  leaf-now : (given k mode : ℕ) → modes ≤ given → given < 3 * modes → pair-of modes given ≡ k → getD assigned k modes ≡ mode
+      → relabelled modes assigned given ≡ modes + 2 * mode + parity-of modes given
   unfolding mode-of
-  even-now k mode l e =
-      let has : mode-of modes table assigned all fits (modes + 2 * k) ≡ mode = ap (λ j. getD assigned j modes) (even-pair modes k) ∙ e in
-      omega (arith, leaf-relabelled modes table assigned all fits (modes + 2 * k) (omega arith) (omega arith), even-parity modes k)
-
-  odd-now : (k mode : ℕ) → k < modes → getD assigned k modes ≡ mode → relabelled modes assigned (modes + 2 * k + 1) ≡ modes + 2 * mode + 1
-  unfolding mode-of
-  odd-now k mode l e =
-      let has : mode-of modes table assigned all fits (modes + 2 * k + 1) ≡ mode = ap (λ j. getD assigned j modes) (odd-pair modes k) ∙ e in
-      omega (arith, leaf-relabelled modes table assigned all fits (modes + 2 * k + 1) (omega arith) (omega arith), odd-parity modes k)
+  leaf-now given k mode low high pair e =
+      let has : mode-of modes table assigned all fits given ≡ mode = ap (λ j. getD assigned j modes) pair ∙ e in
+      omega (arith, leaf-relabelled modes table assigned all fits given low high)
 
   module _ (most : ℕ) (accepted : tree-checked most modes table ≡ Accepted) where
     same-climb : (steps node : ℕ) → node < modes → climb answer steps node ≡ climb table steps node
@@ -159,7 +154,7 @@ module _ (modes : ℕ) (table assigned : List ℕ) (all : AllAssigned modes tabl
     unfolding answer
     answer-says =
         let says = accepted-says most modes table accepted in
-        let shape = same-shape modes table assigned all fits most accepted in
+        let shape = answer-shape modes table assigned all fits most accepted in
         record {
           inside = says .inside;
           top = node-counts modes table assigned all fits (root-of modes table) (says .inside) ∙ says .top;
@@ -178,14 +173,16 @@ module _ (modes : ℕ) (table assigned : List ℕ) (all : AllAssigned modes tabl
           host modes table k,
           record {
             inside = pair .inside;
-            even = rw (child-relabelled (host modes table k) 0, chain-relabelled modes (child table (host modes table k) 0), pair .even) (even-now k mode (from .1) (from .2));
-            odd = rw (child-relabelled (host modes table k) 1, chain-relabelled modes (child table (host modes table k) 1), pair .odd) (odd-now k mode (from .1) (from .2));
+            even = rw (child-relabelled (host modes table k) 0, chain-relabelled modes (child table (host modes table k) 0), pair .even)
+                (omega (arith, leaf-now (modes + 2 * k) k mode (omega arith) (omega (arith, from .1)) (even-pair modes k) (from .2), even-parity modes k));
+            odd = rw (child-relabelled (host modes table k) 1, chain-relabelled modes (child table (host modes table k) 1), pair .odd)
+                (omega (arith, leaf-now (modes + 2 * k + 1) k mode (omega arith) (omega (arith, from .1)) (odd-pair modes k) (from .2), odd-parity modes k));
           },
         )
 
-    pub accepted-still : tree-checked most modes (answer-table modes assigned table) ≡ Accepted
+    pub answer-accepted : tree-checked most modes (answer-table modes assigned table) ≡ Accepted
     unfolding answer codes-good
-    accepted-still =
+    answer-accepted =
         let parts = accepted-parts most modes table accepted in
         parts-accepted most modes (answer-table modes assigned table)
         (record {

@@ -151,9 +151,9 @@ module _ (modes : ℕ) (table assigned : List ℕ) (all : AllAssigned modes tabl
   node-counts node h = occurrences-map (relabelled modes assigned) node node table (λ given m. node-same node given h)
 
   module _ (most : ℕ) (accepted : tree-checked most modes table ≡ Accepted) where
-    pub same-shape : SameShape modes table (answer-table modes assigned table)
+    pub answer-shape : SameShape modes table (answer-table modes assigned table)
     unfolding pair-of parity-of
-    same-shape =
+    answer-shape =
         record {
           whole = answer-length;
           node-stays = λ place h low. answer-at place ∙ node-kept (getD table place absent) low;

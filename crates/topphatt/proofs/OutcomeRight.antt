@@ -10,8 +10,8 @@ use Rattle.topphatt.specs.Assignment.{AnswerRight, EveryAssignment}
 use Rattle.topphatt.proofs.AssignDone.{assign-done}
 use Rattle.topphatt.proofs.RoundsGo.{all-assigned}
 use Rattle.topphatt.proofs.RoundsWent.{ended-went}
-use Rattle.topphatt.proofs.AnswerShape.{same-shape}
-use Rattle.topphatt.proofs.AnswerAccepted.{accepted-still}
+use Rattle.topphatt.proofs.AnswerShape.{answer-shape}
+use Rattle.topphatt.proofs.AnswerAccepted.{answer-accepted}
 
 module _ (most : ℕ) (task : Task) (accepted : tree-checked most (task .job .modes) (task .table) ≡ Accepted) where
   ended-right : AnswerRight most task (ended task .weight) (answer-table (task .job .modes) (ended task .assigned) (task .table))
@@ -24,8 +24,8 @@ module _ (most : ℕ) (task : Task) (accepted : tree-checked most (task .job .mo
         weight-is = refl;
         answer-is = refl;
         all = all;
-        shape = same-shape (task .job .modes) (task .table) (ended task .assigned) all fits most accepted;
-        accepted = accepted-still (task .job .modes) (task .table) (ended task .assigned) all fits most accepted;
+        shape = answer-shape (task .job .modes) (task .table) (ended task .assigned) all fits most accepted;
+        accepted = answer-accepted (task .job .modes) (task .table) (ended task .assigned) all fits most accepted;
       }
 
 pub outcome-right : EveryAssignment

@@ -39,7 +39,7 @@ put-assigned-requires c κs =
     let meant = outcome (rooms-of 256 given) call in
     let answers = c .before .before .before .before .before .before .before .before .before .before .assign .ensures in
     let finish = assigned-meant meant _ _ (answers .answer) (c .before .before .before .before .weight .given .1) in
-    let fit = table-fits (rooms-of 256 given) call (finish .count) _ (finish .codes) (omega arith) (finish .is) in
+    let fit = table-fits (rooms-of 256 given) call (finish .count) _ (finish .codes) (finish .is) in
     let some : 1 ≤ length (args .own .now) = omega (arith, fit .has-room, fit .some-modes) in
     let room : 6 * args .modes ≤ length (args .table .now) = omega (arith, fit .has-room, start .pre .0) in
     (omega (arith, fit .has-room), room, start .pre .1 some)
@@ -81,7 +81,7 @@ returns-2 c =
     let meant = outcome (rooms-of 256 given) call in
     let answers = c .before .before .before .before .before .before .before .before .before .before .before .before .before .before .before .assign .ensures in
     let finish = assigned-meant meant _ _ (answers .answer) (c .before .before .before .before .before .before .before .before .before .weight .given .1) in
-    let fit = table-fits (rooms-of 256 given) call (finish .count) _ (finish .codes) (omega arith) (finish .is) in
+    let fit = table-fits (rooms-of 256 given) call (finish .count) _ (finish .codes) (finish .is) in
     let put = c .before .before .before .before .put-assigned .ensures in
     assign-written meant (lent-table (args .table .now) (args .answer .now)) (args .modes) _ given _ _ _ finish fit (answers .leaves) (put .0) (put .1)
 

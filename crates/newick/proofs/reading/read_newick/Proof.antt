@@ -8,7 +8,7 @@ use lib.ListN.{length, take}
 use lib.Seq.{length-take-le}
 use Rattle.refusal.proofs.Told.{tells}
 use Rattle.newick.specs.Reading.{got, text-read}
-use Rattle.newick.specs.Calls.{read-numbers, table-after}
+use Rattle.newick.specs.Calls.{table-after}
 use Rattle.newick.proofs.PartsRead.{part-child, part-stuck, part-crowded}
 use Rattle.newick.proofs.TreeTaken.{says-stuck, says-crowded, says-read, table-said}
 use Rattle.newick.proofs.reading.read_newick.Statement.{statement}

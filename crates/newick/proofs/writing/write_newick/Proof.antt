@@ -4,7 +4,7 @@ use borrow.Author.Needs.{needs}
 use Rattle.refusal.proofs.Told.{tells}
 use Rattle.tree.specs.declared.TreeChecked.the-variants.{Accepted}
 use Rattle.tree.specs.Check.{tree-checked}
-use Rattle.newick.specs.Calls.{written-numbers, newick-written, written-as, text-after}
+use Rattle.newick.specs.Calls.{newick-written, written-as, text-after}
 use Rattle.newick.proofs.writing.write_newick.Statement.{statement}
 use Rattle.newick.proofs.writing.write_newick.Tie as tie
 
