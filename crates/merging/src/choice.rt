@@ -2,7 +2,7 @@
 ghost use mathlib.Core.Path.{_≡_};
 ghost use mathlib.Core.Bool.{cond};
 ghost use mathlib.Core.List.{List, [], _∷_};
-ghost use Prim.Native.Nat.{ℕ, _+_, _≤_, _<_};
+ghost use Prim.Native.Nat.{ℕ, _+_, _*_, _≤_, _<_};
 ghost use lib.ListN.{getD, length};
 ghost use Rattle.entities.specs.declared.Triple.{Triple as Three};
 ghost use Rattle.entities.specs.Limits.{«most-modes», «most-terms», «row-width», «entity-room»};
@@ -132,7 +132,7 @@ fn best_with<'a>(
     best: Best,
 ) -> Best
     requires { ⌜ Held row-width count (now rows) ⌝ }
-    requires { ⌜ (count ≤ most-terms) × (modes ≤ most-modes) × (a < entity-room) × (getD (now ends) a 0 < 768) ⌝ }
+    requires { ⌜ (count ≤ most-terms) × (modes ≤ most-modes) × (a < entity-room) × (getD (now ends) a 0 < 3 * most-modes) ⌝ }
     ensures { λ r. ⌜ ((history : List Three) → Tied entity-room modes history (now (opens .entry)) (now (ends .entry)) (now (holders .entry)) → r ≡ seek (weight-here count (now (rows .entry))) best (beside-couple modes history next (couple modes history a))) ⌝ }
 {
     let Couple::Of(x, y) = lawful::couple_of(opens, ends, holders, modes, a) else {
@@ -153,7 +153,7 @@ pub fn choose<'a>(
 ) -> Best
     requires { ⌜ Held row-width count (now rows) ⌝ }
     requires { ⌜ (count ≤ most-terms) × (modes ≤ most-modes) × (next ≤ entity-room) ⌝ }
-    requires { ⌜ ((entity : ℕ) → entity < next → getD (now ends) entity 0 < 768) ⌝ }
+    requires { ⌜ ((entity : ℕ) → entity < next → getD (now ends) entity 0 < 3 * most-modes) ⌝ }
     ensures { λ r. ⌜ ((history : List Three) → Tied entity-room modes history (now (opens .entry)) (now (ends .entry)) (now (holders .entry)) → next ≡ next-parent modes history → r ≡ seek (weight-here count (now (rows .entry))) (nothing count) (candidates modes history)) ⌝ }
 {
     let mut best = Best {

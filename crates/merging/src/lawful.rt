@@ -2,7 +2,7 @@
 ghost use mathlib.Core.Path.{_≡_};
 ghost use mathlib.Core.Bool.{true};
 ghost use mathlib.Core.List.{List};
-ghost use Prim.Native.Nat.{ℕ, _≤_, _<_};
+ghost use Prim.Native.Nat.{ℕ, _*_, _≤_, _<_};
 ghost use lib.ListN.{getD};
 ghost use Rattle.entities.specs.declared.Triple.{Triple as Three};
 ghost use Rattle.entities.specs.Limits.{«most-modes», «entity-room»};
@@ -102,7 +102,7 @@ pub fn paired(ends: &[u16; 769], modes: usize, triple: Triple) -> bool
 
 // What the entity names as x and y: itself and the holder of the leaf paired with its z-end, the even one first.
 fn name_pair<'a>(ends: &'a [u16; 769], holders: &'a [u16; 769], a: u16) -> Named
-    requires { ⌜ (a < entity-room) × (getD (now ends) a 0 < 768) ⌝ }
+    requires { ⌜ (a < entity-room) × (getD (now ends) a 0 < 3 * most-modes) ⌝ }
     ensures { λ r. ⌜ ((modes : ℕ) (history : List Three) → EndsAre entity-room modes history (now (ends .entry)) → HoldersAre entity-room modes history (now (holders .entry)) → (r .x ≡ x-of modes history a) × (r .y ≡ y-of modes history a)) ⌝ }
 {
     let end = end_of(ends, a);
@@ -144,7 +144,7 @@ pub fn couple_of<'a>(
     modes: usize,
     a: u16,
 ) -> Couple
-    requires { ⌜ (modes ≤ most-modes) × (a < entity-room) × (getD (now ends) a 0 < 768) ⌝ }
+    requires { ⌜ (modes ≤ most-modes) × (a < entity-room) × (getD (now ends) a 0 < 3 * most-modes) ⌝ }
     ensures { λ r. ⌜ ((history : List Three) → Tied entity-room modes history (now (opens .entry)) (now (ends .entry)) (now (holders .entry)) → r ≡ couple modes history a) ⌝ }
 {
     let pair = name_pair(ends, holders, a);

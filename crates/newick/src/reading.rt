@@ -149,7 +149,7 @@ fn read_node(text: &[u8], at: usize, height: usize, rows: &mut [u32], closed: us
 
 // The whole text: a node, `;`, and nothing behind it.
 fn read_text(text: &[u8], rows: &mut [u32]) -> Part
-    requires { ⌜ length (now rows) ≡ 1024 ⌝ }
+    requires { ⌜ length (now rows) ≡ 4 * most-modes ⌝ }
     ensures { λ r. ⌜ Reads (text-read most-modes (now (text .entry))) (now (text .entry)) (now (rows .exit)) most-modes r ⌝ }
 {
     let part = marked(text, read_node(text, 0, 256, rows, 0), b';');

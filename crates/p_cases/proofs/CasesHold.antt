@@ -35,7 +35,7 @@ use Rattle.journal.specs.Obeying.{
   obeyed,
 }
 use Rattle.journal.specs.Writing.{line-of, greedy-lines, header-behind, new-text}
-use Rattle.journal.specs.Resuming.{ending, with-journal, roomy, with-terms, resumed, hatt-run}
+use Rattle.journal.specs.Resuming.{ending, with-journal, roomy, with-terms, resumed}
 use Rattle.journal.specs.Promises.{numbers-of, returned, lent-then}
 use Rattle.tree.specs.Table.{nodes, child, place-of, parent-of, climb}
 use Rattle.tree.specs.OneTree.{root-of, leaves-once, absent-once, nodes-once, all-reached, one-tree}
@@ -54,7 +54,7 @@ use Rattle.newick.specs.Grammar.{spelled}
 use Rattle.newick.specs.Writing.{end-shape, shape-under, newick-text}
 use Rattle.newick.specs.Calls.{written-as, newick-written}
 use Rattle.text.specs.Input.{modes-line, term-line, well-formed, formed-from, formed, term-row, whole, said}
-use Rattle.text.specs.Running.{ended as run-ended, ran-by, ran}
+use Rattle.text.specs.Running.{ran-by, ran}
 use Rattle.text.specs.Output.{
   line-of as text-line,
   code-text,
@@ -62,6 +62,7 @@ use Rattle.text.specs.Output.{
   node-lines,
   done-text,
   printed as run-printed,
+  resume-text,
   answer-text,
 }
 use Rattle.text.specs.NewickLine.{line-as, table-line, newick-printed, newick-answer-text}
@@ -82,5 +83,5 @@ use Rattle.p_cases.specs.Cases.{
 }
 
 pub cases-hold : CasesHold
-unfolding cases holds meant resuming told weighing assigning flatMap every keep leading some-of alike firsts firsts-after sum same occurrences listed ascends ascends-from least lighter written-at rows-of term terms-of modes-good good-indices good-row good-rows checked weight-of term-weight odd-ones reduction rewriting sorted put-in replacement dropped next-parent among is-open z-end holder rows-after is-lawful three-open paired named entities pairs-with lawful-pairs weight-in candidates least-of chosen greedy finished run-weight trials merge-of child-code absent-leaf children walk rows-for flatpack is-digit value-after value leads-well is-number digits decimal fields-after fields header-good header-of merge-good merge-of-line tabbed header-text merge-text lines-after lines kept-of obeyed-next obeyed-lines obeyed-header obeyed-texts obeyed line-of greedy-lines new-text ending with-journal roomy with-terms resumed returned nodes child place-of parent-of climb root-of leaves-once absent-once nodes-once all-reached one-tree chain-end pair-under pair-right pairs-right codes-good tree-checked edge-under edges node-weight row-weight tree-weight weighed-terms tree-weighed pair-of parity-of leaf-slot slot-of slot slots unfixed leaf-of distance complete remaining largest farthest narrowed active unassigned without numbers with-z choices choices-at topphatt-candidates topphatt-chosen before fixed fixed-by after next rounds ended answer-table with-room topphatt-with-terms with-tree outcome topphatt-returned trial-total hatt-run row-over laid-over laid modes-in spelled end-shape shape-under newick-text written-as newick-written modes-line term-line well-formed formed-from formed term-row whole said run-ended ran-by ran text-line code-text node-line node-lines done-text run-printed answer-text line-as table-line newick-printed newick-answer-text word-at words two-bytes eight-bytes resume-called hatt-called result-of answer-bytes printed calling judged-merge judged-form judged-line obeyed-as header-behind numbers-of lent-then renewed-after renewed stays settled reduced-row refused-numbers done-numbers done-by topphatt-numbers topphatt-left bytes-left best-after best-of weighed-tree weight-numbers stands-as is-fixed larger better bytes-roomy with-bytes
+unfolding cases holds meant resuming told weighing assigning flatMap every keep leading some-of alike firsts firsts-after sum same occurrences listed ascends ascends-from least lighter written-at rows-of term terms-of modes-good good-indices good-row good-rows checked weight-of term-weight odd-ones reduction rewriting sorted put-in replacement dropped next-parent among is-open z-end holder rows-after is-lawful three-open paired named entities pairs-with lawful-pairs weight-in candidates least-of chosen greedy finished run-weight trials merge-of child-code absent-leaf children walk rows-for flatpack is-digit value-after value leads-well is-number digits decimal fields-after fields header-good header-of merge-good merge-of-line tabbed header-text merge-text lines-after lines kept-of obeyed-next obeyed-lines obeyed-header obeyed-texts obeyed line-of greedy-lines new-text ending with-journal roomy with-terms resumed returned nodes child place-of parent-of climb root-of leaves-once absent-once nodes-once all-reached one-tree chain-end pair-under pair-right pairs-right codes-good tree-checked edge-under edges node-weight row-weight tree-weight weighed-terms tree-weighed pair-of parity-of leaf-slot slot-of slot slots unfixed leaf-of distance complete remaining largest farthest narrowed active unassigned without numbers with-z choices choices-at topphatt-candidates topphatt-chosen before fixed fixed-by after next rounds ended answer-table with-room topphatt-with-terms with-tree outcome topphatt-returned trial-total row-over laid-over laid modes-in spelled end-shape shape-under newick-text written-as newick-written modes-line term-line well-formed formed-from formed term-row whole said resume-text ran-by ran text-line code-text node-line node-lines done-text run-printed answer-text line-as table-line newick-printed newick-answer-text word-at words two-bytes eight-bytes resume-called hatt-called result-of answer-bytes printed calling judged-merge judged-form judged-line obeyed-as header-behind numbers-of lent-then renewed-after renewed stays settled reduced-row refused-numbers done-numbers done-by topphatt-numbers topphatt-left bytes-left best-after best-of weighed-tree weight-numbers stands-as is-fixed larger better bytes-roomy with-bytes
 cases-hold = refl

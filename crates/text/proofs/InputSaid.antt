@@ -20,7 +20,8 @@ use Rattle.text.specs.declared.input.Said.{Said}
 use Rattle.text.specs.declared.input.Said.the-variants.{Given, Malformed}
 use Rattle.text.specs.declared.input.Terms.{Terms}
 use Rattle.text.specs.Input.{modes-line, well-formed, formed-from, formed, whole, said, given, malformed}
-use Rattle.text.specs.Running.{stopped, Rooms, ran-by, ran}
+use Rattle.journal.specs.Resuming.{refuses}
+use Rattle.text.specs.Running.{Rooms, ran-by, ran}
 use Rattle.text.specs.code.Reading.{modes-said, all-terms, TermsRead, meant-by, terms-given, Reads}
 
 eqb-behind : (n a b : ℕ) → eqb (n + a) (n + b) ≡ eqb a b
@@ -141,14 +142,16 @@ module _ (most : ℕ) (text numbers : List ℕ) (r : Said) (reads : Reads most (
     unfolding terms-given
     given-few = rw e at (reads .few)
 
-    pub given-ran : (rooms : Rooms) → rooms .terms ≡ most → ran-by rooms (given n (take (8 * count) numbers)) ≡ ran rooms text
+    pub given-ran : (rooms : Rooms) (read : List ℕ) → rooms .terms ≡ most
+        → ran-by rooms (given n (take (8 * count) numbers)) read ≡ ran rooms text read
     unfolding ran ran-by meant-by
-    given-ran rooms fits =
+    given-ran rooms read fits =
         let says : given n (take (8 * count) numbers) ≡ said most text = rw e at (reads .says) in
         rw (fits, ← says)
 
-  pub malformed-ran : (line : ℕ) → r ≡ Malformed line → (rooms : Rooms) → rooms .terms ≡ most → stopped (Badly line) ≡ ran rooms text
+  pub malformed-ran : (line : ℕ) → r ≡ Malformed line → (rooms : Rooms) (read : List ℕ) → rooms .terms ≡ most
+      → ran rooms text read ≡ refuses (Badly line)
   unfolding ran ran-by meant-by
-  malformed-ran line e rooms fits =
+  malformed-ran line e rooms read fits =
       let says : malformed line ≡ said most text = rw e at (reads .says) in
       rw (fits, ← says)

@@ -1,4 +1,4 @@
--- The laws of the program's text.
+-- The laws of the programs' text.
 pub mod PrintedLines
 pub mod LineWords
 pub mod TermsAhead
@@ -6,5 +6,7 @@ pub mod InputSaid
 pub mod RunEnds
 pub mod LongInput
 pub mod LinePrinted
+pub mod JournalRefused
 pub mod RoomSuffices
 pub mod LineSuffices
+pub mod Continues

@@ -1,14 +1,12 @@
 -- A tree's text written with a byte's room behind it, and the line that it is printed as.
-use mathlib.Core.Path.{_≡_, refl, ap, _∙_, sym}
+use mathlib.Core.Path.{_≡_, refl, ap, _∙_}
 use mathlib.Core.Bool.{Bool, true, false, cond}
-use mathlib.Core.List.{List, _++_, append-assoc}
+use mathlib.Core.List.{List, [], _++_}
 use Prim.Native.Nat.{ℕ, _+_, _*_, _/_, _<_, _≤_}
 use native.Mathlib.Omega.{arith}
 use borrow.Author.Tests.{leb-true}
 use lib.Dec.{leb}
 use lib.ListN.{length, take, drop, set, replicate, length-append, take-append-drop}
-use lib.Seq.{drop-append-le, length-take-le}
-use Rattle.lists.specs.Written.{written-at}
 use Rattle.lists.proofs.Behind.{written-one}
 use Rattle.refusal.specs.declared.Refusal.{Refusal}
 use Rattle.refusal.specs.declared.Refusal.the-variants.{Room}
@@ -22,23 +20,16 @@ use Rattle.newick.specs.declared.writing.NewickWritten.{NewickWritten}
 use Rattle.newick.specs.declared.writing.NewickWritten.the-variants.{Written, Unwritten}
 use Rattle.newick.specs.Writing.{newick-text}
 use Rattle.newick.specs.Calls.{written-as, newick-written, text-after}
-use Rattle.text.specs.declared.running.Ran.{Ran}
-use Rattle.text.specs.declared.running.Ran.the-variants.{Done, Refused}
-use Rattle.text.specs.code.Runs.{ended-as, Runs}
-use Rattle.text.specs.Running.{Ended, came, Rooms}
+use Rattle.journal.specs.Resuming.{Outcome}
+use Rattle.text.specs.declared.running.Run.{Run}
+use Rattle.text.specs.code.Runs.{Lent, RanDone}
+use Rattle.text.specs.Running.{Rooms}
 use Rattle.text.specs.Output.{refusal-text}
 use Rattle.text.specs.NewickLine.{line-as, table-line, line-room, newick-printed, newick-answer-text}
 use Rattle.text.specs.code.Printing.{Puts}
+use Rattle.text.proofs.PrintedLines.{front-over}
+use Rattle.text.proofs.RunEnds.{rows-stand}
 use Rattle.text.proofs.LongInput.{cut-runs}
-
--- Written over the front of a list's front, a part is written over the list's.
-front-over : (part s : List ℕ) (room : ℕ) → length part ≤ room → room ≤ length s → written-at 0 part (take room s) ++ drop room s ≡ written-at 0 part s
-unfolding written-at
-front-over part s room h k =
-    let end = 0 + length part in
-    append-assoc part (drop end (take room s)) (drop room s)
-    ∙ ap (λ l. part ++ l)
-    (sym (drop-append-le end (take room s) (drop room s) (omega (arith, length-take-le room s k))) ∙ ap (drop end) (take-append-drop room s))
 
 -- What was written has the text's length and fits.
 pub record Fits (text : List ℕ) (room count : ℕ) : Type 0 where
@@ -102,23 +93,16 @@ pub laid-in : (modes : ℕ) (rows before after : List ℕ) → length before ≡
 unfolding laid
 laid-in modes rows before after size e = e ∙ ap (λ n. laid-over (replicate n absent) rows) size
 
--- What is printed of a run, case by case.
-module _ (most : ℕ) (means : Ended) (rows : List ℕ) (r : Ran) (runs : Runs most means rows r) where
-  pub refused-newick : (refusal : Refusal) → r ≡ Refused refusal → refusal-text refusal ≡ newick-printed most means
-  unfolding ended-as newick-printed
-  refused-newick refusal e = ap (newick-printed most) (rw e at (runs .says))
-
-  pub done-newick : (modes weight trials : ℕ) → r ≡ Done modes weight trials → 4 * modes ≤ length rows
-      → table-line most line-room modes (laid modes (take (4 * modes) rows)) ≡ newick-printed most means
-  unfolding ended-as newick-printed modes-in
-  done-newick modes weight trials e k =
-      let front = take (4 * modes) rows in
-      let size : modes ≡ length front / 4 = omega (arith, length-take-le (4 * modes) rows k) in
-      let says : came weight trials front ≡ means = rw e at (runs .says) in
-      ap (λ n. table-line most line-room n (laid n front)) size ∙ ap (newick-printed most) says
+-- What is printed of a run that is done.
+pub done-newick : {most : ℕ} {means : Outcome} {before after : Lent} {run : Run} → RanDone most means before after run → 4 * most ≤ length (before .rows)
+    → table-line most line-room (run .modes) (laid (run .modes) (take (4 * run .modes) (after .rows))) ≡ newick-printed most means
+unfolding newick-printed modes-in
+done-newick {most} {means} {before} {after} {run} known room =
+    let size : run .modes ≡ length (known .ending .rows) / 4 = omega (arith, known .exact) in
+    rw (known .is, rows-stand known room) (ap (λ n. table-line most line-room n (laid n (known .ending .rows))) size)
 
 -- A text cut behind the longest well-formed one is answered as the whole text is.
 pub cut-newick : (rooms : Rooms) (cut : ℕ) (text : List ℕ) → 12 + 47 * rooms .terms < cut
     → newick-answer-text rooms (take cut text) ≡ newick-answer-text rooms text
 unfolding newick-answer-text
-cut-newick rooms cut text h = ap (newick-printed (rooms .run .modes)) (cut-runs rooms cut text h)
+cut-newick rooms cut text h = ap (newick-printed (rooms .run .modes)) (cut-runs rooms cut text [] h)

@@ -31,7 +31,8 @@ use Rattle.newick.specs.Grammar.{Shape, leaf, none, node, spelled}
 use Rattle.newick.specs.Writing.{newick-text, mode-length, text-length, shape-under}
 use Rattle.newick.specs.Calls.{written-as, newick-written}
 use Rattle.newick.proofs.TextLength.{accepted-length}
-use Rattle.text.specs.Running.{Ended, came, stopped, program-rooms, ran}
+use Rattle.journal.specs.Resuming.{Outcome, done, refuses}
+use Rattle.text.specs.Running.{program-rooms, ran}
 use Rattle.text.specs.Output.{line-of, refusal-text}
 use Rattle.text.specs.NewickLine.{line-as, table-line, line-room, newick-printed, newick-answer-text, LineSuffices}
 use Rattle.text.proofs.RoomSuffices.{refusal-five, number-in, ran-never}
@@ -113,11 +114,11 @@ five-written modes table (Unwritten refusal) e = refusal-five refusal e
 -- The theorem: 5 is never printed.
 pub line-suffices : LineSuffices
 unfolding newick-answer-text newick-printed table-line number-in
-line-suffices bytes = go (ran program-rooms bytes) refl
+line-suffices bytes = go (ran program-rooms bytes []) refl
   where
-    go : (end : Ended) → ran program-rooms bytes ≡ end → newick-printed most-modes end ≡ refusal-text Room → ⊥
-    go (came weight trials rows) f e =
-        let modes = modes-in rows in
-        let table = laid modes rows in
+    go : (end : Outcome) → ran program-rooms bytes [] ≡ end → newick-printed most-modes end ≡ refusal-text Room → ⊥
+    go (done ending) f e =
+        let modes = modes-in (ending .rows) in
+        let table = laid modes (ending .rows) in
         writing-never modes table (five-written modes table (newick-written most-modes modes table line-room) e)
-    go (stopped refusal) f e = ran-never bytes (rw f (refusal-five refusal e))
+    go (refuses refusal) f e = ran-never bytes [] (rw f (refusal-five refusal e))

@@ -23,7 +23,7 @@ use Rattle.fields.proofs.LinesJoined.{lines-joined, kept-line, lines-one, lines
 use Rattle.fields.proofs.LineSteps.{first-line-stands, next-line, no-next-line}
 use Rattle.text.specs.Input.{modes-line, term-line, well-formed, formed-from, formed, whole, said, malformed}
 use Rattle.text.specs.Running.{Rooms, ran-by, ran}
-use Rattle.text.specs.Output.{printed, answer-text}
+use Rattle.text.specs.Output.{printed, resume-text, answer-text, new-printed, continue-text}
 
 -- A number has five digits at most.
 short-number : (field : List ℕ) → is-number field ≡ true → length field ≤ 5
@@ -198,11 +198,20 @@ cut-says most cut text h = go (ltb cut (length text)) refl
         ∙ sym (too-long most text (omega arith))
     go false e = ap (said most) (take-all cut text (ltb-false cut (length text) e))
 
--- And its run ends as that of the whole text does: a buffer of that many bytes and one is enough for an input of any length.
-pub cut-runs : (rooms : Rooms) (cut : ℕ) (text : List ℕ) → 12 + 47 * rooms .terms < cut → ran rooms (take cut text) ≡ ran rooms text
-unfolding ran
-cut-runs rooms cut text h = ap (ran-by rooms) (cut-says (rooms .terms) cut text h)
+-- And its run comes to what that of the whole text does, whatever journal is read: a buffer of that many bytes and one is enough for an input of any length.
+module _ (rooms : Rooms) (cut : ℕ) (text read : List ℕ) (long : 12 + 47 * rooms .terms < cut) where
+  pub cut-runs : ran rooms (take cut text) read ≡ ran rooms text read
+  unfolding ran
+  cut-runs = ap (λ says. ran-by rooms says read) (cut-says (rooms .terms) cut text long)
+
+  pub cut-resumes : resume-text rooms (take cut text) read ≡ resume-text rooms text read
+  unfolding resume-text
+  cut-resumes = ap printed cut-runs
+
+  pub cut-continues : continue-text rooms (take cut text) read ≡ continue-text rooms text read
+  unfolding continue-text
+  cut-continues = ap new-printed cut-runs
 
 pub cut-answers : (rooms : Rooms) (cut : ℕ) (text : List ℕ) → 12 + 47 * rooms .terms < cut → answer-text rooms (take cut text) ≡ answer-text rooms text
 unfolding answer-text
-cut-answers rooms cut text h = ap printed (cut-runs rooms cut text h)
+cut-answers rooms cut text long = cut-resumes rooms cut text [] long

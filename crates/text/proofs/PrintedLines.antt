@@ -4,7 +4,9 @@ use mathlib.Core.List.{List, [], _∷_, _++_, map, flatMap, append-assoc, append
 use Prim.Native.Nat.{ℕ, _+_, _-_, _*_, _/_, _<_, _≤_}
 use native.Mathlib.Omega.{arith}
 use borrow.Author.Tests.{eq-eqb, ne-eqb}
-use lib.ListN.{length, getD, take, drop, replicate, length-replicate}
+use lib.ListN.{length, getD, take, drop, replicate, length-replicate, take-append-drop}
+use lib.Seq.{drop-append-le, length-take-le}
+use Rattle.lists.specs.Written.{written-at}
 use Rattle.lists.proofs.Written.{length-written}
 use Rattle.lists.proofs.Behind.{Wrote, wrote-none, then-wrote}
 use Rattle.lists.proofs.Joined.{flatMap-joined}
@@ -24,6 +26,15 @@ use Rattle.text.specs.Output.{line-of, code-text, node-line, node-lines,
 -- What was written over the front, and fits, was put there.
 pub wrote-puts : {text before after : List ℕ} {end : ℕ} → Wrote 0 text before after end → end ≤ length before → Puts text before after end
 wrote-puts wrote room = record { count = omega (arith, wrote .behind); fits = omega (arith, wrote .behind); bytes = wrote .written }
+
+-- Written over the front of a list's front, a part is written over the list's.
+pub front-over : (part s : List ℕ) (room : ℕ) → length part ≤ room → room ≤ length s → written-at 0 part (take room s) ++ drop room s ≡ written-at 0 part s
+unfolding written-at
+front-over part s room h k =
+    let end = 0 + length part in
+    append-assoc part (drop end (take room s)) (drop room s)
+    ∙ ap (λ l. part ++ l)
+    (sym (drop-append-le end (take room s) (drop room s) (omega (arith, length-take-le room s k))) ∙ ap (drop end) (take-append-drop room s))
 
 -- A code is `-` or its number.
 pub code-absent : (code : ℕ) → code ≡ absent → code-text code ≡ 45 ∷ []

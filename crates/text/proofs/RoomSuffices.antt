@@ -1,4 +1,4 @@
--- The program's own rooms suffice for whatever a text says, so 5 is never what `hatt` prints.
+-- The programs' own rooms suffice for whatever a text and a journal say, so 5 is never printed of a run.
 use mathlib.Core.Path.{_≡_, refl, ap, _∙_, sym}
 use mathlib.Core.Bool.{Bool, true, false, cond, not}
 use mathlib.Core.List.{List, [], _∷_}
@@ -16,19 +16,20 @@ use Rattle.entities.specs.Limits.{most-modes, most-terms, row-width}
 use Rattle.fields.specs.Texts.{spelt}
 use Rattle.fields.specs.Decimal.{digits, decimal}
 use Rattle.fields.specs.Fields.{fields, tabbed}
-use Rattle.fields.specs.Lines.{lines, lines-after}
 use Rattle.fields.proofs.Digits.{by-size, digits-one, digits-more, some-digits}
 use Rattle.fields.proofs.Tabbed.{no-tab}
 use Rattle.fields.proofs.NumbersTabbed.{decimal-no-tab, fields-line}
 use Rattle.terms.specs.declared.checking.Checked.{Checked}
 use Rattle.terms.specs.declared.checking.Checked.the-variants.{Good, Refused}
 use Rattle.terms.specs.Good.{modes-good, good-rows, checked}
-use Rattle.journal.specs.Obeying.{obeyed, obeyed-texts}
-use Rattle.journal.specs.Resuming.{refuses, with-journal, with-terms, resumed, hatt-run}
-use Rattle.journal.proofs.CallDone.{rooms-fit}
+use Rattle.terms.specs.Job.{job-of}
+use Rattle.journal.specs.Obeying.{Obeyed, went, refused, obeyed}
+use Rattle.journal.specs.Resuming.{Outcome, done, refuses, with-journal, with-terms, resumed}
+use Rattle.journal.proofs.CallDone.{rooms-fit, with-room}
 use Rattle.text.specs.Input.{Said, given, malformed, said}
-use Rattle.text.specs.Running.{Ended, came, stopped, ended, program-rooms, ran-by, ran}
-use Rattle.text.specs.Output.{line-of, refusal-text, done-text, printed, answer-text, RoomSuffices}
+use Rattle.text.specs.Running.{program-rooms, ran-by, ran}
+use Rattle.text.specs.Output.{line-of, refusal-text, done-text, printed, resume-text, RoomSuffices}
+use Rattle.text.proofs.JournalRefused.{number-obeyed, obeyed-never}
 
 -- The text of a refusal tells its number.
 second-field : (refusal : Refusal) → getD (fields (refusal-text refusal)) 1 [] ≡ decimal (numberOf refusal)
@@ -54,30 +55,38 @@ refusal-five refusal e =
     decimal-five (numberOf refusal) (sym (second-field refusal) ∙ ap (λ text. getD (fields text) 1 []) e ∙ second-field Room)
 
 -- The number with which a run ends, none where it isn't refused.
-unfoldable pub number-in : Ended → ℕ
-number-in (came weight trials rows) = 0
-number-in (stopped refusal) = numberOf refusal
+unfoldable pub number-in : Outcome → ℕ
+number-in (done ending) = 0
+number-in (refuses refusal) = numberOf refusal
 
 -- Where the text of 5 is printed, the run ended with it: a finished run's text begins otherwise.
-five-ended : (end : Ended) → printed end ≡ refusal-text Room → number-in end ≡ 5
+five-ended : (end : Outcome) → printed end ≡ refusal-text Room → number-in end ≡ 5
 unfolding number-in printed done-text refusal-text line-of tabbed
-five-ended (came weight trials rows) e = absurd (omega (arith, ap (λ text. getD text 0 0) e))
-five-ended (stopped refusal) e = refusal-five refusal e
+five-ended (done ending) e = absurd (omega (arith, ap (λ text. getD text 0 0) e))
+five-ended (refuses refusal) e = refusal-five refusal e
 
-module _ (modes : ℕ) (numbers : List ℕ) where
+module _ (modes : ℕ) (numbers read : List ℕ) where
   abbrev count : ℕ
   count = length numbers / row-width
 
   abbrev number-with : Checked → ℕ
-  number-with found = number-in (ended (with-terms (program-rooms .run) modes numbers [] found))
+  number-with found = number-in (with-terms (program-rooms .run) modes numbers read found)
 
-  -- With room for all, the empty journal is obeyed and the run is done.
-  room-done : modes ≤ most-modes → count ≤ most-terms → number-with (Good count) ≡ 0
-  unfolding number-in ended with-terms with-journal obeyed obeyed-texts lines lines-after
-  room-done few short = rw (rooms-fit (program-rooms .run) modes count (omega arith) (omega arith) (omega arith))
+  journal-number : (found : Obeyed) → number-in (with-journal (job-of modes count numbers) read found) ≡ number-obeyed found
+  unfolding number-in with-journal number-obeyed
+  journal-number (went history) = refl
+  journal-number (refused refusal) = refl
+
+  -- With room for all, the journal decides.
+  room-never : modes ≤ most-modes → count ≤ most-terms → number-with (Good count) ≡ 5 → ⊥
+  room-never few short h =
+      let job = job-of modes count numbers in
+      let fits = rooms-fit (program-rooms .run) modes count (omega arith) (omega arith) (omega arith) in
+      let decides = ap number-in (with-room (program-rooms .run) modes numbers read count fits) ∙ journal-number (obeyed job read) in
+      obeyed-never job read (sym decides ∙ h)
 
   terms-never : modes ≤ most-modes → number-with (checked modes numbers) ≡ 5 → ⊥
-  unfolding number-in ended with-terms checked
+  unfolding number-in with-terms checked
   terms-never few =
       go (eqb (length numbers % row-width) 0) (leb count most-terms) refl (ltb (good-rows (2 * modes) count numbers) count)
     where
@@ -89,28 +98,28 @@ module _ (modes : ℕ) (numbers : List ℕ) where
       go false b e c h = omega arith
       go true false e c h = omega arith
       go true true e true h = omega arith
-      go true true e false h = omega (arith, room-done few (leb-true count most-terms e))
+      go true true e false h = room-never few (leb-true count most-terms e) h
 
-  run-never : number-in (ended (hatt-run (program-rooms .run) modes numbers)) ≡ 5 → ⊥
-  unfolding number-in ended hatt-run resumed modes-good
+  run-never : number-in (resumed (program-rooms .run) modes numbers read) ≡ 5 → ⊥
+  unfolding number-in resumed modes-good
   run-never h = go (modes-good most-modes modes) refl h
     where
       go : (b : Bool) → modes-good most-modes modes ≡ b
-          → number-in (ended (cond (not b) (refuses Modes) (with-terms (program-rooms .run) modes numbers [] (checked modes numbers)))) ≡ 5
+          → number-in (cond (not b) (refuses Modes) (with-terms (program-rooms .run) modes numbers read (checked modes numbers))) ≡ 5
           → ⊥
       go false e h = omega arith
       go true e h = terms-never (leb-true modes most-modes (both (leb 1 modes) (leb modes most-modes) e .1)) h
 
--- No text's run ends with 5.
-pub ran-never : (bytes : List ℕ) → number-in (ran program-rooms bytes) ≡ 5 → ⊥
+-- No text's run ends with 5, whatever journal is read.
+pub ran-never : (bytes read : List ℕ) → number-in (ran program-rooms bytes read) ≡ 5 → ⊥
 unfolding number-in ran-by ran
-ran-never bytes = go (said most-terms bytes)
+ran-never bytes read = go (said most-terms bytes)
   where
-    go : (says : Said) → number-in (ran-by program-rooms says) ≡ 5 → ⊥
-    go (given modes numbers) h = run-never modes numbers h
+    go : (says : Said) → number-in (ran-by program-rooms says read) ≡ 5 → ⊥
+    go (given modes numbers) h = run-never modes numbers read h
     go (malformed line) h = omega arith
 
 -- The theorem: 5 is never printed.
 pub room-suffices : RoomSuffices
-unfolding answer-text
-room-suffices bytes e = ran-never bytes (five-ended (ran program-rooms bytes) e)
+unfolding resume-text
+room-suffices bytes read e = ran-never bytes read (five-ended (ran program-rooms bytes read) e)

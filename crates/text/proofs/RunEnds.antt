@@ -1,78 +1,121 @@
--- The answer of the call, and the rows that it left, say what the run ends in; and so it is printed.
+-- The journal's answer, and what it left in what was lent, tell what a run comes to; and so it is printed.
 use mathlib.Core.Path.{_≡_, refl, ap, _∙_, sym}
-use mathlib.Core.List.{List, []}
-use Prim.Native.Nat.{ℕ, _*_, _≤_}
+use mathlib.Core.List.{List, _++_}
+use Prim.Native.Nat.{ℕ, _+_, _*_, _≤_}
 use native.Mathlib.Omega.{arith}
-use lib.ListN.{length, take}
+use lib.ListN.{length, take, drop, length-append, take-append-drop}
+use lib.Seq.{length-take-le}
+use Rattle.lists.specs.Written.{written-at}
 use Rattle.lists.proofs.Written.{part-written}
 use Rattle.refusal.specs.declared.Refusal.{Refusal}
-use Rattle.journal.specs.Resuming.{Outcome, done, refuses, hatt-run}
+use Rattle.entities.specs.Limits.{most-modes}
+use Rattle.journal.specs.Resuming.{Outcome, done, refuses, resumed}
 use Rattle.journal.specs.declared.resuming.Numbers.{Numbers}
 use Rattle.journal.specs.declared.resuming.Answer.{Answer}
 use Rattle.journal.specs.declared.resuming.Answer.the-variants.{Done as Answered, Refused as Unanswered}
-use Rattle.journal.specs.Promises.{Lent, rooms-of, returned, lent-then, Answers}
+use Rattle.journal.specs.Promises.{rooms-of, returned, lent-then, Answers, Lent as CallLent}
 use Rattle.journal.proofs.RowsFit.{rows-fit}
+use Rattle.text.specs.declared.running.Run.{Run}
 use Rattle.text.specs.declared.running.Ran.{Ran}
 use Rattle.text.specs.declared.running.Ran.the-variants.{Done, Refused}
-use Rattle.text.specs.code.Runs.{ended-as, modes-ran, Runs}
-use Rattle.text.specs.Running.{Ended, stopped, ended, program-rooms}
-use Rattle.text.specs.Output.{refusal-text, done-text, printed}
+use Rattle.text.specs.code.Runs.{Lent, lent, RanDone, RanRefused, Runs}
+use Rattle.text.specs.Running.{program-rooms}
+use Rattle.text.specs.Output.{done-text, printed}
+use Rattle.text.proofs.PrintedLines.{front-over}
 
--- A refusal says that the run stopped.
-pub stopped-runs : (most : ℕ) (means : Ended) (rows : List ℕ) (refusal : Refusal) → stopped refusal ≡ means → Runs most means rows (Refused refusal)
-unfolding ended-as modes-ran
-stopped-runs most means rows refusal e = record { says = e; few = omega arith }
+-- What a call is lent but for its work.
+abbrev pub but-work : CallLent → Lent
+but-work given = lent (given .rows) (given .journal)
 
--- What says one end says any that is equal to it.
-pub same-runs : (most : ℕ) (means other : Ended) (rows : List ℕ) (r : Ran) → means ≡ other → Runs most means rows r → Runs most other rows r
-same-runs most means other rows r e runs = record { says = runs .says ∙ e; few = runs .few }
-
-module _ (modes : ℕ) (numbers : List ℕ) (given after : Lent) (r : Answer) (rooms : rooms-of 256 given ≡ program-rooms .run)
-    (answers : Answers (λ lent. hatt-run (rooms-of 256 lent) modes numbers) given after r) where
+module _ (modes : ℕ) (numbers read : List ℕ) (given after : CallLent) (r : Answer) (rooms : rooms-of most-modes given ≡ program-rooms .run)
+    (answers : Answers (λ lent. resumed (rooms-of most-modes lent) modes numbers read) given after r) where
   abbrev meant : Outcome
-  meant = hatt-run (program-rooms .run) modes numbers
+  meant = resumed (program-rooms .run) modes numbers read
 
   same-answer : r ≡ returned meant
   same-answer = rw (← rooms) (answers .answer)
 
-  refused-as : (means : Outcome) (refusal : Refusal) → Unanswered refusal ≡ returned means → stopped refusal ≡ ended means
-  unfolding returned ended
-  refused-as (done end) refusal e = let z : _≡_ {A = ℕ} 0 1 = cc in absurd (omega arith)
-  refused-as (refuses other) refusal e = ap stopped cc
+  same-left : after ≡ lent-then meant given
+  same-left = rw (← rooms) (answers .leaves)
+
+  refused-as : (means : Outcome) (refusal : Refusal) → Unanswered refusal ≡ returned means → after ≡ lent-then means given
+      → RanRefused means (but-work given) (but-work after) refusal
+  unfolding returned lent-then
+  refused-as (done end) refusal e f = let z : _≡_ {A = ℕ} 0 1 = cc in absurd (omega arith)
+  refused-as (refuses other) refusal e f = record { is = ap refuses (cc); leaves = ap but-work f }
 
   -- The call refused.
-  pub refused-runs : (refusal : Refusal) → r ≡ Unanswered refusal → Runs 256 (ended meant) (after .rows) (Refused refusal)
-  refused-runs refusal e = stopped-runs 256 (ended meant) (after .rows) refusal (refused-as meant refusal (sym e ∙ same-answer))
+  pub refused-runs : (refusal : Refusal) → r ≡ Unanswered refusal → RanRefused meant (but-work given) (but-work after) refusal
+  refused-runs refusal e = refused-as meant refusal (sym e ∙ same-answer) same-left
 
-  -- The call ran to the end, and the rows stand in front.
-  module _ (found : Numbers) where
-    done-as : (means : Outcome) → meant ≡ means → Answered found ≡ returned means → after .rows ≡ lent-then means given .rows
-        → Runs 256 (ended means) (after .rows) (Done modes (found .weight) (found .trials))
-    unfolding returned lent-then ended ended-as modes-ran hatt-run
+  -- The call ran to the end; its new lines have room, as a slice keeps its length.
+  module _ (found : Numbers) (stays : length (after .journal) ≡ length (given .journal)) where
+    abbrev as-run : Run
+    as-run = record { modes = modes; weight = found .weight; trials = found .trials; new = found .new }
+
+    done-as : (means : Outcome) → meant ≡ means → Answered found ≡ returned means → after ≡ lent-then means given
+        → RanDone most-modes means (but-work given) (but-work after) as-run
+    unfolding returned lent-then written-at
     done-as (refuses refusal) m e f = let z : _≡_ {A = ℕ} 0 1 = cc in absurd (omega arith)
     done-as (done end) m e f =
-        let fit = rows-fit (program-rooms .run) modes numbers [] end (omega arith) m in
-        let a : found .weight ≡ end .weight = cc in
-        let b : found .trials ≡ end .trials = cc in
-        let size : length (given .rows) ≡ 1024 = ap (λ l. l .rows) rooms in
-        let front : take (4 * modes) (after .rows) ≡ end .rows =
-        rw (f, ← (fit .exact)) (part-written 0 (end .rows) (given .rows) (omega (arith, fit .few, fit .exact))) in
-        record { says = rw (a, b, front); few = fit .few }
+        let fit = rows-fit (program-rooms .run) modes numbers read end (omega arith) m in
+        let new : found .new ≡ length (end .new) = cc in
+        let journal : after .journal ≡ written-at 0 (end .new) (given .journal) = ap (λ l. l .journal) f in
+        record {
+          ending = end;
+          is = refl;
+          weight = cc;
+          trials = cc;
+          few = fit .few;
+          exact = fit .exact;
+          rows = ap (λ l. l .rows) f;
+          new = new;
+          fits = omega (arith, stays, ap length journal, length-append (end .new) (drop (0 + length (end .new)) (given .journal)));
+          journal = journal;
+        }
 
-    pub done-runs : r ≡ Answered found → Runs 256 (ended meant) (after .rows) (Done modes (found .weight) (found .trials))
-    done-runs e = done-as meant refl (sym e ∙ same-answer) (rw (← rooms) (ap (λ l. l .rows) (answers .leaves)))
+    pub done-runs : r ≡ Answered found → RanDone most-modes meant (but-work given) (but-work after) as-run
+    done-runs e = done-as meant refl (sym e ∙ same-answer) same-left
+
+-- Lent the front of a list for its new lines, a run writes over all of it.
+pub runs-over : (most : ℕ) (means : Outcome) (rows rows-after out part : List ℕ) (room : ℕ) (r : Ran) → room ≤ length out
+    → Runs most means (lent rows (take room out)) (lent rows-after part) r → Runs most means (lent rows out) (lent rows-after (part ++ drop room out)) r
+runs-over most means rows rows-after out part room (Done run) h known =
+    let size = length-take-le room out h in
+    record {
+      ending = known .ending;
+      is = known .is;
+      weight = known .weight;
+      trials = known .trials;
+      few = known .few;
+      exact = known .exact;
+      rows = known .rows;
+      new = known .new;
+      fits = omega (arith, known .fits, size);
+      journal =
+          ap (λ l. l ++ drop room out) (known .journal)
+          ∙ front-over (known .ending .new) out room (omega (arith, known .fits, known .new, size)) h;
+    }
+runs-over most means rows rows-after out part room (Refused refusal) h known =
+    record {
+      is = known .is;
+      leaves = ap (λ l. lent (l .rows) (l .journal ++ drop room out)) (known .leaves) ∙ ap (lent rows) (take-append-drop room out);
+    }
 
 -- What is known of a run, case by case.
-module _ (most : ℕ) (means : Ended) (rows : List ℕ) (r : Ran) (runs : Runs most means rows r) where
-  pub refused-prints : (refusal : Refusal) → r ≡ Refused refusal → refusal-text refusal ≡ printed means
-  unfolding ended-as printed
-  refused-prints refusal e = ap printed (rw e at (runs .says))
+module _ (most : ℕ) (means : Outcome) (before after : Lent) (r : Ran) (runs : Runs most means before after r) where
+  pub run-refused : (refusal : Refusal) → r ≡ Refused refusal → RanRefused means before after refusal
+  run-refused refusal e = rw e at runs
 
-  module _ (modes weight trials : ℕ) (e : r ≡ Done modes weight trials) where
-    pub done-few : modes ≤ most
-    unfolding modes-ran
-    done-few = rw e at (runs .few)
+  pub run-done : (run : Run) → r ≡ Done run → RanDone most means before after run
+  run-done run e = rw e at runs
 
-    pub done-prints : done-text weight trials (take (4 * modes) rows) ≡ printed means
-    unfolding ended-as printed
-    done-prints = ap printed (rw e at (runs .says))
+module _ {most : ℕ} {means : Outcome} {before after : Lent} {run : Run} (known : RanDone most means before after run)
+    (room : 4 * most ≤ length (before .rows)) where
+  -- The run's rows stand in front.
+  pub rows-stand : take (4 * run .modes) (after .rows) ≡ known .ending .rows
+  rows-stand = rw (known .rows, ← (known .exact)) (part-written 0 (known .ending .rows) (before .rows) (omega (arith, known .exact, known .few)))
+
+  pub done-prints : done-text (run .weight) (run .trials) (take (4 * run .modes) (after .rows)) ≡ printed means
+  unfolding printed
+  done-prints = rw (known .is, known .weight, known .trials, rows-stand)

@@ -1,6 +1,6 @@
 -- The program `newick`: it reads what `hatt` reads and prints the tree's Newick line, or the refusal as `hatt` does.
 use mathlib.Core.Path.{_≡_}
-use mathlib.Core.List.{List, _++_}
+use mathlib.Core.List.{List, [], _++_}
 use Prim.Native.Nat.{ℕ, _-_}
 use Rattle.refusal.specs.declared.Refusal.the-variants.{Room}
 use Rattle.fields.specs.Texts.{spelt}
@@ -9,7 +9,8 @@ use Rattle.newick.specs.declared.writing.NewickWritten.{NewickWritten}
 use Rattle.newick.specs.declared.writing.NewickWritten.the-variants.{Written, Unwritten}
 use Rattle.newick.specs.Writing.{newick-text}
 use Rattle.newick.specs.Calls.{newick-written}
-use Rattle.text.specs.Running.{Ended, came, stopped, Rooms, program-rooms, printed-room, ran}
+use Rattle.journal.specs.Resuming.{Outcome, done, refuses}
+use Rattle.text.specs.Running.{Rooms, program-rooms, printed-room, ran}
 use Rattle.text.specs.Output.{refusal-text}
 
 -- What writing came to: the text and LF behind it, or its refusal.
@@ -25,14 +26,14 @@ table-line most room modes table = line-as (newick-written most modes table room
 abbrev pub line-room : ℕ
 line-room = printed-room - 1
 
--- What a run's end prints as: its rows laid out by label, and the line of that table.
-unfoldable pub newick-printed : ℕ → Ended → List ℕ
-newick-printed most (came weight trials rows) = table-line most line-room (modes-in rows) (laid (modes-in rows) rows)
-newick-printed most (stopped refusal) = refusal-text refusal
+-- What a run prints as: its rows laid out by label, and the line of that table.
+unfoldable pub newick-printed : ℕ → Outcome → List ℕ
+newick-printed most (done ending) = table-line most line-room (modes-in (ending .rows)) (laid (modes-in (ending .rows)) (ending .rows))
+newick-printed most (refuses refusal) = refusal-text refusal
 
 -- The program's answer to a text, in these rooms.
 unfoldable pub newick-answer-text : Rooms → List ℕ → List ℕ
-newick-answer-text rooms bytes = newick-printed (rooms .run .modes) (ran rooms bytes)
+newick-answer-text rooms bytes = newick-printed (rooms .run .modes) (ran rooms bytes [])
 
 -- 5 is never printed here either: any accepted tree's line has room.
 abbrev pub LineSuffices : Type 0

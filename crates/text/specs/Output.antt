@@ -4,7 +4,7 @@ use mathlib.Core.Bool.{cond}
 use mathlib.Core.List.{List, [], _∷_, _++_, map, flatMap}
 use Prim.Native.Nat.{ℕ, _/_, _≤_}
 use lib.Dec.{eqb}
-use lib.ListN.{length, replicate}
+use lib.ListN.{length, take, replicate}
 use Rattle.lists.specs.Written.{written-at}
 use Rattle.refusal.specs.declared.Refusal.{Refusal}
 use Rattle.refusal.specs.declared.Refusal.the-variants.{Room}
@@ -13,9 +13,12 @@ use Rattle.entities.specs.Codes.{absent}
 use Rattle.fields.specs.Texts.{spelt}
 use Rattle.fields.specs.Decimal.{decimal}
 use Rattle.fields.specs.Fields.{tabbed}
+use Rattle.fields.specs.Lines.{kept-of}
 use Rattle.terms.specs.Rows.{rows-of}
+use Rattle.journal.specs.Resuming.{Ending, Outcome, done, refuses}
+use Rattle.journal.specs.CutAndResumed.{journal-of}
 use Rattle.text.specs.declared.Printed.{Printed}
-use Rattle.text.specs.Running.{Ended, came, stopped, Rooms, program-rooms, printed-room, ran}
+use Rattle.text.specs.Running.{Rooms, program-rooms, printed-room, ran}
 
 -- A line: fields parted by tabs, and LF.
 unfoldable pub line-of : List (List ℕ) → List ℕ
@@ -43,14 +46,27 @@ done-text weight trials rows =
     line-of (spelt "weight" ∷ (decimal weight ∷ []))
     ++ (line-of (spelt "trials" ∷ (decimal trials ∷ [])) ++ node-lines rows)
 
--- What a run's end prints as.
-unfoldable pub printed : Ended → List ℕ
-printed (came weight trials rows) = done-text weight trials rows
-printed (stopped refusal) = refusal-text refusal
+-- What a run prints as.
+unfoldable pub printed : Outcome → List ℕ
+printed (done ending) = done-text (ending .weight) (ending .trials) (ending .rows)
+printed (refuses refusal) = refusal-text refusal
 
--- The program's answer to a text, in these rooms.
+-- What resuming prints for a text and the journal that is read, in these rooms.
+unfoldable pub resume-text : Rooms → List ℕ → List ℕ → List ℕ
+resume-text rooms bytes read = printed (ran rooms bytes read)
+
+-- The program's answer to a text: the unbroken run's.
 unfoldable pub answer-text : Rooms → List ℕ → List ℕ
-answer-text rooms bytes = printed (ran rooms bytes)
+answer-text rooms bytes = resume-text rooms bytes []
+
+-- The new lines alone, so that what is kept of the journal that is read and these are the journal; or the refusal.
+unfoldable pub new-printed : Outcome → List ℕ
+new-printed (done ending) = ending .new
+new-printed (refuses refusal) = refusal-text refusal
+
+-- What going on with a journal prints, in these rooms; with an empty one, the journal of an unbroken run.
+unfoldable pub continue-text : Rooms → List ℕ → List ℕ → List ℕ
+continue-text rooms bytes read = new-printed (ran rooms bytes read)
 
 -- What a program prints: the bytes of its answer, as many as they are, and zeros behind them.
 pub record Prints (answer : List ℕ) (r : Printed) : Type 0 where
@@ -58,6 +74,25 @@ pub record Prints (answer : List ℕ) (r : Printed) : Type 0 where
   pub fits : length answer ≤ printed-room
   pub bytes : r .bytes ≡ written-at 0 answer (replicate printed-room 0)
 
--- 5 is never printed: whatever the text, the program's own rooms suffice.
+-- 5 is never printed: whatever the text and the journal, the programs' own rooms suffice.
 abbrev pub RoomSuffices : Type 0
-RoomSuffices = (bytes : List ℕ) → answer-text program-rooms bytes ≡ refusal-text Room → ⊥
+RoomSuffices = (bytes read : List ℕ) → resume-text program-rooms bytes read ≡ refusal-text Room → ⊥
+
+abbrev pub NewLinesSuffice : Type 0
+NewLinesSuffice = (bytes read : List ℕ) → continue-text program-rooms bytes read ≡ refusal-text Room → ⊥
+
+-- A text's run resumed from the first bytes of a journal comes to the end that the journal had.
+pub record ResumesFrom (bytes journal : List ℕ) (part : Ending) (cut : ℕ) : Type 0 where
+  pub again : Ending
+  pub resumes : ran program-rooms bytes (take cut journal) ≡ done again
+  pub same-rows : again .rows ≡ part .rows
+  pub same-weight : again .weight ≡ part .weight
+  pub same-journal : journal-of (take cut journal) again ≡ journal
+
+-- What goes on a journal makes it whole: behind what is kept of it, it is the journal of the run, which may be cut after any byte that isn't before the end of what was kept.
+pub record Continues (bytes read : List ℕ) (part : Ending) : Type 0 where
+  pub whole : kept-of read ++ continue-text program-rooms bytes read ≡ journal-of read part
+  pub resumes : (cut : ℕ) → length (kept-of read) ≤ cut → ResumesFrom bytes (journal-of read part) part cut
+
+abbrev pub ContinuesWhole : Type 0
+ContinuesWhole = (bytes read : List ℕ) (part : Ending) → ran program-rooms bytes read ≡ done part → Continues bytes read part

@@ -1,20 +1,10 @@
 -- What a program's text asks for: "The program `hatt` reads standard input …", and 18 "before any other number".
 use mathlib.Core.List.{List}
 use Prim.Native.Nat.{ℕ, _+_, _*_}
-use Rattle.refusal.specs.declared.Refusal.{Refusal}
 use Rattle.refusal.specs.declared.Refusal.the-variants.{Malformed}
 use Rattle.entities.specs.Limits.{most-modes, most-terms, row-width}
-use Rattle.journal.specs.Resuming.{Outcome, done, refuses, hatt-run, Rooms as RunRooms}
+use Rattle.journal.specs.Resuming.{Outcome, refuses, resumed, Rooms as RunRooms}
 use Rattle.text.specs.Input.{Said, given, malformed, said}
-
--- What a text's run ends in: its weight, its trials and its rows; or a refusal.
-pub data Ended : Type 0 where
-  came : ℕ → ℕ → List ℕ → Ended
-  stopped : Refusal → Ended
-
-unfoldable pub ended : Outcome → Ended
-ended (done ending) = came (ending .weight) (ending .trials) (ending .rows)
-ended (refuses refusal) = stopped refusal
 
 -- What a program has room for: the most terms that it reads, and what its run has room for.
 pub record Rooms : Type 0 where
@@ -31,10 +21,10 @@ abbrev pub printed-room : ℕ
 printed-room = 8192
 
 -- 18 is "before any other number".
-unfoldable pub ran-by : Rooms → Said → Ended
-ran-by rooms (given modes numbers) = ended (hatt-run (rooms .run) modes numbers)
-ran-by rooms (malformed line) = stopped (Malformed line)
+unfoldable pub ran-by : Rooms → Said → List ℕ → Outcome
+ran-by rooms (given modes numbers) read = resumed (rooms .run) modes numbers read
+ran-by rooms (malformed line) read = refuses (Malformed line)
 
--- A text's run in these rooms.
-unfoldable pub ran : Rooms → List ℕ → Ended
-ran rooms bytes = ran-by rooms (said (rooms .terms) bytes)
+-- What a text's run comes to in these rooms, resumed from the journal that is read; an empty one is an unbroken run.
+unfoldable pub ran : Rooms → List ℕ → List ℕ → Outcome
+ran rooms bytes read = ran-by rooms (said (rooms .terms) bytes) read

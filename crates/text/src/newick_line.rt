@@ -1,6 +1,6 @@
 // The tree that a text's run ends in, printed as a Newick line.
 ghost use mathlib.Core.Path.{_≡_};
-ghost use Prim.Native.Nat.{_*_, _≤_};
+ghost use Prim.Native.Nat.{_+_, _*_, _≤_};
 ghost use lib.ListN.{length};
 ghost use Rattle.entities.specs.Limits.{«most-modes»};
 ghost use Rattle.tree.specs.Laying.{laid};
@@ -59,16 +59,22 @@ fn put_rows(out: &mut [u8], modes: usize, rows: &[u16], table: &mut [u16]) -> us
     put_laid(out, modes, rows, &mut table[..end])
 }
 
-// The answer to a text printed over the front, in lent room for its rows and its table; how many bytes that is.
-fn print_newick(input: &[u8], rows: &mut [u16], table: &mut [u16], out: &mut [u8]) -> usize
-    requires { ⌜ (length (now rows) ≡ 4 * most-modes) × (length (now table) ≡ 3 * most-modes) × (length (now out) ≡ printed-room) ⌝ }
+// The answer to a text printed over the front, in lent room for its rows, its journal and its table; how many bytes that is.
+fn print_newick(
+    input: &[u8],
+    rows: &mut [u16],
+    journal: &mut [u8],
+    table: &mut [u16],
+    out: &mut [u8],
+) -> usize
+    requires { ⌜ (length (now rows) ≡ 4 * most-modes) × (length (now journal) ≡ 16 + 21 * most-modes) × (length (now table) ≡ 3 * most-modes) × (length (now out) ≡ printed-room) ⌝ }
     ensures { λ r. ⌜ Puts (newick-answer-text program-rooms (now (input .entry))) (now (out .entry)) (now (out .exit)) r ⌝ }
 {
-    match running::run_text(input, rows) {
+    match running::run_text(input, b"", rows, journal) {
         Ran::Refused(refusal) => output::put_refusal(out, refusal),
-        Ran::Done(modes, _, _) => {
-            let end = 4 * modes;
-            put_rows(out, modes, &rows[..end], table)
+        Ran::Done(run) => {
+            let end = 4 * run.modes;
+            put_rows(out, run.modes, &rows[..end], table)
         }
     }
 }
@@ -78,9 +84,10 @@ pub fn answer_newick(input: &[u8]) -> Printed
     ensures { λ r. ⌜ Prints (newick-answer-text program-rooms (now (input .entry))) r ⌝ }
 {
     let mut rows = [0u16; 1024];
+    let mut journal = [0u8; 5392];
     let mut table = [0u16; 768];
     let mut bytes = [0u8; 8192];
-    let count = print_newick(input, &mut rows, &mut table, &mut bytes);
+    let count = print_newick(input, &mut rows, &mut journal, &mut table, &mut bytes);
     Printed {
         bytes: bytes,
         count: count,

@@ -2,22 +2,41 @@
 use mathlib.Core.Path.{_≡_}
 use mathlib.Core.List.{List}
 use Prim.Native.Nat.{ℕ, _*_, _≤_}
-use lib.ListN.{take}
+use lib.ListN.{length}
+use Rattle.lists.specs.Written.{written-at}
+use Rattle.refusal.specs.declared.Refusal.{Refusal}
+use Rattle.journal.specs.Resuming.{Ending, Outcome, done, refuses}
 use Rattle.text.specs.declared.running.Ran.{Ran}
 use Rattle.text.specs.declared.running.Ran.the-variants.{Done, Refused}
-use Rattle.text.specs.Running.{Ended, came, stopped}
+use Rattle.text.specs.declared.running.Run.{Run}
 
--- What the code's answer and the front of the rows say.
-unfoldable pub ended-as : Ran → List ℕ → Ended
-ended-as (Done modes weight trials) rows = came weight trials (take (4 * modes) rows)
-ended-as (Refused refusal) rows = stopped refusal
+-- What is lent to a run for its rows and its new lines.
+pub record Lent : Type 0 where
+  pub rows : List ℕ
+  pub journal : List ℕ
 
--- The modes of a run that came to its end.
-unfoldable pub modes-ran : Ran → ℕ
-modes-ran (Done modes weight trials) = modes
-modes-ran (Refused refusal) = 0
+abbrev pub lent : List ℕ → List ℕ → Lent
+lent rows journal = record { rows = rows; journal = journal }
 
--- A text was run: the answer and the rows say what the run ends in, of so many modes at most.
-pub record Runs (most : ℕ) (means : Ended) (rows : List ℕ) (r : Ran) : Type 0 where
-  pub says : ended-as r rows ≡ means
-  pub few : modes-ran r ≤ most
+-- A run that is done: its numbers, and its rows and new lines over the fronts of what is lent.
+pub record RanDone (most : ℕ) (means : Outcome) (before after : Lent) (run : Run) : Type 0 where
+  pub ending : Ending
+  pub is : means ≡ done ending
+  pub weight : run .weight ≡ ending .weight
+  pub trials : run .trials ≡ ending .trials
+  pub few : run .modes ≤ most
+  pub exact : length (ending .rows) ≡ 4 * run .modes
+  pub rows : after .rows ≡ written-at 0 (ending .rows) (before .rows)
+  pub new : run .new ≡ length (ending .new)
+  pub fits : run .new ≤ length (before .journal)
+  pub journal : after .journal ≡ written-at 0 (ending .new) (before .journal)
+
+-- A run that is refused: nothing of what is lent is altered.
+pub record RanRefused (means : Outcome) (before after : Lent) (refusal : Refusal) : Type 0 where
+  pub is : means ≡ refuses refusal
+  pub leaves : after ≡ before
+
+-- A text was run, of so many modes at most.
+abbrev pub Runs : ℕ → Outcome → Lent → Lent → Ran → Type 0
+Runs most means before after (Done run) = RanDone most means before after run
+Runs most means before after (Refused refusal) = RanRefused means before after refusal

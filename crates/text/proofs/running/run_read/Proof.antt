@@ -5,10 +5,8 @@ use native.Mathlib.Omega.{arith}
 use borrow.Author.Needs.{needs}
 use lib.Seq.{length-take-le}
 use lib.ListN.{length}
-use Rattle.refusal.specs.declared.Refusal.the-variants.{Malformed}
 use Rattle.text.specs.Running.{program-rooms}
 use Rattle.text.proofs.InputSaid.{given-few, given-ran, malformed-ran}
-use Rattle.text.proofs.RunEnds.{stopped-runs, same-runs}
 use Rattle.text.proofs.running.run_read.Statement.{statement}
 use Rattle.text.proofs.running.run_read.Tie as tie
 
@@ -23,24 +21,17 @@ enum-known-modes c = search needs
 
 mul-end : tie.Need-mul-end
 mul-end c =
-    let start = c .before .before .before .before .before .before .before .before .before .before in
-    let read = c .before .before .before .before .before .read-input in
-    let told = c .before .modes .given in
-    omega (arith, given-few 2048 (start .args .input .now) _ _ (read .ensures) _ _ (told .1))
+    omega (arith, given-few 2048 (c .before .before .before .before .before .before .before .before .before .before .before .before .args .input .now) _ _ (c .before .before .before .before .before .read-input .ensures) _ _ (c .before .modes .given .1))
 
 slice-reshare-prefix-run-given : tie.Need-slice-reshare-prefix-run-given
 slice-reshare-prefix-run-given c =
-    let start = c .before .before .before .before .before .before .before .before .before .before in
-    let read = c .before .before .before .before .before .read-input in
-    let told = c .before .modes .given in
-    omega (arith, given-few 2048 (start .args .input .now) _ _ (read .ensures) _ _ (told .1), read .kept, start .pre .0)
+    omega (arith, given-few 2048 (c .before .before .before .before .before .before .before .before .before .before .before .before .args .input .now) _ _ (c .before .before .before .before .before .read-input .ensures) _ _ (c .before .modes .given .1), c .before .before .before .before .before .read-input .kept, c .before .before .before .before .before .before .before .before .before .before .before .before .pre .0)
 
 slice-aggregate-run-given : tie.Need-slice-aggregate-run-given
 slice-aggregate-run-given c =
-    let start = c .before .before .before .before .before .before .before .before .before .before .before in
     let read = c .before .before .before .before .before .before .read-input in
     let told = c .before .before .modes .given in
-    let room : 8 * told .0 .1 .0 ≤ length (read .last .1 .0) = omega (arith, given-few 2048 (start .args .input .now) _ _ (read .ensures) _ _ (told .1), read .kept, start .pre .0) in
+    let room : 8 * told .0 .1 .0 ≤ length (read .last .1 .0) = omega (arith, given-few 2048 (c .before .before .before .before .before .before .before .before .before .before .before .before .before .args .input .now) _ _ (c .before .before .before .before .before .before .read-input .ensures) _ _ (c .before .before .modes .given .1), read .kept, c .before .before .before .before .before .before .before .before .before .before .before .before .before .pre .0) in
     sym (length-take-le (8 * told .0 .1 .0) (read .last .1 .0) room)
 
 run-given-requires : tie.Need-run-given-requires
@@ -51,10 +42,9 @@ same-length c = search needs
 
 returns : tie.Need-returns
 returns c =
-    let start = c .before .before .before .before .before .before .before .before .before .before in
-    let read = c .before .before .before .before .before .read-input in
+    let args = c .before .before .before .before .before .before .before .before .before .before .before .before .args in
     let told = c .before .line .given in
-    stopped-runs 256 _ _ (Malformed (told .0 .0)) (malformed-ran 2048 (start .args .input .now) _ _ (read .ensures) _ (told .1) program-rooms refl)
+    record { is = malformed-ran 2048 (args .input .now) _ _ (c .before .before .before .before .before .read-input .ensures) _ (told .1) program-rooms (args .read .now) refl; leaves = refl }
 
 same-length-2 : tie.Need-same-length-2
 same-length-2 c = search needs
@@ -62,12 +52,14 @@ same-length-2 c = search needs
 same-length-3 : tie.Need-same-length-3
 same-length-3 c = search needs
 
+same-length-4 : tie.Need-same-length-4
+same-length-4 c = search needs
+
 returns-2 : tie.Need-returns-2
 returns-2 c =
-    let start = c .before .before .before .before .before .before .before .before .before .before .before .before .before .before .before in
-    let read = c .before .before .before .before .before .before .before .before .before .before .read-input in
-    let told = c .before .before .before .before .before .before .modes .given in
-    same-runs 256 _ _ _ _ (given-ran 2048 (start .args .input .now) _ _ (read .ensures) _ _ (told .1) program-rooms refl) (c .before .before .run-given .ensures)
+    let args = c .before .before .before .before .before .before .before .before .before .before .before .before .before .before .before .before .before .before .before .before .args in
+    let told = c .before .before .before .before .before .before .before .before .before .modes .given in
+    rw (given-ran 2048 (args .input .now) _ _ (c .before .before .before .before .before .before .before .before .before .before .before .before .before .read-input .ensures) _ _ (told .1) program-rooms (args .read .now) refl) at (c .before .before .before .before .run-given .ensures)
 
 pub run-read-spec : {M : Type 1} → statement M
 run-read-spec =
@@ -84,4 +76,5 @@ run-read-spec =
     returns
     same-length-2
     same-length-3
+    same-length-4
     returns-2)

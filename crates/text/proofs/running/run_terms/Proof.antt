@@ -1,4 +1,4 @@
--- The answer is a refusal, or a run whose rows stand in front: either way it says what the definitions end in.
+-- The answer is a refusal, or a run whose rows and new lines stand in front: either way it is what the definitions come to.
 use mathlib.Core.Path.{_≡_}
 use mathlib.Core.List.{List}
 use Prim.Native.Nat.{ℕ}
@@ -15,8 +15,8 @@ same-rooms : (work rows journal : List ℕ) → length work ≡ 16384 → length
     → rooms-of 256 (lent work rows journal) ≡ program-rooms .run
 same-rooms work rows journal w r j = rw (w, r, j)
 
-hatt-requires : tie.Need-hatt-requires
-hatt-requires c κs = search needs
+resume-requires : tie.Need-resume-requires
+resume-requires c κs = search needs
 
 enum-known-refusal : tie.Need-enum-known-refusal
 enum-known-refusal c = search needs
@@ -36,11 +36,10 @@ same-length-3 c = search needs
 returns : tie.Need-returns
 unfolding ran-by
 returns c =
-    let start = c .before .before .before .before .before .before .before .before .before .before .before .before .before .before .before .before .before in
-    let hatt = c .before .before .before .before .before .before .before .before .before .hatt in
+    let start = c .before .before .before .before .before .before .before .before .before .before .before .before .before .before .before .before .before .before in
     let refusal = c .before .refusal .given in
     let args = start .args in
-    refused-runs (args .modes) (args .numbers .now) _ _ _ (same-rooms (args .work .now) (args .rows .now) (args .journal .now) (start .pre .0) (start .pre .1) (start .pre .2)) (hatt .ensures) (refusal .0 .0) (refusal .1)
+    refused-runs (args .modes) (args .numbers .now) (args .read .now) _ _ _ (same-rooms (args .work .now) (args .rows .now) (args .journal .now) (start .pre .0) (start .pre .1) (start .pre .2)) (c .before .before .before .before .before .before .before .before .before .resume .ensures) (refusal .0 .0) (refusal .1)
 
 same-length-4 : tie.Need-same-length-4
 same-length-4 c = search needs
@@ -54,17 +53,17 @@ same-length-6 c = search needs
 returns-2 : tie.Need-returns-2
 unfolding ran-by
 returns-2 c =
-    let start = c .before .before .before .before .before .before .before .before .before .before .before .before .before .before .before .before .before in
-    let hatt = c .before .before .before .before .before .before .before .before .before .hatt in
+    let start = c .before .before .before .before .before .before .before .before .before .before .before .before .before .before .before .before .before .before in
+    let resume = c .before .before .before .before .before .before .before .before .before .resume in
     let found = c .before .found .given in
     let args = start .args in
-    done-runs (args .modes) (args .numbers .now) _ _ _ (same-rooms (args .work .now) (args .rows .now) (args .journal .now) (start .pre .0) (start .pre .1) (start .pre .2)) (hatt .ensures) (found .0 .0) (found .1)
+    done-runs (args .modes) (args .numbers .now) (args .read .now) _ _ _ (same-rooms (args .work .now) (args .rows .now) (args .journal .now) (start .pre .0) (start .pre .1) (start .pre .2)) (resume .ensures) (found .0 .0) (resume .kept .1 .1 .1 .1 .1 .0) (found .1)
 
 pub run-terms-spec : {M : Type 1} → statement M
 run-terms-spec =
     tie.close
     (tie.spec
-    hatt-requires
+    resume-requires
     enum-known-refusal
     enum-known-found
     same-length
