@@ -13,7 +13,8 @@ use Rattle.entities.specs.declared.Triple.{Triple}
 use Rattle.slots.specs.Nodes.{active}
 use Rattle.slots.proofs.NodeBounds.{Below, active-below}
 use Rattle.choice.specs.Choices.{choices-at}
-use Rattle.choice.specs.Choice.{Choice, candidates, better, chosen}
+use Rattle.choice.specs.Choice.{Choice, candidates}
+use Rattle.choice.specs.computed.Choosing.{better, chosen}
 
 -- What holds of the nodes holds of their choices.
 candidates-below : (modes : ℕ) (table assigned : List ℕ) (l : List ℕ) → Below modes l

@@ -20,7 +20,8 @@ use Rattle.terms.specs.Weight.{weight-of}
 use Rattle.slots.specs.Nodes.{active}
 use Rattle.slots.proofs.ActiveNodes.{active-ascends}
 use Rattle.choice.specs.Choices.{choices-at}
-use Rattle.choice.specs.Choice.{Choice, candidates, larger, better, chosen, Larger, Chosen}
+use Rattle.choice.specs.Choice.{Choice, candidates, Larger, Chosen}
+use Rattle.choice.specs.computed.Choosing.{larger, better, chosen}
 
 -- One choice of no higher node than another.
 abbrev pub Lower : Choice → Choice → Type 0

@@ -15,7 +15,8 @@ use Rattle.terms.proofs.WeightBound.{weight-at-most}
 use Rattle.slots.specs.Nodes.{active}
 use Rattle.choice.specs.declared.Selection.{Selection}
 use Rattle.choice.specs.Choices.{choices-at}
-use Rattle.choice.specs.Choice.{Choice, candidates, better, chosen}
+use Rattle.choice.specs.Choice.{Choice, candidates}
+use Rattle.choice.specs.computed.Choosing.{better, chosen}
 use Rattle.choice.specs.code.Seeking.{weighed, standing, worst, sought-over, choice-of}
 use Rattle.choice.proofs.NumberBounds.{choices-small}
 use Rattle.choice.proofs.OrdersAgree.{Fits, standing-better}

@@ -9,7 +9,8 @@ use lib.Dec.{eqb, ltb}
 use Rattle.lists.specs.Least.{lighter}
 use Rattle.entities.specs.declared.Triple.{Triple}
 use Rattle.terms.specs.Weight.{weight-of}
-use Rattle.choice.specs.Choice.{Choice, larger, better}
+use Rattle.choice.specs.Choice.{Choice}
+use Rattle.choice.specs.computed.Choosing.{larger, better}
 use Rattle.choice.specs.code.Seeking.{weighed, packed, standing}
 
 -- Numbers that fit into 16 bits.

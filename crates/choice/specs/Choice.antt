@@ -1,11 +1,8 @@
 -- "Least weight, then largest z, y, x, then lowest node."
 use mathlib.Core.Path.{_≡_}
-use mathlib.Core.Bool.{Bool, _&&_, _||_}
 use mathlib.Core.List.{List, map, flatMap, List·Memᴰ}
 use mathlib.Core.Logic.{_⊎_}
 use Prim.Native.Nat.{ℕ, _≤_, _<_}
-use lib.Dec.{eqb, ltb}
-use Rattle.lists.specs.Least.{best-of}
 use Rattle.entities.specs.declared.Triple.{Triple}
 use Rattle.terms.specs.Weight.{weight-of}
 use Rattle.slots.specs.Nodes.{active}
@@ -21,22 +18,6 @@ unfoldable pub candidates : ℕ → List ℕ → ℕ → List ℕ → List Choic
 candidates modes table heuristic assigned =
     flatMap (λ node. map (λ triple. record { node = node; triple = triple }) (choices-at modes table assigned node))
     (active modes table heuristic assigned)
-
--- "largest z, y, x": the first triple is larger.
-unfoldable pub larger : Triple → Triple → Bool
-larger t u =
-    ltb (u .z) (t .z) || (eqb (u .z) (t .z) && (ltb (u .y) (t .y) || (eqb (u .y) (t .y) && ltb (u .x) (t .x))))
-
--- "Least weight, then largest z, y, x": the first choice is better.
-unfoldable pub better : List (List ℕ) → Choice → Choice → Bool
-better rows c d =
-    ltb (weight-of (c .triple) rows) (weight-of (d .triple) rows)
-    || (eqb (weight-of (c .triple) rows) (weight-of (d .triple) rows) && larger (c .triple) (d .triple))
-
--- The choice of a round, as a computation: the best, the first of several; where there is no candidate, node 0 and three zeros.
-unfoldable pub chosen : ℕ → List ℕ → ℕ → List ℕ → List (List ℕ) → Choice
-chosen modes table heuristic assigned rows =
-    best-of (better rows) (record { node = 0; triple = record { x = 0; y = 0; z = 0 } }) (candidates modes table heuristic assigned)
 
 -- "then largest z, y, x".
 abbrev pub Larger : Triple → Triple → Type 0

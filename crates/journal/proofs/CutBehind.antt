@@ -12,12 +12,12 @@ use Rattle.terms.specs.Job.{Job}
 use Rattle.fields.specs.Lines.{lines, kept-of}
 use Rattle.fields.proofs.LinesJoined.{lines-joined, lines-kept, kept-again, kept-some, whole-in, lines-cut, whole-within}
 use Rattle.merging.specs.Lawful.{LawfulHistory}
-use Rattle.merging.specs.Run.{greedy, finished}
+use Rattle.merging.specs.computed.Greedy.{greedy, finished}
 use Rattle.merging.proofs.RunLawful.{greedy-length}
 use Rattle.merging.proofs.GreedySteps.{greedy-on}
 use Rattle.journal.specs.LineForms.{header-of}
 use Rattle.journal.specs.Obeying.{Obeyed, went, obeyed-next, obeyed-lines, obeyed-header, obeyed-texts, obeyed}
-use Rattle.journal.specs.Writing.{greedy-lines, new-text}
+use Rattle.journal.specs.computed.NewText.{greedy-lines, new-text}
 use Rattle.journal.proofs.GreedyLines.{lines-on, length-greedy-lines, greedy-are-lines, no-header}
 use Rattle.journal.proofs.ObeyGreedy.{greedy-obeyed}
 use Rattle.journal.proofs.Obedience.{obedient}

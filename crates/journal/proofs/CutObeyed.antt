@@ -10,11 +10,11 @@ use Rattle.entities.specs.declared.Triple.{Triple}
 use Rattle.fields.specs.Lines.{lines, kept-of}
 use Rattle.fields.proofs.LinesJoined.{whole-in, lines-cut, kept-cut, whole-within}
 use Rattle.terms.specs.Job.{Job}
-use Rattle.merging.specs.Run.{greedy, finished}
+use Rattle.merging.specs.computed.Greedy.{greedy, finished}
 use Rattle.merging.proofs.RunLawful.{greedy-length}
 use Rattle.merging.proofs.GreedySteps.{greedy-on}
 use Rattle.journal.specs.Obeying.{went, obeyed, obeyed-texts, obeyed-header}
-use Rattle.journal.specs.Writing.{new-text, unbroken}
+use Rattle.journal.specs.computed.NewText.{new-text, unbroken}
 use Rattle.journal.proofs.LineRead.{header-read}
 use Rattle.journal.proofs.ObeyGreedy.{greedy-obeyed}
 use Rattle.journal.proofs.GreedyLines.{unbroken-lines, unbroken-joined, unbroken-are-lines, length-unbroken-lines, kept-and-new}

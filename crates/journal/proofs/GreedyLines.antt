@@ -13,11 +13,13 @@ use Rattle.lists.proofs.Joined.{flatMap-joined}
 use Rattle.entities.specs.declared.Triple.{Triple}
 use Rattle.terms.specs.Job.{Job}
 use Rattle.fields.specs.Lines.{is-line}
-use Rattle.merging.specs.Choice.{weight-in, chosen}
-use Rattle.merging.specs.Run.{greedy}
+use Rattle.merging.specs.Choice.{weight-in}
+use Rattle.merging.specs.computed.Choosing.{chosen}
+use Rattle.merging.specs.computed.Greedy.{greedy}
 use Rattle.merging.proofs.RunLawful.{greedy-length}
 use Rattle.journal.specs.LineForms.{header-text}
-use Rattle.journal.specs.Writing.{line-of, greedy-lines, header-behind, new-text, unbroken}
+use Rattle.journal.specs.Writing.{line-of, header-behind}
+use Rattle.journal.specs.computed.NewText.{greedy-lines, new-text, unbroken}
 use Rattle.journal.proofs.Texts.{length-header}
 use Rattle.journal.proofs.TextLines.{header-is-line, merge-is-line}
 

@@ -8,11 +8,13 @@ use Rattle.lists.proofs.Tests.{whichever}
 use Rattle.entities.specs.declared.Triple.{Triple}
 use Rattle.terms.specs.Job.{Job}
 use Rattle.merging.specs.Lawful.{LawfulHistory}
-use Rattle.merging.specs.Choice.{weight-in, chosen}
+use Rattle.merging.specs.Choice.{weight-in}
+use Rattle.merging.specs.computed.Choosing.{chosen}
 use Rattle.merging.proofs.RowsAfter.{weight-in-most}
 use Rattle.merging.proofs.RunLawful.{chosen-lawful}
 use Rattle.journal.specs.LineForms.{header-text}
-use Rattle.journal.specs.Writing.{line-of, greedy-lines, header-behind, new-text}
+use Rattle.journal.specs.Writing.{line-of, header-behind}
+use Rattle.journal.specs.computed.NewText.{greedy-lines, new-text}
 use Rattle.journal.proofs.TextLengths.{header-short, merge-short}
 use Rattle.journal.proofs.ObeyGreedy.{open-within}
 

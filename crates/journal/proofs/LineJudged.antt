@@ -18,7 +18,8 @@ use Rattle.refusal.specs.declared.Refusal.the-variants.{
 }
 use Rattle.entities.specs.declared.Triple.{Triple}
 use Rattle.terms.specs.Job.{Job}
-use Rattle.merging.specs.Lawful.{Lawful, three-open, paired, is-lawful}
+use Rattle.merging.specs.Lawful.{Lawful, three-open, paired}
+use Rattle.merging.specs.computed.Pairs.{is-lawful}
 use Rattle.merging.specs.Choice.{weight-in}
 use Rattle.merging.proofs.LawfulTest.{test-lawful}
 use Rattle.journal.specs.declared.judging.Judged.{Judged}

@@ -12,14 +12,16 @@ use Rattle.entities.specs.declared.Triple.{Triple}
 use Rattle.terms.specs.Job.{Job}
 use Rattle.merging.specs.declared.run.Run.{Run}
 use Rattle.merging.specs.History.{merge-of, history-before}
-use Rattle.merging.specs.Choice.{weight-in, chosen}
-use Rattle.merging.specs.Run.{greedy, finished}
+use Rattle.merging.specs.Choice.{weight-in}
+use Rattle.merging.specs.computed.Choosing.{chosen}
+use Rattle.merging.specs.computed.Greedy.{greedy, finished}
 use Rattle.merging.specs.code.State.{history-of}
 use Rattle.merging.proofs.Runs.{merges-within}
 use Rattle.merging.proofs.RunLawful.{greedy-length}
 use Rattle.merging.proofs.GreedySteps.{before-step, step-chosen}
 use Rattle.journal.specs.LineForms.{header-text, merge-text}
-use Rattle.journal.specs.Writing.{line-of, greedy-lines, header-behind, new-text}
+use Rattle.journal.specs.Writing.{line-of, header-behind}
+use Rattle.journal.specs.computed.NewText.{greedy-lines, new-text}
 use Rattle.journal.specs.code.NewLines.{noted-line, noted-text, noted-from, StepsFit, Ended}
 use Rattle.journal.proofs.GreedyLines.{greedy-lines-more}
 

@@ -10,9 +10,11 @@ use Rattle.lists.proofs.Tests.{both}
 use Rattle.entities.specs.declared.Triple.{Triple}
 use Rattle.terms.specs.Job.{Job}
 use Rattle.merging.specs.History.{next-parent, is-open}
-use Rattle.merging.specs.Lawful.{Lawful, LawfulHistory, three-open, paired, is-lawful}
-use Rattle.merging.specs.Choice.{weight-in, chosen}
-use Rattle.merging.specs.Run.{greedy}
+use Rattle.merging.specs.Lawful.{Lawful, LawfulHistory, three-open, paired}
+use Rattle.merging.specs.Choice.{weight-in}
+use Rattle.merging.specs.computed.Pairs.{is-lawful}
+use Rattle.merging.specs.computed.Choosing.{chosen}
+use Rattle.merging.specs.computed.Greedy.{greedy}
 use Rattle.merging.proofs.Holders.{open-below}
 use Rattle.merging.proofs.LawfulTest.{lawful-test}
 use Rattle.merging.proofs.RowsAfter.{weight-in-most}
@@ -21,7 +23,8 @@ use Rattle.journal.specs.declared.merge_line.MergeLine.{MergeLine}
 use Rattle.journal.specs.declared.merge_line.Merge.the-variants.{Is as MergeIs}
 use Rattle.journal.specs.LineForms.{merge-of-line}
 use Rattle.journal.specs.Obeying.{went, judged-merge, judged-form, judged-line, obeyed-as, obeyed-next, obeyed-lines}
-use Rattle.journal.specs.Writing.{line-of, greedy-lines}
+use Rattle.journal.specs.Writing.{line-of}
+use Rattle.journal.specs.computed.NewText.{greedy-lines}
 use Rattle.journal.proofs.LineRead.{merge-read}
 
 -- While a step is left, every open entity is below 3n.

@@ -14,12 +14,13 @@ use Rattle.terms.specs.Job.{Job, job-of}
 use Rattle.terms.specs.Good.{modes-good, checked}
 use Rattle.terms.specs.declared.checking.Checked.the-variants.{Good}
 use Rattle.merging.specs.History.{merge-of, history-before}
-use Rattle.merging.specs.Run.{finished}
+use Rattle.merging.specs.computed.Greedy.{finished}
 use Rattle.merging.proofs.RunLawful.{finished-length}
 use Rattle.merging.proofs.RunsOn.{runs-on}
 use Rattle.merging.proofs.TrialTotals.{trials-total}
 use Rattle.journal.specs.Obeying.{went, obeyed}
-use Rattle.journal.specs.Writing.{line-of, header-behind, new-text}
+use Rattle.journal.specs.Writing.{line-of, header-behind}
+use Rattle.journal.specs.computed.NewText.{new-text}
 use Rattle.journal.specs.Resuming.{Ending, ending}
 use Rattle.journal.specs.Obedience.{Obedient, ObeyedThenGreedy, EveryCall}
 use Rattle.journal.specs.code.NewLines.{noted-line, noted-text}

@@ -9,7 +9,8 @@ use Rattle.lists.proofs.Written.{written-front}
 use Rattle.fields.specs.Lines.{kept-of}
 use Rattle.terms.specs.Job.{Job}
 use Rattle.merging.specs.declared.run.Run.{Run}
-use Rattle.merging.specs.Run.{finished, run-weight, trials}
+use Rattle.merging.specs.Run.{run-weight}
+use Rattle.merging.specs.computed.Greedy.{finished, trials}
 use Rattle.merging.specs.Flatpack.{flatpack}
 use Rattle.merging.specs.code.State.{history-of}
 use Rattle.merging.specs.code.Runs.{Holds, Went}
@@ -18,7 +19,7 @@ use Rattle.merging.proofs.Runs.{merges-within, merges-lawful}
 use Rattle.merging.proofs.RunLawful.{finished-length}
 use Rattle.merging.proofs.TrialTotals.{trials-total}
 use Rattle.journal.specs.declared.resuming.Answer.the-variants.{Done}
-use Rattle.journal.specs.Writing.{new-text}
+use Rattle.journal.specs.computed.NewText.{new-text}
 use Rattle.journal.specs.Resuming.{done, ending}
 use Rattle.journal.specs.Promises.{lent, Answers, returned, lent-then}
 use Rattle.journal.specs.code.Sized.{Sized}

@@ -6,4 +6,5 @@ pub mod Resuming
 pub mod Promises
 pub mod Obedience
 pub mod CutAndResumed
+pub mod computed
 pub mod code

@@ -13,10 +13,11 @@ use Rattle.terms.specs.Job.{Job, job-of}
 use Rattle.terms.specs.Good.{modes-good, checked}
 use Rattle.terms.specs.declared.checking.Checked.{Checked}
 use Rattle.terms.specs.declared.checking.Checked.the-variants.{Good, Refused as BadTerms}
-use Rattle.merging.specs.Run.{finished, run-weight, trials}
+use Rattle.merging.specs.Run.{run-weight}
+use Rattle.merging.specs.computed.Greedy.{finished, trials}
 use Rattle.merging.specs.Flatpack.{flatpack}
 use Rattle.journal.specs.Obeying.{Obeyed, went, refused, obeyed}
-use Rattle.journal.specs.Writing.{new-text}
+use Rattle.journal.specs.computed.NewText.{new-text}
 
 -- What a run comes to: how many terms it had, its four numbers (the new bytes' is their count), its rows and its new bytes.
 pub record Ending : Type 0 where

@@ -7,7 +7,8 @@ use lib.ListN.{length}
 use Rattle.lists.specs.Counting.{same}
 use Rattle.lists.proofs.Sums.{same-one, same-none, one-same}
 use Rattle.entities.specs.declared.Triple.{Triple}
-use Rattle.merging.specs.History.{z-end, holder}
+use Rattle.merging.specs.History.{z-end}
+use Rattle.merging.specs.computed.Pairs.{holder}
 use Rattle.merging.specs.Lawful.{LawfulHistory}
 use Rattle.merging.specs.Flatpack.{absent-leaf}
 use Rattle.merging.proofs.Holders.{one-holder, last-held}

@@ -13,8 +13,8 @@ use Rattle.lists.proofs.Ranges.{listed-step, listed-end, keep-on, keep-done, ke
 use Rattle.entities.specs.declared.Triple.{Triple}
 use Rattle.merging.specs.declared.lawful.Couple.the-variants.{Of, Nothing}
 use Rattle.merging.specs.History.{next-parent}
-use Rattle.merging.specs.Lawful.{named, is-lawful, entities, pairs-with, lawful-pairs}
-use Rattle.merging.specs.Choice.{candidates}
+use Rattle.merging.specs.computed.Pairs.{named, is-lawful, entities, pairs-with, lawful-pairs}
+use Rattle.merging.specs.computed.Choosing.{candidates}
 use Rattle.merging.specs.code.Couples.{x-of, y-of, coupled, couple, free, beside, beside-couple}
 use Rattle.merging.proofs.Couples.{named-parts, lawful-parts}
 

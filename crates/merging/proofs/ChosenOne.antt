@@ -5,8 +5,9 @@ use mathlib.Core.Logic.{⊎-elim}
 use native.Mathlib.Omega.{arith}
 use Rattle.entities.specs.declared.Triple.{Triple}
 use Rattle.terms.specs.Job.{Job}
-use Rattle.merging.specs.Lawful.{LawfulHistory, Pair, Sooner, named}
-use Rattle.merging.specs.Choice.{weight-in, Chosen}
+use Rattle.merging.specs.Lawful.{LawfulHistory, Pair, Sooner}
+use Rattle.merging.specs.computed.Pairs.{named}
+use Rattle.merging.specs.Choice.{weight-in, Chosen, OneChosen}
 use Rattle.merging.proofs.Names.{named-triple}
 
 not-both : (p q : Pair) → Sooner p q → Sooner q p → ⊥
@@ -31,3 +32,6 @@ module _ (job : Job) (history : List Triple) (lawful : LawfulHistory (job .modes
       ⊎-elim (λ e. by-names (sym e)) (λ back. absurd (not-both (c .name) (d .name) sooner back))
       (d .first one (c .lawful) same (c .name) (c .names)))
       (c .first other (d .lawful) (sym same) (d .name) (d .names))
+
+pub one-chosen : OneChosen
+one-chosen job history lawful one other c d = chosen-one job history lawful one other c d

@@ -9,8 +9,10 @@ use Rattle.lists.specs.Least.{least, least-of}
 use Rattle.lists.proofs.Least.{FirstLeast, least-first, least-map}
 use Rattle.entities.specs.declared.Triple.{Triple}
 use Rattle.terms.specs.Job.{Job}
-use Rattle.merging.specs.Lawful.{Lawful, LawfulHistory, Pair, Names, Sooner, named, lawful-pairs}
-use Rattle.merging.specs.Choice.{weight-in, candidates, chosen, Chosen}
+use Rattle.merging.specs.Lawful.{Lawful, LawfulHistory, Pair, Names, Sooner}
+use Rattle.merging.specs.Choice.{weight-in, Chosen}
+use Rattle.merging.specs.computed.Pairs.{named, lawful-pairs}
+use Rattle.merging.specs.computed.Choosing.{candidates, chosen}
 use Rattle.merging.proofs.Names.{pair-lawful, names-named, named-triple, names-listed, pairs-ascend}
 
 -- The weight of the triple that a pair names.

@@ -8,8 +8,9 @@ use borrow.Author.Tests.{eq-eqb, ne-eqb}
 use lib.Dec.{eqb}
 use Rattle.lists.proofs.Tests.{not-so}
 use Rattle.entities.specs.declared.Triple.{Triple}
-use Rattle.merging.specs.History.{next-parent, is-open, z-end, holder}
-use Rattle.merging.specs.Lawful.{Pair, named, is-lawful, three-open, paired}
+use Rattle.merging.specs.History.{next-parent, is-open, z-end}
+use Rattle.merging.specs.Lawful.{Pair, three-open, paired}
+use Rattle.merging.specs.computed.Pairs.{holder, named, is-lawful}
 use Rattle.merging.specs.code.Couples.{x-of, y-of, coupled, ends-pair, free}
 use Rattle.merging.proofs.Holders.{open-below}
 

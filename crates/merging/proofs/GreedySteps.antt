@@ -9,8 +9,8 @@ use lib.Seq.{getD-drop}
 use Rattle.entities.specs.declared.Triple.{Triple}
 use Rattle.terms.specs.Job.{Job}
 use Rattle.merging.specs.History.{merge-of, history-before}
-use Rattle.merging.specs.Choice.{chosen}
-use Rattle.merging.specs.Run.{greedy}
+use Rattle.merging.specs.computed.Choosing.{chosen}
+use Rattle.merging.specs.computed.Greedy.{greedy}
 use Rattle.merging.proofs.Amounts.{merge-getD}
 use Rattle.merging.proofs.RunLawful.{greedy-length}
 

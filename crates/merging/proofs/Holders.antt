@@ -9,7 +9,8 @@ use borrow.Author.Tests.{eqb-true, eqb-false, eq-eqb, ne-eqb, leb-true, le-leb, 
 use lib.Dec.{eqb}
 use Rattle.lists.proofs.Tests.{both, either, neither, same-or-not}
 use Rattle.entities.specs.declared.Triple.{Triple}
-use Rattle.merging.specs.History.{next-parent, among, is-open, z-end, holder}
+use Rattle.merging.specs.History.{next-parent, among, is-open, z-end}
+use Rattle.merging.specs.computed.Pairs.{holder}
 use Rattle.merging.specs.Lawful.{Lawful, LawfulHistory}
 
 -- The entity is none of the triple's three.

@@ -7,7 +7,8 @@ use borrow.Author.Tests.{eqb-true, eqb-false, eq-eqb, ne-eqb, ltb-true, lt-ltb, 
 use Rattle.lists.proofs.Tests.{both}
 use Rattle.entities.specs.declared.Triple.{Triple}
 use Rattle.merging.specs.History.{is-open}
-use Rattle.merging.specs.Lawful.{Lawful, is-lawful, three-open, paired}
+use Rattle.merging.specs.Lawful.{Lawful, three-open, paired}
+use Rattle.merging.specs.computed.Pairs.{is-lawful}
 
 module _ (modes : ℕ) (history : List Triple) (triple : Triple) where
   pub opens-test : three-open modes history triple ≡ true

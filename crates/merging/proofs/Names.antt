@@ -11,8 +11,9 @@ use Rattle.lists.proofs.Membership.{kept, of-kept, joined, of-joined, counted}
 use Rattle.lists.specs.Ordered.{Ascending}
 use Rattle.lists.proofs.Ordered.{counted-ascends, kept-ascends, map-ascends, joined-ascends}
 use Rattle.entities.specs.declared.Triple.{Triple}
-use Rattle.merging.specs.History.{next-parent, z-end, holder}
-use Rattle.merging.specs.Lawful.{Lawful, LawfulHistory, is-lawful, Pair, Names, Sooner, LawfulPairs, named, entities, pairs-with, lawful-pairs}
+use Rattle.merging.specs.History.{next-parent, z-end}
+use Rattle.merging.specs.Lawful.{Lawful, LawfulHistory, Pair, Names, Sooner, LawfulPairs}
+use Rattle.merging.specs.computed.Pairs.{holder, is-lawful, named, entities, pairs-with, lawful-pairs}
 use Rattle.merging.proofs.LawfulTest.{test-lawful, lawful-test}
 use Rattle.merging.proofs.Holders.{open-below, holds-end}
 

@@ -15,7 +15,8 @@ use Rattle.lists.proofs.Totals.{total, without, without-here, without-there, to
 use Rattle.lists.proofs.Sums.{one-if, same-one, same-none, sum-map, sum-listed, length-keep, length-flatMap}
 use Rattle.entities.specs.declared.Triple.{Triple}
 use Rattle.merging.specs.History.{next-parent, is-open, z-end}
-use Rattle.merging.specs.Lawful.{LawfulHistory, is-lawful, Pair, named, entities, pairs-with, lawful-pairs}
+use Rattle.merging.specs.Lawful.{LawfulHistory, Pair}
+use Rattle.merging.specs.computed.Pairs.{is-lawful, named, entities, pairs-with, lawful-pairs}
 use Rattle.merging.proofs.LawfulTest.{lawful-test}
 use Rattle.merging.proofs.Holders.{open-below, open-end-within}
 use Rattle.merging.proofs.OpenSums.{share, open-sum, share-open, share-closed, open-same, open-add, open-times, open-count}

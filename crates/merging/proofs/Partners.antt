@@ -8,8 +8,9 @@ use native.Mathlib.Omega.{arith}
 use borrow.Author.Tests.{eq-eqb, ne-eqb}
 use Rattle.lists.proofs.Tests.{same-or-not, not-so}
 use Rattle.entities.specs.declared.Triple.{Triple}
-use Rattle.merging.specs.History.{is-open, z-end, holder}
-use Rattle.merging.specs.Lawful.{Lawful, LawfulHistory, is-lawful, Pair, named}
+use Rattle.merging.specs.History.{is-open, z-end}
+use Rattle.merging.specs.Lawful.{Lawful, LawfulHistory, Pair}
+use Rattle.merging.specs.computed.Pairs.{holder, is-lawful, named}
 use Rattle.merging.proofs.LawfulTest.{test-lawful}
 use Rattle.merging.proofs.Holders.{mate-of-open}
 use Rattle.merging.proofs.Names.{names-named}

@@ -8,8 +8,8 @@ use lib.ListN.{length}
 use Rattle.entities.specs.declared.Triple.{Triple}
 use Rattle.terms.specs.Job.{Job}
 use Rattle.merging.specs.Lawful.{Lawful, LawfulHistory}
-use Rattle.merging.specs.Choice.{chosen}
-use Rattle.merging.specs.Run.{greedy, finished}
+use Rattle.merging.specs.computed.Choosing.{chosen}
+use Rattle.merging.specs.computed.Greedy.{greedy, finished}
 use Rattle.merging.proofs.PairCount.{some-pair}
 use Rattle.merging.proofs.ChosenRight.{chosen-right}
 

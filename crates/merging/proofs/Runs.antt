@@ -11,8 +11,9 @@ use Rattle.terms.proofs.OwnRows.{front-held}
 use Rattle.terms.proofs.RowReduced.{terms-front}
 use Rattle.merging.specs.declared.run.Run.{Run}
 use Rattle.merging.specs.Lawful.{Lawful, LawfulHistory}
-use Rattle.merging.specs.Choice.{weight-in, chosen}
-use Rattle.merging.specs.Run.{greedy, finished}
+use Rattle.merging.specs.Choice.{weight-in}
+use Rattle.merging.specs.computed.Choosing.{chosen}
+use Rattle.merging.specs.computed.Greedy.{greedy, finished}
 use Rattle.merging.specs.code.State.{history-of}
 use Rattle.merging.specs.code.Runs.{Holds, Ready, Went}
 use Rattle.merging.proofs.Recording.{length-recorded}

@@ -10,9 +10,12 @@ use Rattle.lists.specs.Ranges.{listed}
 use Rattle.entities.specs.declared.Triple.{Triple}
 use Rattle.terms.specs.Job.{Job}
 use Rattle.merging.specs.History.{merge-of, history-before}
-use Rattle.merging.specs.Lawful.{LawfulHistory, lawful-pairs}
-use Rattle.merging.specs.Choice.{chosen, Chosen}
-use Rattle.merging.specs.Run.{greedy, finished, trials, RunsFrom}
+use Rattle.merging.specs.Lawful.{LawfulHistory}
+use Rattle.merging.specs.Choice.{Chosen}
+use Rattle.merging.specs.Run.{RunsFrom}
+use Rattle.merging.specs.computed.Pairs.{lawful-pairs}
+use Rattle.merging.specs.computed.Choosing.{chosen}
+use Rattle.merging.specs.computed.Greedy.{greedy, finished, trials}
 use Rattle.merging.proofs.Names.{pairs-right}
 use Rattle.merging.proofs.ChosenRight.{chosen-right}
 use Rattle.merging.proofs.OpenSums.{one-root}
@@ -78,6 +81,7 @@ module _ (job : Job) (history : List Triple) (lawful : LawfulHistory (job .modes
         goes-on = λ step kept left.
             let i : length history + (step - length history) ≡ step = omega arith in
             rw i at (step-right (step - length history) (omega arith));
+        pairs = λ step. lawful-pairs (job .modes) (history-before (finished job history) step);
         pairs-are = λ step h.
             pairs-right (job .modes) (history-before merges step) (before-lawful (job .modes) (length merges - step) merges merges-lawful);
         trials-are = counted;

@@ -17,8 +17,9 @@ use Rattle.terms.proofs.AsTold.{live-weight}
 use Rattle.merging.specs.declared.choice.Best.{Best}
 use Rattle.merging.specs.declared.run.Run.{Run}
 use Rattle.merging.specs.History.{next-parent, rows-after}
-use Rattle.merging.specs.Lawful.{named, lawful-pairs}
-use Rattle.merging.specs.Choice.{weight-in, candidates, chosen}
+use Rattle.merging.specs.Choice.{weight-in}
+use Rattle.merging.specs.computed.Pairs.{named, lawful-pairs}
+use Rattle.merging.specs.computed.Choosing.{candidates, chosen}
 use Rattle.merging.specs.code.Couples.{weight-here, nothing, weighed, seek}
 use Rattle.merging.specs.code.State.{history-of, HoldsIn, ReadyIn}
 use Rattle.merging.proofs.StateMerged.{parent-is}

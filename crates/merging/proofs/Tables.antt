@@ -12,7 +12,8 @@ use Rattle.lists.proofs.Listed.{listed-at}
 use Rattle.lists.proofs.Tests.{eqb-either}
 use Rattle.lists.proofs.Writes.{after-write}
 use Rattle.entities.specs.declared.Triple.{Triple}
-use Rattle.merging.specs.History.{next-parent, among, is-open, z-end, holder}
+use Rattle.merging.specs.History.{next-parent, among, is-open, z-end}
+use Rattle.merging.specs.computed.Pairs.{holder}
 use Rattle.merging.specs.code.Couples.{OpensAre, EndsAre, HoldersAre, Tied}
 
 -- At the start the leaves are open, and everything is its own z-end and its own holder.

@@ -7,9 +7,10 @@ use native.Mathlib.Omega.{arith}
 use lib.ListN.{length}
 use Rattle.entities.specs.declared.Triple.{Triple}
 use Rattle.terms.specs.Job.{Job}
-use Rattle.merging.specs.Lawful.{LawfulHistory, lawful-pairs}
-use Rattle.merging.specs.Choice.{chosen}
-use Rattle.merging.specs.Run.{trials}
+use Rattle.merging.specs.Lawful.{LawfulHistory}
+use Rattle.merging.specs.computed.Pairs.{lawful-pairs}
+use Rattle.merging.specs.computed.Choosing.{chosen}
+use Rattle.merging.specs.computed.Greedy.{trials}
 use Rattle.merging.specs.Trials.{trial-total}
 use Rattle.merging.proofs.PairCount.{pair-count}
 use Rattle.merging.proofs.RunLawful.{chosen-lawful}

@@ -38,12 +38,6 @@ z-end modes [] entity = entity
 z-end modes (merge ∷ history) entity =
     z-end modes history (cond (eqb entity (next-parent modes history)) (merge .z) entity)
 
--- The entity that holds a leaf at its z-end: the last parent whose z-chain reached it, or the leaf itself.
-unfoldable pub holder : ℕ → List Triple → ℕ → ℕ
-holder modes [] leaf = leaf
-holder modes (merge ∷ history) leaf =
-    cond (eqb (z-end modes history (merge .z)) leaf) (next-parent modes history) (holder modes history leaf)
-
 -- The rows after a history: each merge reduces them to its parent.
 unfoldable pub rows-after : Job → List Triple → List (List ℕ)
 rows-after job [] = job .terms

@@ -1,15 +1,13 @@
 -- "A lawful triple (x, y, z) is three different open entities where x's z-end is an even 2k below 2n and y's is 2k+1."
 use mathlib.Core.Path.{_≡_}
-use mathlib.Core.Bool.{Bool, true, cond, not, _&&_}
-use mathlib.Core.List.{List, [], _∷_, map, flatMap, List·Memᴰ}
+use mathlib.Core.Bool.{Bool, true, not, _&&_}
+use mathlib.Core.List.{List, [], _∷_, List·Memᴰ}
 use mathlib.Core.Logic.{_⊎_}
 use Prim.Native.Nat.{ℕ, _+_, _-_, _*_, _%_, _<_}
 use lib.Dec.{eqb, ltb}
-use Rattle.lists.specs.Members.{keep}
 use Rattle.lists.specs.Ordered.{Ascending}
-use Rattle.lists.specs.Ranges.{listed}
 use Rattle.entities.specs.declared.Triple.{Triple}
-use Rattle.merging.specs.History.{next-parent, is-open, z-end, holder}
+use Rattle.merging.specs.History.{is-open, z-end}
 
 -- The sentence, a field a fact.
 pub record Lawful (modes : ℕ) (history : List Triple) (triple : Triple) : Type 0 where
@@ -33,7 +31,7 @@ pub record OneRoot (modes : ℕ) (history : List Triple) : Type 0 where
   pub root-open : is-open modes history (3 * modes) ≡ true
   pub alone : (entity : ℕ) → is-open modes history entity ≡ true → entity ≡ 3 * modes
 
--- The sentence of a lawful triple as a test.
+-- "three … open entities", as a test: 9 is given where it fails, and 10 where the next one does.
 unfoldable pub three-open : ℕ → List Triple → Triple → Bool
 three-open modes history triple =
     is-open modes history (triple .x) && (is-open modes history (triple .y) && is-open modes history (triple .z))
@@ -47,9 +45,6 @@ paired modes history triple =
     && (eqb (z-end modes history (triple .x) % 2) 0
     && (ltb (z-end modes history (triple .x)) (2 * modes)
     && eqb (z-end modes history (triple .y)) (z-end modes history (triple .x) + 1)))))
-
-unfoldable pub is-lawful : ℕ → List Triple → Triple → Bool
-is-lawful modes history triple = three-open modes history triple && paired modes history triple
 
 -- "A lawful ordered pair (a, z) names it when a is its x or its y."
 pub record Pair : Type 0 where
@@ -70,23 +65,3 @@ pub record LawfulPairs (modes : ℕ) (history : List Triple) (pairs : List Pair)
   pub each : (pair : Pair) (triple : Triple) → Lawful modes history triple → Names pair triple → List·Memᴰ pair pairs
   pub no-other : (pair : Pair) → List·Memᴰ pair pairs → (triple : Triple) × (Lawful modes history triple × Names pair triple)
   pub ascending : Ascending Sooner pairs
-
--- The triple that a pair names: a with the holder of the leaf paired with a's z-end, the even one first.
-unfoldable pub named : ℕ → List Triple → Pair → Triple
-named modes history pair =
-    cond (eqb (z-end modes history (pair .a) % 2) 0)
-    (record { x = pair .a; y = holder modes history (z-end modes history (pair .a) + 1); z = pair .z })
-    (record { x = holder modes history (z-end modes history (pair .a) - 1); y = pair .a; z = pair .z })
-
--- All entities so far, ascending.
-unfoldable pub entities : ℕ → List Triple → List ℕ
-entities modes history = listed (λ entity. entity) 0 (next-parent modes history)
-
--- The lawful pairs with this a, "in ascending a, then z".
-unfoldable pub pairs-with : ℕ → List Triple → ℕ → List Pair
-pairs-with modes history a =
-    keep (λ pair. is-lawful modes history (named modes history pair)) (map (λ z. record { a = a; z = z }) (entities modes history))
-
--- The lawful ordered pairs, "in ascending a, then z".
-unfoldable pub lawful-pairs : ℕ → List Triple → List Pair
-lawful-pairs modes history = flatMap (pairs-with modes history) (entities modes history)

@@ -6,4 +6,5 @@ pub mod Choice
 pub mod Run
 pub mod Flatpack
 pub mod Trials
+pub mod computed
 pub mod code

@@ -8,7 +8,7 @@ ghost use Rattle.entities.specs.declared.Triple.{Triple as Three};
 ghost use Rattle.entities.specs.Limits.{«most-modes», «most-terms», «row-width», «entity-room»};
 ghost use Rattle.terms.specs.code.Held.{Held, OddOf};
 ghost use Rattle.merging.specs.History.{«next-parent»};
-ghost use Rattle.merging.specs.Choice.{candidates};
+ghost use Rattle.merging.specs.computed.Choosing.{candidates};
 ghost use Rattle.merging.specs.code.Couples.{
   OpensAre,
   Tied,

@@ -8,8 +8,8 @@ ghost use Rattle.entities.specs.Limits.{«most-modes», «most-terms», «row-w
 ghost use Rattle.terms.specs.code.Held.{Held};
 ghost use Rattle.terms.specs.Job.{Job, «job-of»};
 ghost use Rattle.merging.specs.History.{«is-open»};
-ghost use Rattle.merging.specs.Choice.{chosen};
-ghost use Rattle.merging.specs.Run.{finished as «finished-from»};
+ghost use Rattle.merging.specs.computed.Choosing.{chosen};
+ghost use Rattle.merging.specs.computed.Greedy.{finished as «finished-from»};
 ghost use Rattle.merging.specs.code.State.{«history-of», EntitiesMerged, Noted};
 ghost use Rattle.merging.specs.code.Runs.{Holds, Ready, Went};
 use crate::choice;

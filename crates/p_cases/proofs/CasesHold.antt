@@ -16,10 +16,13 @@ use Rattle.terms.specs.Rows.{rows-of, term, terms-of}
 use Rattle.terms.specs.Good.{modes-good, good-indices, good-row, good-rows, checked}
 use Rattle.terms.specs.Weight.{weight-of, term-weight, odd-ones}
 use Rattle.terms.specs.Reduction.{reduction, rewriting, sorted, put-in, replacement, dropped, stays, settled, reduced-row}
-use Rattle.merging.specs.History.{merge-of, next-parent, among, is-open, z-end, holder, rows-after}
-use Rattle.merging.specs.Lawful.{is-lawful, three-open, paired, named, entities, pairs-with, lawful-pairs}
-use Rattle.merging.specs.Choice.{weight-in, candidates, chosen}
-use Rattle.merging.specs.Run.{greedy, finished, run-weight, trials}
+use Rattle.merging.specs.History.{merge-of, next-parent, among, is-open, z-end, rows-after}
+use Rattle.merging.specs.Lawful.{three-open, paired}
+use Rattle.merging.specs.Choice.{weight-in}
+use Rattle.merging.specs.Run.{run-weight}
+use Rattle.merging.specs.computed.Pairs.{holder, is-lawful, named, entities, pairs-with, lawful-pairs}
+use Rattle.merging.specs.computed.Choosing.{candidates, chosen}
+use Rattle.merging.specs.computed.Greedy.{greedy, finished, trials}
 use Rattle.merging.specs.Flatpack.{absent-leaf, children, walk, rows-for, flatpack}
 use Rattle.merging.specs.Trials.{trial-total}
 use Rattle.journal.specs.LineForms.{header-good, header-of, merge-good, merge-of-line, header-text, merge-text}
@@ -34,7 +37,8 @@ use Rattle.journal.specs.Obeying.{
   obeyed-texts,
   obeyed,
 }
-use Rattle.journal.specs.Writing.{line-of, greedy-lines, header-behind, new-text}
+use Rattle.journal.specs.Writing.{line-of, header-behind}
+use Rattle.journal.specs.computed.NewText.{greedy-lines, new-text}
 use Rattle.journal.specs.Resuming.{ending, with-journal, roomy, with-terms, resumed}
 use Rattle.journal.specs.Promises.{numbers-of, returned, lent-then}
 use Rattle.tree.specs.Table.{nodes, child, place-of, parent-of, climb}
@@ -46,8 +50,10 @@ use Rattle.tree.specs.Laying.{row-over, laid-over, laid, modes-in}
 use Rattle.slots.specs.Slots.{pair-of, parity-of, leaf-slot, slot-of, slot, unfixed, is-fixed, leaf-of, stands-as, slots}
 use Rattle.slots.specs.Nodes.{distance, complete, remaining, largest, farthest, narrowed, active}
 use Rattle.choice.specs.Choices.{unassigned, without, numbers, with-z, choices, choices-at}
-use Rattle.choice.specs.Choice.{candidates as topphatt-candidates, larger, better, chosen as topphatt-chosen}
-use Rattle.topphatt.specs.Rounds.{before, fixed, fixed-by, after, next, rounds, ended}
+use Rattle.choice.specs.Choice.{candidates as topphatt-candidates}
+use Rattle.choice.specs.computed.Choosing.{larger, better, chosen as topphatt-chosen}
+use Rattle.topphatt.specs.Rounds.{before, fixed, fixed-by, after}
+use Rattle.topphatt.specs.computed.Rounding.{next, rounds, ended}
 use Rattle.topphatt.specs.Answer.{answer-table, done-by, with-room, with-terms as topphatt-with-terms, with-tree, outcome}
 use Rattle.topphatt.specs.Promises.{numbers-of as topphatt-numbers, returned as topphatt-returned, lent-then as topphatt-left}
 use Rattle.newick.specs.Grammar.{spelled}

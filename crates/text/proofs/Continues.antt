@@ -21,7 +21,8 @@ use Rattle.fields.proofs.DecimalRead.{decimal-without}
 use Rattle.terms.specs.Job.{Job, job-of}
 use Rattle.terms.proofs.RowSteps.{length-terms}
 use Rattle.journal.specs.LineForms.{header-text, merge-text}
-use Rattle.journal.specs.Writing.{line-of, greedy-lines, header-behind, new-text}
+use Rattle.journal.specs.Writing.{line-of, header-behind}
+use Rattle.journal.specs.computed.NewText.{greedy-lines, new-text}
 use Rattle.journal.specs.Resuming.{Ending, Outcome, done, refuses, ending, resumed}
 use Rattle.journal.specs.CutAndResumed.{journal-of, Suffice}
 use Rattle.journal.proofs.CallDone.{call-done}

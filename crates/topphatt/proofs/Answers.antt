@@ -11,7 +11,8 @@ use Rattle.refusal.specs.declared.Refusal.the-variants.{Room}
 use Rattle.terms.proofs.RowSteps.{length-terms}
 use Rattle.topphatt.specs.declared.Assigned.{Assigned}
 use Rattle.topphatt.specs.declared.Assigned.the-variants.{Weight, Unassigned}
-use Rattle.topphatt.specs.Rounds.{Task, ended}
+use Rattle.topphatt.specs.Rounds.{Task}
+use Rattle.topphatt.specs.computed.Rounding.{ended}
 use Rattle.topphatt.specs.Answer.{Outcome, refused, answer-table, Asked, task-of, Rooms, done-by, with-room}
 use Rattle.topphatt.specs.Promises.{numbers-of, returned, Lent, lent, lent-then, Assigns}
 

@@ -13,7 +13,8 @@ use Rattle.terms.proofs.RowSteps.{length-terms}
 use Rattle.tree.specs.Check.{tree-checked}
 use Rattle.tree.specs.declared.TreeChecked.{TreeChecked}
 use Rattle.tree.specs.declared.TreeChecked.the-variants.{Accepted, Refused as BadTree}
-use Rattle.topphatt.specs.Rounds.{Task, ended}
+use Rattle.topphatt.specs.Rounds.{Task}
+use Rattle.topphatt.specs.computed.Rounding.{ended}
 use Rattle.topphatt.specs.Answer.{done, refused, answer-table, Asked, task-of, Rooms, done-by, with-room, with-terms, with-tree, outcome}
 
 module _ (rooms : Rooms) (call : Asked) (count weight : ℕ) (answer : List ℕ) where

@@ -4,7 +4,8 @@ use Prim.Native.Nat.{ℕ}
 use Rattle.tree.specs.Check.{tree-checked}
 use Rattle.tree.specs.declared.TreeChecked.the-variants.{Accepted}
 use Rattle.slots.proofs.AcceptedFits.{accepted-fits}
-use Rattle.topphatt.specs.Rounds.{Task, ended}
+use Rattle.topphatt.specs.Rounds.{Task}
+use Rattle.topphatt.specs.computed.Rounding.{ended}
 use Rattle.topphatt.specs.Answer.{answer-table, task-of}
 use Rattle.topphatt.specs.Assignment.{AnswerRight, EveryAssignment}
 use Rattle.topphatt.proofs.AssignDone.{assign-done}

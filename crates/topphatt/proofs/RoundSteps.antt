@@ -13,9 +13,11 @@ use Rattle.terms.specs.Weight.{weight-of}
 use Rattle.terms.specs.Reduction.{reduction, live}
 use Rattle.terms.proofs.AsTold.{live-weight}
 use Rattle.choice.specs.Choices.{unassigned}
-use Rattle.choice.specs.Choice.{Choice, candidates, better, chosen}
+use Rattle.choice.specs.Choice.{Choice, candidates}
+use Rattle.choice.specs.computed.Choosing.{better, chosen}
 use Rattle.topphatt.specs.declared.rounds.Progress.{Progress}
-use Rattle.topphatt.specs.Rounds.{Rounds, Task, before, fixed-by, after, choice-in, next, rounds, ended}
+use Rattle.topphatt.specs.Rounds.{Rounds, Task, before, fixed-by, after}
+use Rattle.topphatt.specs.computed.Rounding.{choice-in, next, rounds, ended}
 use Rattle.topphatt.specs.code.Going.{task-with, state-of}
 
 pub stepped : (task : Task) (rows assigned : List ℕ) (progress : Progress) (now-rows now-assigned : List ℕ) (r : Progress) (choice : Choice)

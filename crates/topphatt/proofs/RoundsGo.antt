@@ -17,7 +17,8 @@ use Rattle.slots.specs.Slots.{pair-of, slot, unfixed}
 use Rattle.slots.proofs.SlotCases.{pair-below, edge-without}
 use Rattle.choice.specs.Choices.{unassigned}
 use Rattle.choice.proofs.ChosenRight.{of-candidates, chosen-first, chosen-right}
-use Rattle.topphatt.specs.Rounds.{Rounds, Task, before, after, choice-in, next, rounds, ended}
+use Rattle.topphatt.specs.Rounds.{Rounds, Task, before, after}
+use Rattle.topphatt.specs.computed.Rounding.{choice-in, next, rounds, ended}
 use Rattle.topphatt.specs.Assignment.{Fair, RoundGoes, AllAssigned}
 use Rattle.topphatt.proofs.FairCounts.{fair-before, as-many, each-assigned}
 use Rattle.topphatt.proofs.SomeChoice.{some-choice}

@@ -11,7 +11,8 @@ use Rattle.tree.specs.declared.TreeChecked.the-variants.{Accepted}
 use Rattle.tree.specs.Check.{tree-checked}
 use Rattle.choice.specs.Choices.{unassigned}
 use Rattle.choice.proofs.ChosenOne.{chosen-one}
-use Rattle.topphatt.specs.Rounds.{Rounds, Task, before, after, choice-in, next, rounds, ended}
+use Rattle.topphatt.specs.Rounds.{Rounds, Task, before, after}
+use Rattle.topphatt.specs.computed.Rounding.{choice-in, next, rounds, ended}
 use Rattle.topphatt.specs.Assignment.{Fair, Went, no-more, one-more, OneEnd}
 use Rattle.topphatt.proofs.FairCounts.{fair-before, as-many}
 use Rattle.topphatt.proofs.RoundsGo.{pairs-at-most, fair-next, round-goes}

@@ -9,7 +9,8 @@ use Rattle.terms.proofs.WeightBound.{weight-at-most}
 use Rattle.terms.proofs.ByPlace.{length-reduction}
 use Rattle.choice.specs.Choices.{unassigned}
 use Rattle.choice.specs.Choice.{Choice}
-use Rattle.topphatt.specs.Rounds.{Rounds, Task, before, after, choice-in, next, rounds, ended}
+use Rattle.topphatt.specs.Rounds.{Rounds, Task, before, after}
+use Rattle.topphatt.specs.computed.Rounding.{choice-in, next, rounds, ended}
 
 module _ (task : Task) where
   -- One round.

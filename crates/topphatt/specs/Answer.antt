@@ -16,7 +16,8 @@ use Rattle.tree.specs.Check.{tree-checked}
 use Rattle.tree.specs.declared.TreeChecked.{TreeChecked}
 use Rattle.tree.specs.declared.TreeChecked.the-variants.{Accepted, Refused as BadTree}
 use Rattle.slots.specs.Slots.{slot-of, stands-as}
-use Rattle.topphatt.specs.Rounds.{Task, ended}
+use Rattle.topphatt.specs.Rounds.{Task}
+use Rattle.topphatt.specs.computed.Rounding.{ended}
 
 -- The codes of the slots, where the given tree has its own.
 unfoldable pub answer-table : ℕ → List ℕ → List ℕ → List ℕ

@@ -3,4 +3,5 @@ pub mod Rounds
 pub mod Answer
 pub mod Promises
 pub mod Assignment
+pub mod computed
 pub mod code

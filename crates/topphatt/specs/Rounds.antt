@@ -1,17 +1,15 @@
 -- "The rows are reduced to 2n+1+node. … The end is when no mode is unassigned."
 use mathlib.Core.Bool.{cond}
 use mathlib.Core.List.{List}
-use Prim.Native.Nat.{ℕ, zero, suc, _+_, _/_}
-use lib.Dec.{eqb}
-use lib.ListN.{length, set, replicate}
+use Prim.Native.Nat.{ℕ, _+_, _/_}
+use lib.ListN.{set, replicate}
 use Rattle.entities.specs.Parents.{parent-number}
 use Rattle.terms.specs.Job.{Job}
 use Rattle.terms.specs.Weight.{weight-of}
 use Rattle.terms.specs.Reduction.{reduction}
 use Rattle.tree.specs.Table.{child}
 use Rattle.slots.specs.Slots.{pair-of, slot, unfixed}
-use Rattle.choice.specs.Choices.{unassigned}
-use Rattle.choice.specs.Choice.{Choice, chosen}
+use Rattle.choice.specs.Choice.{Choice}
 
 -- What the rounds have come to: the mode of each pair, the rows, and the sum of chosen weights.
 pub record Rounds : Type 0 where
@@ -50,22 +48,3 @@ after task choice state = record {
   rows = reduction (choice .triple) (parent-number (task .job .modes) (choice .node)) (state .rows);
   weight = state .weight + weight-of (choice .triple) (state .rows);
 }
-
--- The choice of a round.
-abbrev pub choice-in : Task → Rounds → Choice
-choice-in task state =
-    chosen (task .job .modes) (task .table) (task .heuristic) (state .assigned) (state .rows)
-
--- One round.
-unfoldable pub next : Task → Rounds → Rounds
-next task state = after task (choice-in task state) state
-
--- Rounds, so many at most, "when no mode is unassigned" no more.
-unfoldable pub rounds : Task → ℕ → Rounds → Rounds
-rounds task zero state = state
-rounds task (suc more) state =
-    cond (eqb (length (unassigned (task .job .modes) (state .assigned))) 0) state (rounds task more (next task state))
-
--- All rounds: each gives a mode to one pair at least, so there are no more than modes.
-unfoldable pub ended : Task → Rounds
-ended task = rounds task (task .job .modes) (before (task .job))

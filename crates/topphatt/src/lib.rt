@@ -10,7 +10,7 @@ ghost use Rattle.terms.specs.code.Held.{Held};
 ghost use Rattle.terms.specs.Good.{checked};
 ghost use Rattle.slots.specs.Slots.{«slot-of», «stands-as»};
 ghost use Rattle.slots.specs.code.Promises.{Distances};
-ghost use Rattle.topphatt.specs.Rounds.{ended};
+ghost use Rattle.topphatt.specs.computed.Rounding.{ended};
 ghost use Rattle.topphatt.specs.Answer.{«answer-table», asked, «task-of», «done-by», «with-room», «with-terms», outcome};
 ghost use Rattle.topphatt.specs.Promises.{lent, «rooms-of», Assigns};
 ghost use Rattle.topphatt.specs.code.Going.{«task-with», Tabled};

@@ -20,7 +20,7 @@ use Rattle.tree.specs.Table.{nodes, child, climb}
 use Rattle.tree.specs.OneTree.{root-of}
 use Rattle.tree.specs.Pairs.{chain-end, pair-under, pair-right, pairs-right}
 use Rattle.tree.specs.Check.{tree-checked}
-use Rattle.tree.specs.Accepted.{PairUnder, IsTree}
+use Rattle.tree.specs.Accepted.{PairUnder, IsTree, AcceptedIsTree, TreeIsAccepted}
 use Rattle.tree.proofs.AcceptedParts.{accepted-parts, parts-accepted}
 use Rattle.tree.proofs.OneTreeSays.{OneTreeSays, one-tree-says, says-one-tree}
 use Rattle.tree.proofs.Standing.{parent-is, above-below}
@@ -110,8 +110,10 @@ pairs-lead modes table pairs =
     (rw (eq-eqb _ _ (pair .even), eq-eqb _ _ (pair .odd))))
 
 -- Conversely such a table of 3n codes is accepted, whatever root it is a tree with; the absent code is none of the others.
-pub tree-accepted : (most modes : ℕ) (table : List ℕ) (root : ℕ) → modes ≤ most → 3 * modes ≤ absent → length table ≡ 3 * modes
-    → IsTree modes table root → tree-checked most modes table ≡ Accepted
+pub accepted-is-tree : AcceptedIsTree
+accepted-is-tree most modes table accepted = accepted-tree most modes table accepted
+
+pub tree-accepted : TreeIsAccepted
 unfolding met
 tree-accepted most modes table root few fits whole tree =
     let says = full-says modes table whole fits root (tree .inside) (tree .each-once) (tree .absent-once) in

@@ -3,12 +3,16 @@
 use mathlib.Core.Path.{_≡_}
 use mathlib.Core.Bool.{cond}
 use mathlib.Core.List.{List, [], _∷_, _++_}
-use Prim.Native.Nat.{ℕ, zero, suc, _+_, _*_, _<_}
+use Prim.Native.Nat.{ℕ, zero, suc, _+_, _*_, _<_, _≤_}
 use lib.Dec.{ltb}
+use lib.ListN.{length}
 use Rattle.lists.specs.Counting.{occurrences}
 use Rattle.entities.specs.Codes.{absent}
 use Rattle.tree.specs.Table.{child}
+use Rattle.tree.specs.OneTree.{root-of}
 use Rattle.tree.specs.Pairs.{chain-end}
+use Rattle.tree.specs.Check.{tree-checked}
+use Rattle.tree.specs.declared.TreeChecked.the-variants.{Accepted}
 
 -- The codes met going down from a code through at most so many nodes: the code, and where it is a node those under its three children.
 unfoldable pub under : ℕ → List ℕ → ℕ → ℕ → List ℕ
@@ -31,3 +35,13 @@ pub record IsTree (modes : ℕ) (table : List ℕ) (root : ℕ) : Type 0 where
   pub each-once : (code : ℕ) → code < 3 * modes → occurrences code (under modes table (suc modes) root) ≡ 1
   pub absent-once : occurrences absent (under modes table (suc modes) root) ≡ 1
   pub pairs : (k : ℕ) → k < modes → (node : ℕ) × PairUnder modes table k node
+
+-- An accepted table is such a tree, and every table of 3n codes that is one is accepted.
+abbrev pub AcceptedIsTree : Type 0
+AcceptedIsTree =
+    (most modes : ℕ) (table : List ℕ) → tree-checked most modes table ≡ Accepted → IsTree modes table (root-of modes table)
+
+abbrev pub TreeIsAccepted : Type 0
+TreeIsAccepted =
+    (most modes : ℕ) (table : List ℕ) (root : ℕ) → modes ≤ most → 3 * modes ≤ absent → length table ≡ 3 * modes
+    → IsTree modes table root → tree-checked most modes table ≡ Accepted

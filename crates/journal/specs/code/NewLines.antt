@@ -8,7 +8,7 @@ use Rattle.entities.specs.declared.Triple.{Triple}
 use Rattle.terms.specs.Job.{Job}
 use Rattle.merging.specs.declared.run.Run.{Run}
 use Rattle.merging.specs.History.{merge-of, history-before}
-use Rattle.merging.specs.Run.{finished}
+use Rattle.merging.specs.computed.Greedy.{finished}
 use Rattle.merging.specs.code.State.{history-of}
 use Rattle.merging.specs.code.Runs.{Holds}
 use Rattle.journal.specs.Writing.{line-of}

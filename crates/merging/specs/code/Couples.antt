@@ -15,8 +15,8 @@ use Rattle.terms.specs.Weight.{weight-of}
 use Rattle.merging.specs.declared.choice.Best.{Best}
 use Rattle.merging.specs.declared.lawful.Couple.{Couple}
 use Rattle.merging.specs.declared.lawful.Couple.the-variants.{Of, Nothing}
-use Rattle.merging.specs.History.{next-parent, is-open, z-end, holder}
-use Rattle.merging.specs.Lawful.{named}
+use Rattle.merging.specs.History.{next-parent, is-open, z-end}
+use Rattle.merging.specs.computed.Pairs.{holder, named}
 
 -- x of the triples that an entity names; z has no part in it.
 unfoldable pub x-of : ℕ → List Triple → ℕ → ℕ

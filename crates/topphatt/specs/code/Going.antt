@@ -10,10 +10,12 @@ use Rattle.terms.specs.code.Held.{Held}
 use Rattle.terms.specs.Weight.{weight-of}
 use Rattle.slots.specs.code.Promises.{Distances}
 use Rattle.choice.specs.declared.Selection.{Selection}
-use Rattle.choice.specs.Choice.{Choice, chosen}
+use Rattle.choice.specs.Choice.{Choice}
+use Rattle.choice.specs.computed.Choosing.{chosen}
 use Rattle.choice.specs.code.Seeking.{choice-of}
 use Rattle.topphatt.specs.declared.rounds.Progress.{Progress}
-use Rattle.topphatt.specs.Rounds.{Rounds, Task, fixed-by, next}
+use Rattle.topphatt.specs.Rounds.{Rounds, Task, fixed-by}
+use Rattle.topphatt.specs.computed.Rounding.{next}
 use Rattle.topphatt.specs.Answer.{answer-table}
 
 -- What is to be done, from bare numbers.

@@ -6,7 +6,7 @@ use lib.ListN.{length}
 use Rattle.terms.specs.Job.{Job}
 use Rattle.merging.specs.code.State.{history-of}
 use Rattle.merging.proofs.Runs.{merges-within, rows-room}
-use Rattle.journal.specs.Writing.{new-text}
+use Rattle.journal.specs.computed.NewText.{new-text}
 use Rattle.journal.specs.Promises.{lent}
 use Rattle.journal.specs.code.Finishing.{Finishing}
 use Rattle.journal.proofs.RunEnds.{at-the-end, has-ended, new-has-room, ends}

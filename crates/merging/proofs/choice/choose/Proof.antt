@@ -6,7 +6,7 @@ use native.Mathlib.Omega.{arith}
 use borrow.Author.Needs.{needs}
 use Rattle.entities.specs.declared.Triple.{Triple}
 use Rattle.merging.specs.History.{next-parent}
-use Rattle.merging.specs.Choice.{candidates}
+use Rattle.merging.specs.computed.Choosing.{candidates}
 use Rattle.merging.specs.code.Couples.{Tied, seek, nothing, weight-here}
 use Rattle.merging.proofs.Candidates.{candidates-from, candidates-all, candidates-step, candidates-end, named-with, named-with-couple}
 use Rattle.merging.proofs.Seeking.{seek-joined, seek-none}

@@ -7,7 +7,7 @@ use Rattle.terms.specs.Rows.{terms-of}
 use Rattle.terms.specs.Weight.{weight-of}
 use Rattle.terms.specs.Reduction.{reduction}
 use Rattle.terms.proofs.AsTold.{live-weight}
-use Rattle.choice.specs.Choice.{chosen}
+use Rattle.choice.specs.computed.Choosing.{chosen}
 use Rattle.choice.specs.code.Seeking.{choice-of}
 use Rattle.topphatt.specs.declared.rounds.Progress.{Progress}
 use Rattle.topphatt.specs.code.Going.{task-with, state-of}

@@ -7,7 +7,8 @@ use borrow.Author.Needs.{needs}
 use lib.ListN.{length, drop, length-replicate}
 use Rattle.terms.specs.Rows.{terms-of}
 use Rattle.topphatt.specs.code.Going.{task-with, Going, state-of}
-use Rattle.topphatt.specs.Rounds.{Task, rounds, ended}
+use Rattle.topphatt.specs.Rounds.{Task}
+use Rattle.topphatt.specs.computed.Rounding.{rounds, ended}
 use Rattle.topphatt.proofs.RoundSteps.{state-assigned, rounds-start, rounds-on, rounds-stop, rounds-end}
 use Rattle.topphatt.proofs.rounds.topphatt.Statement.{statement}
 use Rattle.topphatt.proofs.rounds.topphatt.Tie as tie

@@ -5,7 +5,7 @@ use native.Mathlib.Omega.{arith}
 use lib.ListN.{length}
 use Rattle.terms.specs.Job.{Job}
 use Rattle.merging.specs.declared.run.Run.{Run}
-use Rattle.merging.specs.Run.{finished}
+use Rattle.merging.specs.computed.Greedy.{finished}
 use Rattle.merging.specs.code.State.{history-of}
 use Rattle.merging.specs.code.Runs.{Holds, Went}
 use Rattle.merging.proofs.Recording.{length-recorded}

@@ -6,7 +6,7 @@ use native.Mathlib.Omega.{arith}
 use borrow.Author.Needs.{needs}
 use Rattle.terms.specs.Job.{Job}
 use Rattle.merging.specs.declared.run.Run.{Run}
-use Rattle.merging.specs.Choice.{candidates, chosen}
+use Rattle.merging.specs.computed.Choosing.{candidates, chosen}
 use Rattle.merging.specs.code.Couples.{weight-here, nothing, weighed, seek}
 use Rattle.merging.specs.code.State.{history-of}
 use Rattle.merging.specs.code.Runs.{Holds, Ready}
