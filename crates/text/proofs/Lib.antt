@@ -9,4 +9,5 @@ pub mod LinePrinted
 pub mod JournalRefused
 pub mod RoomSuffices
 pub mod LineSuffices
-pub mod Continues
+pub mod NewLinesSuffice
+pub mod ContinuesWhole

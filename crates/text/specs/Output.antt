@@ -64,7 +64,7 @@ unfoldable pub new-printed : Outcome → List ℕ
 new-printed (done ending) = ending .new
 new-printed (refuses refusal) = refusal-text refusal
 
--- What going on with a journal prints, in these rooms; with an empty one, the journal of an unbroken run.
+-- What continuing a journal prints, in these rooms; of an empty one, the journal of an unbroken run.
 unfoldable pub continue-text : Rooms → List ℕ → List ℕ → List ℕ
 continue-text rooms bytes read = new-printed (ran rooms bytes read)
 
@@ -78,6 +78,7 @@ pub record Prints (answer : List ℕ) (r : Printed) : Type 0 where
 abbrev pub RoomSuffices : Type 0
 RoomSuffices = (bytes read : List ℕ) → resume-text program-rooms bytes read ≡ refusal-text Room → ⊥
 
+-- Nor where a journal is continued.
 abbrev pub NewLinesSuffice : Type 0
 NewLinesSuffice = (bytes read : List ℕ) → continue-text program-rooms bytes read ≡ refusal-text Room → ⊥
 
@@ -89,7 +90,7 @@ pub record ResumesFrom (bytes journal : List ℕ) (part : Ending) (cut : ℕ) : 
   pub same-weight : again .weight ≡ part .weight
   pub same-journal : journal-of (take cut journal) again ≡ journal
 
--- What goes on a journal makes it whole: behind what is kept of it, it is the journal of the run, which may be cut after any byte that isn't before the end of what was kept.
+-- Continuing makes a journal whole: what is kept of it and what is printed are the run's journal, which may be cut after any byte that isn't before the end of what was kept.
 pub record Continues (bytes read : List ℕ) (part : Ending) : Type 0 where
   pub whole : kept-of read ++ continue-text program-rooms bytes read ≡ journal-of read part
   pub resumes : (cut : ℕ) → length (kept-of read) ≤ cut → ResumesFrom bytes (journal-of read part) part cut

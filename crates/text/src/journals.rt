@@ -66,7 +66,7 @@ fn print_new(input: &[u8], read: &[u8], rows: &mut [u16], out: &mut [u8]) -> usi
     }
 }
 
-// What goes on the journal that is read: with what is kept of it, the journal of the text's run.
+// The lines that continue the journal that is read: behind what is kept of it they make the journal of the text's run.
 pub fn continue_answer(input: &[u8], read: &[u8]) -> Printed
     ensures { λ r. ⌜ Prints (continue-text program-rooms (now (input .entry)) (now (read .entry))) r ⌝ }
 {

@@ -1,0 +1,49 @@
+-- A journal that is continued is whole: it is the run's, and resumes to the same end.
+use mathlib.Core.Path.{_≡_, refl, ap, _∙_}
+use mathlib.Core.List.{List}
+use Prim.Native.Nat.{ℕ, _≤_}
+use native.Mathlib.Omega.{arith}
+use lib.ListN.{length}
+use Rattle.entities.specs.Limits.{row-width, most-terms}
+use Rattle.fields.specs.Lines.{kept-of}
+use Rattle.terms.proofs.RowSteps.{length-terms}
+use Rattle.journal.specs.Resuming.{Ending, done, ending, resumed}
+use Rattle.journal.specs.CutAndResumed.{journal-of, Suffice}
+use Rattle.journal.proofs.CallDone.{call-done}
+use Rattle.journal.proofs.CutAndResumed.{cut-and-resumed}
+use Rattle.text.specs.Input.{Said, given, malformed, said}
+use Rattle.text.specs.Running.{program-rooms, ran-by, ran}
+use Rattle.text.specs.Output.{new-printed, continue-text, ResumesFrom, ContinuesWhole}
+
+-- The rooms that sufficed once suffice again.
+rooms-suffice : (modes : ℕ) (numbers read : List ℕ) (part : Ending) → resumed (program-rooms .run) modes numbers read ≡ done part
+    → Suffice (program-rooms .run) modes part
+unfolding ending
+rooms-suffice modes numbers read part says =
+    let known = call-done (program-rooms .run) modes numbers read part says in
+    let counted : part .count ≡ known .count = ap (λ p. p .count) (known .ends) ∙ length-terms row-width (known .count) numbers in
+    record { modes-taken = known .modes-are; room = rw counted (known .rooms-are); numbers-fit = omega arith }
+
+module _ (bytes read : List ℕ) (part : Ending) (says : ran program-rooms bytes read ≡ done part) (cut : ℕ) (behind : length (kept-of read) ≤ cut) where
+  resumes-from : ResumesFrom bytes (journal-of read part) part cut
+  unfolding ran ran-by
+  resumes-from = go (said most-terms bytes) refl says
+    where
+      go : (found : Said) → said most-terms bytes ≡ found → ran-by program-rooms found read ≡ done part
+          → ResumesFrom bytes (journal-of read part) part cut
+      go (given modes numbers) f e =
+          let again = cut-and-resumed (program-rooms .run) (program-rooms .run) modes numbers read part e (rooms-suffice modes numbers read part e) cut behind in
+          record {
+            again = again .again;
+            resumes = rw f (again .resumes);
+            same-rows = again .same-rows;
+            same-weight = again .same-weight;
+            same-journal = again .same-journal;
+          }
+      go (malformed line) f e = let z : _≡_ {A = ℕ} 0 1 = cc in absurd (omega arith)
+
+-- The theorem: what is kept of a journal and its new lines are the run's journal, which resumes to the same end wherever it is cut behind what was kept.
+pub continues-whole : ContinuesWhole
+unfolding continue-text new-printed journal-of
+continues-whole bytes read part says =
+    record { whole = rw says; resumes = resumes-from bytes read part says }
