@@ -4,7 +4,7 @@ use text::newick_line;
 fn main() {
     // more than any well-formed text has; what lies beyond alters no answer
     let mut input = [0u8; 98304];
-    let read = standard_input::read_input(&mut input);
+    let read = standard_input::read_input(libc::STDIN_FILENO, &mut input);
     // a program has no exit status: one whose input failed says nothing, and its starter says why
     if read.failed {
         return;

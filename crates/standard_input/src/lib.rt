@@ -1,4 +1,4 @@
-// Standard input read to its end, for the programs; a read that fails is told apart from the end.
+// What a program reads, standard input or another open descriptor, read to its end; a read that fails is told apart from the end.
 ghost use Prim.Native.Nat.{_+_, _≤_};
 ghost use mathlib.Core.Path.{_≡_};
 ghost use lib.ListN.{length};
@@ -11,11 +11,11 @@ pub struct Input {
 }
 
 // One read into the buffer, from this place on; how many bytes came, all told, and whether it failed.
-fn read_on(bytes: &mut [u8], at: usize) -> Input
+fn read_on(descriptor: i32, bytes: &mut [u8], at: usize) -> Input
     requires { ⌜ at ≤ length (now bytes) ⌝ }
     ensures { λ r. ⌜ (at ≤ r .count) × (r .count ≤ length (now (bytes .exit))) × (length (now (bytes .exit)) ≡ length (now (bytes .entry))) ⌝ }
 {
-    let got = libc::read(libc::STDIN_FILENO, &mut bytes[at..]);
+    let got = libc::read(descriptor, &mut bytes[at..]);
     let more = io::count(got, &bytes[at..]);
     Input {
         count: at + more,
@@ -23,13 +23,13 @@ fn read_on(bytes: &mut [u8], at: usize) -> Input
     }
 }
 
-// Standard input read until it ends, the buffer is full or a read fails.
-pub fn read_input(bytes: &mut [u8]) -> Input
+// A descriptor read until it ends, the buffer is full or a read fails.
+pub fn read_input(descriptor: i32, bytes: &mut [u8]) -> Input
     ensures { λ r. ⌜ Counts (r .count) (now (bytes .exit)) ⌝ }
 {
     let mut at = 0;
     while at < bytes.len() {
-        let read = read_on(bytes, at);
+        let read = read_on(descriptor, bytes, at);
         if read.failed {
             return read;
         }

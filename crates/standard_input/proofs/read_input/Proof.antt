@@ -1,4 +1,4 @@
--- Standard input is read to its end: the place lies within the buffer, and the bytes that are left grow fewer with each read.
+-- A descriptor is read to its end: the place lies within the buffer, and the bytes that are left grow fewer with each read.
 use Prim.Native.Nat.{_-_, _≤_}
 use mathlib.Core.Path.{_≡_}
 use borrow.Author.Needs.{needs}
@@ -11,10 +11,10 @@ use Rattle.standard_input.proofs.read_input.Lts as lts
 use Rattle.standard_input.proofs.read_on.Reads as read-on-reads
 
 abbrev Inv-loop : tie.InvT-loop
-Inv-loop bytes₀ at₀ bytes at = (at ≤ length bytes) × (length bytes ≡ length bytes₀)
+Inv-loop descriptor bytes₀ at₀ bytes at = (at ≤ length bytes) × (length bytes ≡ length bytes₀)
 
 abbrev μ-loop : tie.MeasureT-loop
-μ-loop bytes₀ at₀ bytes at = length bytes - at
+μ-loop descriptor bytes₀ at₀ bytes at = length bytes - at
 
 -- src/lib.rt:31:5
 loop-holds : tie.Need-loop-holds Inv-loop μ-loop

@@ -1,0 +1,2 @@
+-- What the commands of the program `dewgoblin` print.
+pub mod Commands
