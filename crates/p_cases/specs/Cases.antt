@@ -17,7 +17,7 @@ use Rattle.topphatt.specs.Promises.{numbers-of as assign-numbers, returned as a
 use Rattle.newick.specs.Writing.{newick-text}
 use Rattle.text.specs.Running.{program-rooms}
 use Rattle.text.specs.Output.{answer-text}
-use Rattle.text.specs.NewickLine.{newick-answer-text}
+use Rattle.newick_line.specs.NewickLine.{newick-answer-text}
 use Rattle.daemon.specs.Calls.{lent as bytes-lent, hatt-called}
 use Rattle.daemon.specs.Promises.{result-of, lent-then as bytes-left}
 

@@ -1,5 +1,4 @@
 // The program: standard input read, and the tree of its run written to standard output as a Newick line.
-use text::newick_line;
 
 fn main() {
     // more than any well-formed text has; what lies beyond alters no answer

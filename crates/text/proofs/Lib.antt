@@ -5,9 +5,7 @@ pub mod TermsAhead
 pub mod InputSaid
 pub mod RunEnds
 pub mod LongInput
-pub mod LinePrinted
 pub mod JournalRefused
 pub mod RoomSuffices
-pub mod LineSuffices
 pub mod NewLinesSuffice
 pub mod ContinuesWhole

@@ -4,9 +4,8 @@ ghost use Rattle.text.specs.Output.{«answer-text», Prints};
 
 mod input;
 pub mod journals;
-pub mod newick_line;
-mod output;
-mod running;
+pub mod output;
+pub mod running;
 
 // What a program prints: so many bytes of these.
 pub struct Printed {

@@ -32,10 +32,10 @@ use Rattle.newick.specs.Writing.{newick-text, mode-length, text-length, shape-u
 use Rattle.newick.specs.Calls.{written-as, newick-written}
 use Rattle.newick.proofs.TextLength.{accepted-length}
 use Rattle.journal.specs.Resuming.{Outcome, done, refuses}
 use Rattle.text.specs.Running.{program-rooms, ran}
 use Rattle.text.specs.Output.{line-of, refusal-text}
-use Rattle.text.specs.NewickLine.{line-as, table-line, line-room, newick-printed, newick-answer-text, LineSuffices}
+use Rattle.newick_line.specs.NewickLine.{line-as, table-line, line-room, newick-printed, newick-answer-text, LineSuffices}
 use Rattle.text.proofs.RoomSuffices.{refusal-five, number-in, ran-never}
 
 -- A total of so many values is at most as many times the most that each is.
 total-most : (rule : ℕ → ℕ) (most count : ℕ) → ((k : ℕ) → k < count → rule k ≤ most) → total rule count ≤ most * count

@@ -21,15 +21,15 @@ use Rattle.newick.specs.declared.writing.NewickWritten.the-variants.{Written, U
 use Rattle.newick.specs.Writing.{newick-text}
 use Rattle.newick.specs.Calls.{written-as, newick-written, text-after}
 use Rattle.journal.specs.Resuming.{Outcome}
 use Rattle.text.specs.declared.running.Run.{Run}
 use Rattle.text.specs.code.Runs.{Lent, RanDone}
 use Rattle.text.specs.Running.{Rooms}
 use Rattle.text.specs.Output.{refusal-text}
-use Rattle.text.specs.NewickLine.{line-as, table-line, line-room, newick-printed, newick-answer-text}
+use Rattle.newick_line.specs.NewickLine.{line-as, table-line, line-room, newick-printed, newick-answer-text}
 use Rattle.text.specs.code.Printing.{Puts}
 use Rattle.text.proofs.PrintedLines.{front-over}
 use Rattle.text.proofs.RunEnds.{rows-stand}
 use Rattle.text.proofs.LongInput.{cut-runs}
 
 -- What was written has the text's length and fits.
 pub record Fits (text : List ℕ) (room count : ℕ) : Type 0 where

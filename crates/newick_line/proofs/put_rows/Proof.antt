@@ -4,8 +4,8 @@ use Prim.Native.Nat.{_*_}
 use native.Mathlib.Omega.{arith}
 use borrow.Author.Needs.{needs}
 use lib.Seq.{length-take-le}
-use Rattle.text.proofs.newick_line.put_rows.Statement.{statement}
-use Rattle.text.proofs.newick_line.put_rows.Tie as tie
+use Rattle.newick_line.proofs.put_rows.Statement.{statement}
+use Rattle.newick_line.proofs.put_rows.Tie as tie
 
 mul-end : tie.Need-mul-end
 mul-end c = search needs

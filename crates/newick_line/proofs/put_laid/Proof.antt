@@ -1,10 +1,10 @@
 -- The table holds the rows laid out, and its line is theirs.
 use mathlib.Core.Path.{ap}
 use borrow.Author.Needs.{needs}
-use Rattle.text.specs.NewickLine.{table-line}
-use Rattle.text.proofs.LinePrinted.{laid-in}
-use Rattle.text.proofs.newick_line.put_laid.Statement.{statement}
-use Rattle.text.proofs.newick_line.put_laid.Tie as tie
+use Rattle.newick_line.specs.NewickLine.{table-line}
+use Rattle.newick_line.proofs.LinePrinted.{laid-in}
+use Rattle.newick_line.proofs.put_laid.Statement.{statement}
+use Rattle.newick_line.proofs.put_laid.Tie as tie
 
 lay-rows-requires : tie.Need-lay-rows-requires
 lay-rows-requires c κs = search needs

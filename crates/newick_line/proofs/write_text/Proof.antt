@@ -6,9 +6,9 @@ use borrow.Author.Needs.{needs}
 use lib.ListN.{drop}
 use lib.Seq.{length-take-le}
 use Rattle.newick.specs.Calls.{newick-written}
-use Rattle.text.proofs.LinePrinted.{after-front}
-use Rattle.text.proofs.newick_line.write_text.Statement.{statement}
-use Rattle.text.proofs.newick_line.write_text.Tie as tie
+use Rattle.newick_line.proofs.LinePrinted.{after-front}
+use Rattle.newick_line.proofs.write_text.Statement.{statement}
+use Rattle.newick_line.proofs.write_text.Tie as tie
 
 slice-relend-prefix-write-newick : tie.Need-slice-relend-prefix-write-newick
 slice-relend-prefix-write-newick c = search needs

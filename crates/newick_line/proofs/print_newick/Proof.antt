@@ -5,11 +5,11 @@ use native.Mathlib.Omega.{arith}
 use borrow.Author.Needs.{needs}
 use lib.Seq.{length-take-le}
 use lib.ListN.{length}
-use Rattle.text.specs.NewickLine.{newick-printed, newick-answer-text}
+use Rattle.newick_line.specs.NewickLine.{newick-printed, newick-answer-text}
 use Rattle.text.proofs.RunEnds.{run-refused, run-done}
-use Rattle.text.proofs.LinePrinted.{done-newick}
-use Rattle.text.proofs.newick_line.print_newick.Statement.{statement}
-use Rattle.text.proofs.newick_line.print_newick.Tie as tie
+use Rattle.newick_line.proofs.LinePrinted.{done-newick}
+use Rattle.newick_line.proofs.print_newick.Statement.{statement}
+use Rattle.newick_line.proofs.print_newick.Tie as tie
 
 slice-aggregate-run-text : tie.Need-slice-aggregate-run-text
 slice-aggregate-run-text c = search needs

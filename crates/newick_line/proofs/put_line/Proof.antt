@@ -4,9 +4,9 @@ use native.Mathlib.Omega.{arith}
 use borrow.Author.Needs.{needs}
 use Rattle.newick.specs.Writing.{newick-text}
 use Rattle.newick.specs.Calls.{text-after}
-use Rattle.text.proofs.LinePrinted.{line-fits, written-line, refused-line}
-use Rattle.text.proofs.newick_line.put_line.Statement.{statement}
-use Rattle.text.proofs.newick_line.put_line.Tie as tie
+use Rattle.newick_line.proofs.LinePrinted.{line-fits, written-line, refused-line}
+use Rattle.newick_line.proofs.put_line.Statement.{statement}
+use Rattle.newick_line.proofs.put_line.Tie as tie
 
 write-text-requires : tie.Need-write-text-requires
 write-text-requires c κs = search needs

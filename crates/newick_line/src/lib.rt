@@ -6,16 +6,16 @@ ghost use Rattle.entities.specs.Limits.{«most-modes»};
 ghost use Rattle.tree.specs.Laying.{laid};
 ghost use Rattle.newick.specs.Writing.{«newick-text»};
 ghost use Rattle.newick.specs.Calls.{«newick-written», «text-after»};
 ghost use Rattle.text.specs.Running.{«program-rooms», «printed-room»};
 ghost use Rattle.text.specs.Output.{Prints};
-ghost use Rattle.text.specs.NewickLine.{«table-line», «line-room», «newick-answer-text»};
+ghost use Rattle.newick_line.specs.NewickLine.{«table-line», «line-room», «newick-answer-text»};
 ghost use Rattle.text.specs.code.Printing.{Puts};
-use crate::Printed;
-use crate::output;
-use crate::running;
-use crate::running::Ran;
 use newick::writing;
 use newick::writing::NewickWritten;
+use text::Printed;
+use text::output;
+use text::running;
+use text::running::Ran;
 use tree::laying;
 
 // A tree's text written over the front, with room for a byte behind it.

@@ -1,0 +1,3 @@
+-- The laws of the printed Newick line.
+pub mod LinePrinted
+pub mod LineSuffices
