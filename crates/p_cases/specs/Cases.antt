@@ -33,6 +33,9 @@ pub record Case : Type 0 where
   pub says : Seen
   pub shown : Seen
 
+abbrev pub shows : Seen → List ℕ → List ℕ → List ℕ → Case
+shows says numbers rows lines = record { says = says; shown = record { numbers = numbers; rows = rows; lines = lines } }
+
 -- The two are the same.
 unfoldable pub holds : Case → Bool
 holds case =
@@ -114,94 +117,39 @@ p5 = meant 2 terms3 (spelt "hatt\t1\t2\t3\n0\t0\t1\t4\t2\n") 58
 
 unfoldable pub cases : List Case
 cases =
-    record {
-      says = resuming p1;
-      shown =
-          record {
-            numbers = 0 ∷ 0 ∷ 1 ∷ 2 ∷ 0 ∷ 21 ∷ [];
-            rows = 0 ∷ 1 ∷ 2 ∷ absent ∷ [];
-            lines = spelt "hatt\t1\t1\t1\n0\t0\t1\t2\t1\n";
-          };
-    }
+    shows (resuming p1) (0 ∷ 0 ∷ 1 ∷ 2 ∷ 0 ∷ 21 ∷ []) (0 ∷ 1 ∷ 2 ∷ absent ∷ []) (spelt "hatt\t1\t1\t1\n0\t0\t1\t2\t1\n")
     -- P2: that row twice
-    ∷ record {
-      says = resuming (meant 1 (two 0 1 ++ two 0 1) [] 37);
-      shown =
-          record {
-            numbers = 0 ∷ 0 ∷ 2 ∷ 2 ∷ 0 ∷ 21 ∷ [];
-            rows = 0 ∷ 1 ∷ 2 ∷ absent ∷ [];
-            lines = spelt "hatt\t1\t1\t2\n0\t0\t1\t2\t2\n";
-          };
-    }
-    ∷ record {
-      says = resuming p3;
-      shown =
-          record {
-            numbers = 0 ∷ 0 ∷ 4 ∷ 14 ∷ 0 ∷ 31 ∷ [];
-            rows = 1 ∷ 0 ∷ 5 ∷ absent ∷ 0 ∷ 2 ∷ 3 ∷ 4 ∷ [];
-            lines = spelt "hatt\t1\t2\t3\n0\t0\t1\t2\t2\n1\t5\t3\t4\t2\n";
-          };
-    }
-    ∷ record { says = weighing 2 tree3 terms3; shown = told (0 ∷ 0 ∷ 4 ∷ []) }
+    ∷ shows (resuming (meant 1 (two 0 1 ++ two 0 1) [] 37)) (0 ∷ 0 ∷ 2 ∷ 2 ∷ 0 ∷ 21 ∷ []) (0 ∷ 1 ∷ 2 ∷ absent ∷ [])
+    (spelt "hatt\t1\t1\t2\n0\t0\t1\t2\t2\n")
+    ∷ shows (resuming p3) (0 ∷ 0 ∷ 4 ∷ 14 ∷ 0 ∷ 31 ∷ []) (1 ∷ 0 ∷ 5 ∷ absent ∷ 0 ∷ 2 ∷ 3 ∷ 4 ∷ [])
+    (spelt "hatt\t1\t2\t3\n0\t0\t1\t2\t2\n1\t5\t3\t4\t2\n")
+    ∷ shows (weighing 2 tree3 terms3) (0 ∷ 0 ∷ 4 ∷ []) [] []
     -- P4: n=2, the one-index row 2 listed twice; greedy 1, tree weight 2
-    ∷ record {
-      says = resuming (meant 2 (one 2 ++ one 2) [] 58);
-      shown =
-          record {
-            numbers = 0 ∷ 0 ∷ 1 ∷ 14 ∷ 0 ∷ 31 ∷ [];
-            rows = 1 ∷ 4 ∷ 0 ∷ absent ∷ 0 ∷ 2 ∷ 3 ∷ 5 ∷ [];
-            lines = spelt "hatt\t1\t2\t2\n0\t0\t1\t3\t0\n1\t2\t5\t4\t1\n";
-          };
-    }
-    ∷ record { says = weighing 2 (2 ∷ 3 ∷ 5 ∷ 4 ∷ 0 ∷ absent ∷ []) (one 2 ++ one 2); shown = told (0 ∷ 0 ∷ 2 ∷ []) }
-    ∷ record {
-      says = resuming p5;
-      shown =
-          record {
-            numbers = 0 ∷ 0 ∷ 4 ∷ 2 ∷ 21 ∷ 10 ∷ [];
-            rows = 1 ∷ 4 ∷ 5 ∷ 0 ∷ 0 ∷ 2 ∷ 3 ∷ absent ∷ [];
-            lines = spelt "1\t2\t3\t5\t2\n";
-          };
-    }
+    ∷ shows (resuming (meant 2 (one 2 ++ one 2) [] 58)) (0 ∷ 0 ∷ 1 ∷ 14 ∷ 0 ∷ 31 ∷ []) (1 ∷ 4 ∷ 0 ∷ absent ∷ 0 ∷ 2 ∷ 3 ∷ 5 ∷ [])
+    (spelt "hatt\t1\t2\t2\n0\t0\t1\t3\t0\n1\t2\t5\t4\t1\n")
+    ∷ shows (weighing 2 (2 ∷ 3 ∷ 5 ∷ 4 ∷ 0 ∷ absent ∷ []) (one 2 ++ one 2)) (0 ∷ 0 ∷ 2 ∷ []) [] []
+    ∷ shows (resuming p5) (0 ∷ 0 ∷ 4 ∷ 2 ∷ 21 ∷ 10 ∷ []) (1 ∷ 4 ∷ 5 ∷ 0 ∷ 0 ∷ 2 ∷ 3 ∷ absent ∷ []) (spelt "1\t2\t3\t5\t2\n")
     -- P6: the same with weight 1
-    ∷ record {
-      says = resuming (meant 2 terms3 (spelt "hatt\t1\t2\t3\n0\t0\t1\t4\t1\n") 58);
-      shown = told (11 ∷ 1 ∷ 0 ∷ 0 ∷ 0 ∷ 0 ∷ []);
-    }
+    ∷ shows (resuming (meant 2 terms3 (spelt "hatt\t1\t2\t3\n0\t0\t1\t4\t1\n") 58)) (11 ∷ 1 ∷ 0 ∷ 0 ∷ 0 ∷ 0 ∷ []) [] []
     -- P7: P3's lines in exchanged order
-    ∷ record {
-      says = resuming (meant 2 terms3 (spelt "hatt\t1\t2\t3\n1\t5\t3\t4\t2\n0\t0\t1\t2\t2\n") 58);
-      shown = told (8 ∷ 1 ∷ 0 ∷ 0 ∷ 0 ∷ 0 ∷ []);
-    }
+    ∷ shows (resuming (meant 2 terms3 (spelt "hatt\t1\t2\t3\n1\t5\t3\t4\t2\n0\t0\t1\t2\t2\n") 58)) (8 ∷ 1 ∷ 0 ∷ 0 ∷ 0 ∷ 0 ∷ []) [] []
     -- P8: assign P3's tree, row 1
-    ∷ record {
-      says = assigning 2 tree3 (one 1);
-      shown = record { numbers = 0 ∷ 0 ∷ 0 ∷ []; rows = 4 ∷ 5 ∷ 2 ∷ 0 ∷ 3 ∷ absent ∷ []; lines = [] };
-    }
+    ∷ shows (assigning 2 tree3 (one 1)) (0 ∷ 0 ∷ 0 ∷ []) (4 ∷ 5 ∷ 2 ∷ 0 ∷ 3 ∷ absent ∷ []) []
     -- P9: the same tree, P3's terms
-    ∷ record { says = assigning 2 tree3 terms3; shown = record { numbers = 0 ∷ 0 ∷ 2 ∷ []; rows = tree3; lines = [] } }
+    ∷ shows (assigning 2 tree3 terms3) (0 ∷ 0 ∷ 2 ∷ []) tree3 []
     -- P10: trials for n=256
-    ∷ record { says = told (trial-total 256 ∷ []); shown = told (22435072 ∷ []) }
+    ∷ shows (told (trial-total 256 ∷ [])) (22435072 ∷ []) [] []
     -- P3 as the program `hatt` prints it, as the program `newick` does, and as the Newick text of its tree
-    ∷ record {
-      says = printed (answer-text program-rooms input3);
-      shown = printed (spelt "weight\t4\ntrials\t14\nnode\t1\t0\t5\t-\nnode\t0\t2\t3\t4\n");
-    }
-    ∷ record { says = printed (newick-answer-text program-rooms input3); shown = printed (spelt "((m0,m1,m2)n0,m3,e)n1;\n") }
-    ∷ record { says = printed (newick-text 2 tree3); shown = printed (spelt "((m0,m1,m2)n0,m3,e)n1;") }
+    ∷ shows (printed (answer-text program-rooms input3)) [] [] (spelt "weight\t4\ntrials\t14\nnode\t1\t0\t5\t-\nnode\t0\t2\t3\t4\n")
+    ∷ shows (printed (newick-answer-text program-rooms input3)) [] [] (spelt "((m0,m1,m2)n0,m3,e)n1;\n")
+    ∷ shows (printed (newick-text 2 tree3)) [] [] (spelt "((m0,m1,m2)n0,m3,e)n1;")
     -- P1 called from C: 0, then weight 1, trials 2, nothing kept, 21 bytes new
-    ∷ record {
-      says =
-          calling
-          (hatt-called most-modes 1 (2 ∷ 0 ∷ 0 ∷ 0 ∷ 1 ∷ 0 ∷ 0 ∷ 0 ∷ 0 ∷ 0 ∷ 0 ∷ 0 ∷ 0 ∷ 0 ∷ 0 ∷ 0 ∷ [])
-          (bytes-lent (replicate 8 0) (replicate 37 0) (replicate 32 0)));
-      shown =
-          record {
-            numbers = 0 ∷ (eight 1 ++ (eight 2 ++ (eight 0 ++ eight 21)));
-            rows = 0 ∷ 0 ∷ 1 ∷ 0 ∷ 2 ∷ 0 ∷ 255 ∷ 255 ∷ [];
-            lines = spelt "hatt\t1\t1\t1\n0\t0\t1\t2\t1\n";
-          };
-    }
+    ∷ shows
+    (calling
+    (hatt-called most-modes 1 (2 ∷ 0 ∷ 0 ∷ 0 ∷ 1 ∷ 0 ∷ 0 ∷ 0 ∷ 0 ∷ 0 ∷ 0 ∷ 0 ∷ 0 ∷ 0 ∷ 0 ∷ 0 ∷ [])
+    (bytes-lent (replicate 8 0) (replicate 37 0) (replicate 32 0))))
+    (0 ∷ (eight 1 ++ (eight 2 ++ (eight 0 ++ eight 21)))) (0 ∷ 0 ∷ 1 ∷ 0 ∷ 2 ∷ 0 ∷ 255 ∷ 255 ∷ [])
+    (spelt "hatt\t1\t1\t1\n0\t0\t1\t2\t1\n")
     ∷ []
 
 -- The claim: every case of the table holds.
