@@ -1,19 +1,21 @@
 -- A line that opens with words and tabs: its fields are the words and those behind them, and no other line has such fields.
 use mathlib.Core.Path.{_≡_, refl, ap, _∙_, sym}
-use mathlib.Core.Bool.{Bool, true, false, true≢false}
+use mathlib.Core.Bool.{Bool, true, false, _&&_, true≢false}
 use mathlib.Core.List.{List, [], _∷_, _++_, append-assoc}
 use Prim.Native.Nat.{ℕ, _+_, _-_, _<_, _≤_}
+use native.Mathlib.Nat.{sub-zero}
 use native.Mathlib.Omega.{arith}
 use borrow.Author.Tests.{lt-ltb, le-ltb, ltb-true}
-use lib.Dec.{ltb}
+use lib.Dec.{eqb, ltb}
 use lib.ListN.{length, getD, take, drop, length-append, length-take}
 use lib.Seq.{take-take, take-add, take-append-seam}
 use Rattle.lists.specs.Members.{every, alike}
 use Rattle.lists.proofs.Tests.{both}
 use Rattle.lists.proofs.Every.{every-uncons}
 use Rattle.lists.proofs.Alike.{alike-self, alike-same}
+use Rattle.fields.specs.Decimal.{is-number}
 use Rattle.fields.specs.Fields.{fields-after, fields, tabbed}
-use Rattle.fields.specs.code.Reading.{opens, fields-behind, says-numbers, NumbersRead, LineRead}
+use Rattle.fields.specs.code.Reading.{opens, fields-behind, numbers-good, says-numbers, NumbersRead, LineRead}
 use Rattle.fields.proofs.Tabbed.{no-tab, tabbed-fields, field-ended}
 
 -- Words with a tab behind each.
@@ -107,3 +109,18 @@ module _ (front line : List ℕ) where
     unfolding says-numbers opens
     read-behind room after r e n =
         record { good = n .good ∙ rw (lt-ltb (length front) (length line) h, e); values = n .values }
+
+-- A line behind no opening is its own fields; one without a byte has no number.
+plain-good : (count : ℕ) (line : List ℕ) → says-numbers [] count line ≡ numbers-good count (fields line)
+unfolding says-numbers opens alike numbers-good fields fields-after fields-behind every is-number
+plain-good count [] = go (eqb 1 count)
+  where
+    go : (b : Bool) → false ≡ (b && false)
+    go true = refl
+    go false = refl
+plain-good count (byte ∷ line) = rw (lt-ltb 0 (length (byte ∷ line)) (omega arith), sub-zero (length (byte ∷ line) - 1))
+
+pub plain-read : (line : List ℕ) (room : ℕ) (after : List ℕ) (r : Bool) → LineRead [] line room after r → NumbersRead (fields line) room after r
+unfolding fields fields-behind
+plain-read line room after r read =
+    record { good = read .good ∙ plain-good room line; values = λ e. rw (sub-zero (length line - 1)) at (read .values e) }

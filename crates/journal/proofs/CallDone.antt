@@ -13,7 +13,7 @@ use Rattle.terms.specs.Job.{job-of}
 use Rattle.terms.specs.Good.{modes-good, checked}
 use Rattle.terms.specs.declared.checking.Checked.{Checked}
 use Rattle.terms.specs.declared.checking.Checked.the-variants.{Good, Refused as BadTerms}
-use Rattle.journal.specs.Obeying.{Obeyed, went, refused, obeyed}
+use Rattle.obeying.specs.Obeying.{Obeyed, went, refused, obeyed}
 use Rattle.journal.specs.Resuming.{Ending, done, refuses, ending, with-journal, Rooms, roomy, with-terms, resumed}
 
 -- What the test of the rooms says, and where it passes.
@@ -60,7 +60,7 @@ module _ (rooms : Rooms) (modes : ℕ) (numbers bytes : List ℕ) where
             → with-journal (job-of modes count numbers) bytes found ≡ done part → CallDone part
         go (went history) e f =
             record { count = count; modes-are = m; terms-are = t; rooms-are = r; history = history; obeys = e; ends = cc }
-        go (refused refusal) e f = not-done refusal part f
+        go (refused made refusal) e f = not-done refusal part f
 
     from-terms : (found : Checked) → modes-good (rooms .modes) modes ≡ true → checked modes numbers ≡ found
         → with-terms rooms modes numbers bytes found ≡ done part → CallDone part

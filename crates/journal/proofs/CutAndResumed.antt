@@ -19,7 +19,7 @@ use Rattle.terms.proofs.RowSteps.{length-terms}
 use Rattle.terms.proofs.StaysGood.{accepted}
 use Rattle.merging.specs.Run.{run-weight}
 use Rattle.merging.specs.Flatpack.{flatpack}
-use Rattle.journal.specs.Obeying.{went, obeyed, obeyed-texts}
+use Rattle.obeying.specs.Obeying.{went, obeyed, obeyed-texts}
 use Rattle.journal.specs.computed.NewText.{new-text, unbroken}
 use Rattle.journal.specs.Resuming.{Ending, done, ending, Rooms, resumed, hatt-run}
 use Rattle.journal.specs.CutAndResumed.{journal-of, ResumesCut, Suffice, JournalsResume, UnbrokenResume}

@@ -1,8 +1,8 @@
 -- A journal that was obeyed, with the lines that the run writes behind it: cut in those, it is obeyed to a history of the same run.
 use mathlib.Core.Path.{_≡_, refl, ap, _∙_, sym}
+use mathlib.Core.Bool.{false}
 use mathlib.Core.List.{List, [], _∷_, _++_, flatMap, append-assoc}
-use Prim.Native.Nat.{ℕ, suc, _+_, _-_, _*_, _<_, _≤_}
-use native.Mathlib.Nat.{add-zero}
+use Prim.Native.Nat.{ℕ, _+_, _-_, _*_, _<_, _≤_}
 use native.Mathlib.Omega.{arith}
 use lib.ListN.{length, take, length-append}
 use lib.Seq.{take-append-add}
@@ -15,32 +15,27 @@ use Rattle.merging.specs.Lawful.{LawfulHistory}
 use Rattle.merging.specs.computed.Greedy.{greedy, finished}
 use Rattle.merging.proofs.RunLawful.{greedy-length}
 use Rattle.merging.proofs.GreedySteps.{greedy-on}
-use Rattle.journal.specs.LineForms.{header-of}
-use Rattle.journal.specs.Obeying.{Obeyed, went, obeyed-next, obeyed-lines, obeyed-header, obeyed-texts, obeyed}
+use Rattle.obeying.specs.LineForms.{header-of}
+use Rattle.obeying.specs.Obeying.{Obeyed, went, obeyed-next, obeyed-lines, obeyed-header, obeyed-texts, obeyed}
 use Rattle.journal.specs.computed.NewText.{greedy-lines, new-text}
 use Rattle.journal.proofs.GreedyLines.{lines-on, length-greedy-lines, greedy-are-lines, no-header}
 use Rattle.journal.proofs.ObeyGreedy.{greedy-obeyed}
-use Rattle.journal.proofs.Obedience.{obedient}
+use Rattle.obeying.proofs.Obedience.{obedient}
 use Rattle.journal.proofs.CutObeyed.{CutObeyed}
 
 module _ (job : Job) where
   -- Lines obeyed one after the other are obeyed together.
-  lines-on-lines : (line : ℕ) (so-far : Obeyed) (first more : List (List ℕ))
-      → obeyed-lines job line so-far (first ++ more) ≡ obeyed-lines job (line + length first) (obeyed-lines job line so-far first) more
+  lines-on-lines : (so-far : Obeyed) (first more : List (List ℕ))
+      → obeyed-lines false job so-far (first ++ more) ≡ obeyed-lines false job (obeyed-lines false job so-far first) more
   unfolding obeyed-lines
-  lines-on-lines line so-far [] more = rw (add-zero line)
-  lines-on-lines line so-far (bytes ∷ first) more =
-      let e : suc line + length first ≡ line + suc (length first) = omega arith in
-      lines-on-lines (suc line) (obeyed-next job line bytes so-far) first more
-      ∙ ap (λ n. obeyed-lines job n (obeyed-lines job (suc line) (obeyed-next job line bytes so-far) first) more) e
+  lines-on-lines so-far [] more = refl
+  lines-on-lines so-far (bytes ∷ first) more = lines-on-lines (obeyed-next false job bytes so-far) first more
 
   texts-behind : (texts more : List (List ℕ)) (history : List Triple) → 0 < length texts → obeyed-texts job texts ≡ went history
-      → obeyed-texts job (texts ++ more) ≡ obeyed-lines job (length texts) (went history) more
+      → obeyed-texts job (texts ++ more) ≡ obeyed-lines false job (went history) more
   unfolding obeyed-texts
   texts-behind [] more history some e = absurd (omega arith)
-  texts-behind (first ∷ rest) more history some e =
-      let n : 1 + length rest ≡ suc (length rest) = omega arith in
-      lines-on-lines 1 (obeyed-header job (header-of first)) rest more ∙ rw (e, n)
+  texts-behind (first ∷ rest) more history some e = lines-on-lines (obeyed-header job (header-of first)) rest more ∙ rw e
 
   -- A journal with a line at least, and a cut so many bytes behind it.
   module _ (few : 3 * job .modes ≤ 65535) (light : length (job .terms) ≤ 65535) (bytes : List ℕ) (history : List Triple)
@@ -117,7 +112,7 @@ module _ (job : Job) where
           obeys =
               ap (obeyed-texts job) cut-lines
               ∙ texts-behind (lines bytes) (take j ahead) history some obeys
-              ∙ greedy-obeyed job few light j steps history lawful (omega (arith, within)) j-within (length (lines bytes));
+              ∙ greedy-obeyed job few light j steps history lawful (omega (arith, within)) j-within;
           same-end = same-end;
           same-bytes = ap (λ l. l ++ new-text job (length l) (greedy job j history)) cut-kept ∙ goes-on;
         }

@@ -13,9 +13,9 @@ use Rattle.terms.specs.Job.{Job}
 use Rattle.merging.specs.computed.Greedy.{greedy, finished}
 use Rattle.merging.proofs.RunLawful.{greedy-length}
 use Rattle.merging.proofs.GreedySteps.{greedy-on}
-use Rattle.journal.specs.Obeying.{went, obeyed, obeyed-texts, obeyed-header}
+use Rattle.obeying.specs.Obeying.{went, obeyed, obeyed-texts, obeyed-header}
 use Rattle.journal.specs.computed.NewText.{new-text, unbroken}
-use Rattle.journal.proofs.LineRead.{header-read}
+use Rattle.obeying.proofs.LineRead.{header-read}
 use Rattle.journal.proofs.ObeyGreedy.{greedy-obeyed}
 use Rattle.journal.proofs.GreedyLines.{unbroken-lines, unbroken-joined, unbroken-are-lines, length-unbroken-lines, kept-and-new}
 
@@ -53,7 +53,7 @@ module _ (job : Job) (few : 3 * job .modes ≤ 65535) (light : length (job .term
       let e : suc j - 1 ≡ j = omega arith in
       rw (header-read (job .modes) (length (job .terms)) (omega arith) (omega arith), e)
       (rw (eq-eqb (job .modes) (job .modes) refl, eq-eqb (length (job .terms)) (length (job .terms)) refl)
-      (greedy-obeyed job few light j (job .modes) [] tt (omega arith) (omega arith) 1))
+      (greedy-obeyed job few light j (job .modes) [] tt (omega arith) (omega arith)))
 
   -- Any cut.
   module _ (k : ℕ) where

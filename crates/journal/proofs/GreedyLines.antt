@@ -17,7 +17,7 @@ use Rattle.merging.specs.Choice.{weight-in}
 use Rattle.merging.specs.computed.Choosing.{chosen}
 use Rattle.merging.specs.computed.Greedy.{greedy}
 use Rattle.merging.proofs.RunLawful.{greedy-length}
-use Rattle.journal.specs.LineForms.{header-text}
+use Rattle.obeying.specs.LineForms.{header-text}
 use Rattle.journal.specs.Writing.{line-of, header-behind}
 use Rattle.journal.specs.computed.NewText.{greedy-lines, new-text, unbroken}
 use Rattle.journal.proofs.Texts.{length-header}

@@ -6,13 +6,13 @@ use Rattle.refusal.specs.declared.Refusal.{Refusal}
 use Rattle.terms.specs.Job.{Job}
 use Rattle.merging.specs.declared.run.Run.{Run}
 use Rattle.merging.specs.code.State.{history-of}
-use Rattle.journal.specs.declared.obeying.Verdict.{Verdict}
-use Rattle.journal.specs.declared.obeying.Verdict.the-variants.{Fine, Refused}
+use Rattle.obeying.specs.declared.Verdict.{Verdict}
+use Rattle.obeying.specs.declared.Verdict.the-variants.{Fine, Refused}
 use Rattle.journal.specs.declared.resuming.Answer.{Answer}
 use Rattle.journal.specs.declared.resuming.Answer.the-variants.{Refused as Refuses}
-use Rattle.journal.specs.Obeying.{Obeyed}
+use Rattle.obeying.specs.Obeying.{Obeyed}
 use Rattle.journal.specs.Resuming.{Outcome, done, refuses, ending, with-journal}
-use Rattle.journal.specs.code.Obeys.{came-to}
+use Rattle.obeying.specs.code.Obeys.{came-to}
 use Rattle.journal.specs.Promises.{numbers-of, returned, Lent, lent-then, Answers}
 
 module _ (meant : Lent → Outcome) (before : Lent) where

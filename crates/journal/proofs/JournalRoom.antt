@@ -12,7 +12,7 @@ use Rattle.merging.specs.Choice.{weight-in}
 use Rattle.merging.specs.computed.Choosing.{chosen}
 use Rattle.merging.proofs.RowsAfter.{weight-in-most}
 use Rattle.merging.proofs.RunLawful.{chosen-lawful}
-use Rattle.journal.specs.LineForms.{header-text}
+use Rattle.obeying.specs.LineForms.{header-text}
 use Rattle.journal.specs.Writing.{line-of, header-behind}
 use Rattle.journal.specs.computed.NewText.{greedy-lines, new-text}
 use Rattle.journal.proofs.TextLengths.{header-short, merge-short}

@@ -1,13 +1,7 @@
--- The laws of the journal: its text, obeying it, and what a run writes.
-pub mod LineSaid
+-- The laws of the journal: its text, what a run writes, and the calls.
 pub mod Texts
 pub mod TextLengths
 pub mod TextLines
-pub mod LineRead
-pub mod LineJudged
-pub mod LineObeyed
-pub mod LinesObeyed
-pub mod JournalObeyed
 pub mod ObeyGreedy
 pub mod GreedyLines
 pub mod NotedLines
@@ -22,6 +16,5 @@ pub mod InWork
 pub mod CutAndResumed
 pub mod ObeyedThenGreedy
 pub mod OneAnswer
-pub mod Obedience
 pub mod ObeyedText
 pub mod JournalRoom

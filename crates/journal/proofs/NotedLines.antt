@@ -19,7 +19,7 @@ use Rattle.merging.specs.code.State.{history-of}
 use Rattle.merging.proofs.Runs.{merges-within}
 use Rattle.merging.proofs.RunLawful.{greedy-length}
 use Rattle.merging.proofs.GreedySteps.{before-step, step-chosen}
-use Rattle.journal.specs.LineForms.{header-text, merge-text}
+use Rattle.obeying.specs.LineForms.{header-text, merge-text}
 use Rattle.journal.specs.Writing.{line-of, header-behind}
 use Rattle.journal.specs.computed.NewText.{greedy-lines, new-text}
 use Rattle.journal.specs.code.NewLines.{noted-line, noted-text, noted-from, StepsFit, Ended}

@@ -1,6 +1,6 @@
 -- A line that a run writes is obeyed: it says the next step, a lawful triple of open entities and the weight that the triple has.
 use mathlib.Core.Path.{_≡_, refl}
-use mathlib.Core.Bool.{true}
+use mathlib.Core.Bool.{true, false}
 use mathlib.Core.List.{List, _∷_}
 use Prim.Native.Nat.{ℕ, zero, suc, _+_, _*_, _<_, _≤_}
 use native.Mathlib.Omega.{arith}
@@ -19,13 +19,13 @@ use Rattle.merging.proofs.Holders.{open-below}
 use Rattle.merging.proofs.LawfulTest.{lawful-test}
 use Rattle.merging.proofs.RowsAfter.{weight-in-most}
 use Rattle.merging.proofs.RunLawful.{chosen-lawful}
-use Rattle.journal.specs.declared.merge_line.MergeLine.{MergeLine}
-use Rattle.journal.specs.declared.merge_line.Merge.the-variants.{Is as MergeIs}
-use Rattle.journal.specs.LineForms.{merge-of-line}
-use Rattle.journal.specs.Obeying.{went, judged-merge, judged-form, judged-line, obeyed-as, obeyed-next, obeyed-lines}
+use Rattle.obeying.specs.declared.merge_line.MergeLine.{MergeLine}
+use Rattle.obeying.specs.declared.merge_line.Merge.the-variants.{Is as MergeIs}
+use Rattle.obeying.specs.LineForms.{merge-of-line}
+use Rattle.obeying.specs.Obeying.{went, judged-merge, judged-form, judged-line, obeyed-as, obeyed-next, obeyed-lines}
 use Rattle.journal.specs.Writing.{line-of}
 use Rattle.journal.specs.computed.NewText.{greedy-lines}
-use Rattle.journal.proofs.LineRead.{merge-read}
+use Rattle.obeying.proofs.LineRead.{merge-read}
 
 -- While a step is left, every open entity is below 3n.
 pub open-within : (modes : ℕ) (history : List Triple) (entity : ℕ) → length history < modes → is-open modes history entity ≡ true
@@ -48,9 +48,9 @@ module _ (job : Job) where
           (omega (arith, open-within (job .modes) history (merge .y) left (lawful .y-open)))
           (omega (arith, open-within (job .modes) history (merge .z) left (lawful .z-open))) light
 
-      pub line-obeyed : (line : ℕ) → obeyed-next job line (line-of job history merge) (went history) ≡ went (merge ∷ history)
+      pub line-obeyed : obeyed-next false job (line-of job history merge) (went history) ≡ went (merge ∷ history)
       unfolding judged-line judged-form judged-merge obeyed-as obeyed-next is-lawful
-      line-obeyed line =
+      line-obeyed =
           let passes = both (three-open (job .modes) history merge) (paired (job .modes) history merge) (lawful-test (job .modes) history merge lawful) in
           rw (lt-ltb (length history) (job .modes) left, line-read)
           (rw (
@@ -61,23 +61,22 @@ module _ (job : Job) where
           ))
 
     module _ (light : length (job .terms) ≤ 65535) where
-      pub chosen-obeyed : (history : List Triple) → LawfulHistory (job .modes) history → length history < job .modes → (line : ℕ)
-          → obeyed-next job line (line-of job history (chosen job history)) (went history)
+      pub chosen-obeyed : (history : List Triple) → LawfulHistory (job .modes) history → length history < job .modes
+          → obeyed-next false job (line-of job history (chosen job history)) (went history)
           ≡ went (chosen job history ∷ history)
-      chosen-obeyed history lawful left line =
+      chosen-obeyed history lawful left =
           let merge = chosen job history in
           line-obeyed history merge left (chosen-lawful job history lawful left)
-          (omega (arith, weight-in-most job history merge)) line
+          (omega (arith, weight-in-most job history merge))
 
       -- The first lines of a run that goes on from a history lead as far as its steps do.
       pub greedy-obeyed : (j steps : ℕ) (history : List Triple) → LawfulHistory (job .modes) history → length history + steps ≤ job .modes → j ≤ steps
-          → (line : ℕ)
-          → obeyed-lines job line (went history) (take j (greedy-lines job steps history)) ≡ went (greedy job j history)
+          → obeyed-lines false job (went history) (take j (greedy-lines job steps history)) ≡ went (greedy job j history)
       unfolding obeyed-lines greedy greedy-lines
-      greedy-obeyed zero steps history lawful h few line = refl
-      greedy-obeyed (suc j) zero history lawful h few line = absurd (omega arith)
-      greedy-obeyed (suc j) (suc steps) history lawful h few line =
+      greedy-obeyed zero steps history lawful h few = refl
+      greedy-obeyed (suc j) zero history lawful h few = absurd (omega arith)
+      greedy-obeyed (suc j) (suc steps) history lawful h few =
           let left : length history < job .modes = omega arith in
           let merge = chosen job history in
-          rw (chosen-obeyed history lawful left line)
-          (greedy-obeyed j steps (merge ∷ history) (chosen-lawful job history lawful left, lawful) (omega arith) (omega arith) (suc line))
+          rw (chosen-obeyed history lawful left)
+          (greedy-obeyed j steps (merge ∷ history) (chosen-lawful job history lawful left, lawful) (omega arith) (omega arith))

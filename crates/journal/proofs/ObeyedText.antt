@@ -11,11 +11,11 @@ use Rattle.fields.proofs.LinesJoined.{lines-are-lines, line-ends}
 use Rattle.terms.specs.Job.{Job}
 use Rattle.merging.specs.History.{merge-of, history-before}
 use Rattle.merging.specs.Choice.{weight-in}
-use Rattle.journal.specs.LineForms.{header-text}
-use Rattle.journal.specs.Obeying.{went, obeyed}
+use Rattle.obeying.specs.LineForms.{header-text}
+use Rattle.obeying.specs.Obeying.{went, obeyed}
 use Rattle.journal.specs.Writing.{line-of}
-use Rattle.journal.proofs.LineRead.{header-written, merge-written}
-use Rattle.journal.proofs.Obedience.{obedient}
+use Rattle.obeying.proofs.LineRead.{header-written, merge-written}
+use Rattle.obeying.proofs.Obedience.{obedient}
 
 module _ (job : Job) (bytes : List ℕ) (history : List Triple) (e : obeyed job bytes ≡ went history) where
   ends-well : (i : ℕ) → i < length (lines bytes) → getD (getD (lines bytes) i []) (length (getD (lines bytes) i []) - 1) 0 ≡ 10

@@ -18,13 +18,14 @@ use Rattle.merging.specs.computed.Greedy.{finished}
 use Rattle.merging.proofs.RunLawful.{finished-length}
 use Rattle.merging.proofs.RunsOn.{runs-on}
 use Rattle.merging.proofs.TrialTotals.{trials-total}
-use Rattle.journal.specs.Obeying.{went, obeyed}
+use Rattle.obeying.specs.Obeying.{went, obeyed}
 use Rattle.journal.specs.Writing.{line-of, header-behind}
 use Rattle.journal.specs.computed.NewText.{new-text}
 use Rattle.journal.specs.Resuming.{Ending, ending}
-use Rattle.journal.specs.Obedience.{Obedient, ObeyedThenGreedy, EveryCall}
+use Rattle.obeying.specs.Obedience.{Obedient}
+use Rattle.journal.specs.Obedience.{ObeyedThenGreedy, EveryCall}
 use Rattle.journal.specs.code.NewLines.{noted-line, noted-text}
-use Rattle.journal.proofs.Obedience.{obedient}
+use Rattle.obeying.proofs.Obedience.{obedient}
 use Rattle.journal.proofs.CallDone.{call-done}
 use Rattle.journal.proofs.NotedLines.{noted-all}
 

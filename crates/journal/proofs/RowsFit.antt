@@ -13,7 +13,7 @@ use Rattle.merging.specs.computed.Greedy.{finished}
 use Rattle.merging.proofs.RunLawful.{finished-lawful, finished-length}
 use Rattle.merging.proofs.FlatpackRows.{length-flatpack}
 use Rattle.journal.specs.Resuming.{Ending, done, ending, Rooms, resumed}
-use Rattle.journal.proofs.Obedience.{obedient}
+use Rattle.obeying.proofs.Obedience.{obedient}
 use Rattle.journal.proofs.CallDone.{rooms-say, call-done}
 
 pub record RowsFit (rooms : Rooms) (modes : ℕ) (part : Ending) : Type 0 where

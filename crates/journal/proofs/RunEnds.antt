@@ -22,7 +22,7 @@ use Rattle.journal.specs.declared.resuming.Answer.the-variants.{Done}
 use Rattle.journal.specs.computed.NewText.{new-text}
 use Rattle.journal.specs.Resuming.{done, ending}
 use Rattle.journal.specs.Promises.{lent, Answers, returned, lent-then}
-use Rattle.journal.specs.code.Sized.{Sized}
+use Rattle.obeying.specs.code.Sized.{Sized}
 use Rattle.journal.specs.code.NewLines.{Ended}
 use Rattle.journal.proofs.JournalRoom.{new-fits}
 use Rattle.journal.proofs.JournalAnswered.{answers}

@@ -4,7 +4,7 @@ use native.Mathlib.Omega.{arith}
 use lib.ListN.{length}
 use Rattle.entities.specs.declared.Triple.{Triple}
 use Rattle.fields.proofs.Digits.{few-digits}
-use Rattle.journal.specs.LineForms.{header-text, merge-text}
+use Rattle.obeying.specs.LineForms.{header-text, merge-text}
 use Rattle.journal.proofs.Texts.{length-header, length-merge}
 
 -- The lines of a run: "journal bytes 16 + 21n".

@@ -11,7 +11,7 @@ use Rattle.fields.specs.Lines.{is-line}
 use Rattle.fields.specs.Fields.{tabbed}
 use Rattle.fields.proofs.LinesJoined.{no-feed, line-ended}
 use Rattle.fields.proofs.NumbersTabbed.{tabbed-free, decimals-free}
-use Rattle.journal.specs.LineForms.{header-text, merge-text}
+use Rattle.obeying.specs.LineForms.{header-text, merge-text}
 
 pub header-is-line : (modes terms : ℕ) → is-line (header-text modes terms) ≡ true
 unfolding header-text no-feed every

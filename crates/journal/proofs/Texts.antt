@@ -9,8 +9,8 @@ use Rattle.entities.specs.declared.Triple.{Triple}
 use Rattle.fields.specs.Decimal.{decimal}
 use Rattle.fields.specs.Fields.{tabbed}
 use Rattle.fields.proofs.PuttingBytes.{field, Put, put-wrote}
-use Rattle.journal.specs.LineForms.{header-text, merge-text}
-use Rattle.journal.proofs.LineSaid.{header-opening}
+use Rattle.obeying.specs.LineForms.{header-text, merge-text}
+use Rattle.obeying.proofs.LineSaid.{header-opening}
 
 module _ (step : ℕ) (triple : Triple) (weight : ℕ) where
   merge-fields : (((field step 9 ++ field (triple .x) 9) ++ field (triple .y) 9) ++ field (triple .z) 9) ++ field weight 10

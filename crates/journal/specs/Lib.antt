@@ -1,6 +1,4 @@
--- What document 01 says of the journal: its lines, a journal obeyed, and the calls that resume from it.
-pub mod LineForms
-pub mod Obeying
+-- What document 01 says of the journal: what a run writes, and the calls that resume from what was written.
 pub mod Writing
 pub mod Resuming
 pub mod Promises

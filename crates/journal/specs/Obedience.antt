@@ -1,40 +1,21 @@
 -- "From any other accepted journal the lines are obeyed in order and the greedy rule goes on. The trials reported are exactly the lawful pairs of the steps not kept."
 use mathlib.Core.Path.{_≡_}
-use mathlib.Core.List.{List, [], _++_, flatMap}
-use Prim.Native.Nat.{ℕ, suc, _-_, _<_, _≤_}
-use lib.ListN.{length, getD}
+use mathlib.Core.List.{List, _++_, flatMap}
+use Prim.Native.Nat.{ℕ, _-_}
+use lib.ListN.{length}
 use Rattle.lists.specs.Ranges.{listed}
 use Rattle.entities.specs.declared.Triple.{Triple}
 use Rattle.fields.specs.Lines.{lines, kept-of}
-use Rattle.terms.specs.Job.{Job, job-of}
+use Rattle.terms.specs.Job.{job-of}
 use Rattle.terms.specs.Good.{checked}
 use Rattle.terms.specs.declared.checking.Checked.the-variants.{Good}
 use Rattle.merging.specs.History.{merge-of, history-before}
-use Rattle.merging.specs.Lawful.{LawfulHistory}
-use Rattle.merging.specs.Choice.{weight-in}
 use Rattle.merging.specs.Run.{run-weight, RunsFrom}
 use Rattle.merging.specs.Flatpack.{flatpack}
 use Rattle.merging.specs.Trials.{trial-total}
-use Rattle.journal.specs.declared.header.Header.the-variants.{Is as HeaderIs}
-use Rattle.journal.specs.declared.merge_line.Merge.the-variants.{Is as MergeIs}
-use Rattle.journal.specs.LineForms.{header-of, merge-of-line}
+use Rattle.obeying.specs.Obedience.{Obedient}
 use Rattle.journal.specs.Writing.{line-of, header-behind}
 use Rattle.journal.specs.Resuming.{Ending, done, Rooms, resumed}
-
--- Lines that were obeyed to a history: no line at all and no merge, or a header and a line for each merge.
-pub record Obedient (job : Job) (texts : List (List ℕ)) (history : List Triple) : Type 0 where
-  pub lawful : LawfulHistory (job .modes) history
-  pub within : length history ≤ job .modes
-  pub a-line-each : length history ≡ length texts - 1
-  pub header : 0 < length texts → header-of (getD texts 0 []) ≡ HeaderIs (job .modes) (length (job .terms))
-  pub says : (i : ℕ) → i < length history
-      → merge-of-line (getD texts (suc i) [])
-      ≡ MergeIs
-      (record {
-        step = i;
-        triple = merge-of history i;
-        weight = weight-in job (history-before history i) (merge-of history i);
-      })
 
 -- A call that is done: the merges that its journal's lines say, n merges in all that begin with those and go on by the greedy rule, and
 -- every number, row and byte of its answer read off them.

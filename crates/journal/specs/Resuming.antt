@@ -16,7 +16,7 @@ use Rattle.terms.specs.declared.checking.Checked.the-variants.{Good, Refused as
 use Rattle.merging.specs.Run.{run-weight}
 use Rattle.merging.specs.computed.Greedy.{finished, trials}
 use Rattle.merging.specs.Flatpack.{flatpack}
-use Rattle.journal.specs.Obeying.{Obeyed, went, refused, obeyed}
+use Rattle.obeying.specs.Obeying.{Obeyed, went, refused, obeyed}
 use Rattle.journal.specs.computed.NewText.{new-text}
 
 -- What a run comes to: how many terms it had, its four numbers (the new bytes' is their count), its rows and its new bytes.
@@ -47,7 +47,7 @@ ending job bytes history = record {
 -- The journal's refusal, or the run from the history that it leads to.
 unfoldable pub with-journal : Job → List ℕ → Obeyed → Outcome
 with-journal job bytes (went history) = done (ending job bytes history)
-with-journal job bytes (refused refusal) = refuses refusal
+with-journal job bytes (refused made refusal) = refuses refusal
 
 -- What a call has room for: the most modes, and how many numbers and bytes are lent for work, rows and journal.
 pub record Rooms : Type 0 where

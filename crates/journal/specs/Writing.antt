@@ -1,4 +1,4 @@
--- "the header first if nothing was kept": what a run writes, and the whole journal of a run.
+-- "the header first if nothing was kept": the lines that a run writes.
 use mathlib.Core.Bool.{cond}
 use mathlib.Core.List.{List, []}
 use Prim.Native.Nat.{ℕ, _-_}
@@ -7,7 +7,7 @@ use lib.ListN.{length}
 use Rattle.entities.specs.declared.Triple.{Triple}
 use Rattle.terms.specs.Job.{Job}
 use Rattle.merging.specs.Choice.{weight-in}
-use Rattle.journal.specs.LineForms.{header-text, merge-text}
+use Rattle.obeying.specs.LineForms.{header-text, merge-text}
 
 -- The line of a merge made after a history.
 unfoldable pub line-of : Job → List Triple → Triple → List ℕ

@@ -1,5 +1,3 @@
--- How the code obeys a journal, finishes the run and writes new lines: no promise needs it.
-pub mod Sized
-pub mod Obeys
+-- How the code finishes a run and writes new lines: no promise needs it.
 pub mod NewLines
 pub mod Finishing

@@ -1,8 +1,4 @@
-// The journal: its lines read, judged, obeyed and written; a run resumed from it.
-mod header;
-mod judging;
-mod merge_line;
+// The journal: its lines written, and a run resumed from it.
 mod new_lines;
-mod obeying;
 pub mod resuming;
 mod writing;

@@ -9,7 +9,7 @@ ghost use Rattle.terms.specs.Job.{Job};
 ghost use Rattle.merging.specs.code.State.{«history-of»};
 ghost use Rattle.journal.specs.Writing.{«header-behind»};
 ghost use Rattle.journal.specs.computed.NewText.{«new-text»};
-ghost use Rattle.journal.specs.code.Sized.{Sized};
+ghost use Rattle.obeying.specs.code.Sized.{Sized};
 ghost use Rattle.journal.specs.code.NewLines.{«noted-line», «noted-from», StepFits, StepsFit, Ended};
 use crate::writing;
 use merging::asked;

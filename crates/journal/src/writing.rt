@@ -3,7 +3,7 @@ ghost use mathlib.Core.Path.{_≡_};
 ghost use Prim.Native.Nat.{_≤_};
 ghost use lib.ListN.{length};
 ghost use Rattle.lists.specs.Written.{«written-at»};
-ghost use Rattle.journal.specs.LineForms.{«header-text», «merge-text»};
+ghost use Rattle.obeying.specs.LineForms.{«header-text», «merge-text»};
 use entities::Triple;
 use fields::decimal;
 use fields::parts;

@@ -10,7 +10,7 @@ use Rattle.merging.specs.declared.run.Run.{Run}
 use Rattle.merging.specs.code.Runs.{Holds}
 use Rattle.journal.specs.Resuming.{roomy}
 use Rattle.journal.specs.Promises.{Lent, rooms-of}
-use Rattle.journal.specs.code.Sized.{Sized}
+use Rattle.obeying.specs.code.Sized.{Sized}
 
 -- The run's rows stand in the call's own, and there is room for them and for what it writes.
 pub record FromOwn (job : Job) (run : Run) (modes count : ℕ) (own : List ℕ) (given : Lent) : Type 0 where

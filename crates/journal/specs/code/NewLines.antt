@@ -12,7 +12,7 @@ use Rattle.merging.specs.computed.Greedy.{finished}
 use Rattle.merging.specs.code.State.{history-of}
 use Rattle.merging.specs.code.Runs.{Holds}
 use Rattle.journal.specs.Writing.{line-of}
-use Rattle.journal.specs.code.Sized.{Sized}
+use Rattle.obeying.specs.code.Sized.{Sized}
 
 -- The line of one step.
 unfoldable pub noted-line : Job → List Triple → ℕ → List ℕ

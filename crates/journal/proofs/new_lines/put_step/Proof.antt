@@ -9,7 +9,7 @@ use Rattle.lists.proofs.Steps.{part-to-end}
 use Rattle.lists.proofs.Behind.{rest-written}
 use Rattle.terms.specs.Job.{Job}
 use Rattle.merging.specs.code.State.{history-of}
-use Rattle.journal.specs.LineForms.{merge-text}
+use Rattle.obeying.specs.LineForms.{merge-text}
 use Rattle.journal.specs.code.NewLines.{noted-line, StepFits}
 use Rattle.journal.proofs.NotedLines.{noted-as}
 use Rattle.journal.proofs.new_lines.put_step.Statement.{statement}

@@ -6,7 +6,7 @@ use borrow.Author.Needs.{needs}
 use lib.ListN.{length}
 use Rattle.terms.proofs.StaysGood.{accepted}
 use Rattle.terms.proofs.OwnRows.{own-terms, own-held}
-use Rattle.journal.specs.Obeying.{obeyed}
+use Rattle.obeying.specs.Obeying.{obeyed}
 use Rattle.journal.specs.Resuming.{with-journal}
 use Rattle.journal.specs.Promises.{lent}
 use Rattle.journal.proofs.JournalAnswered.{answers-so}

@@ -8,7 +8,7 @@ use Rattle.terms.specs.Job.{job-of}
 use Rattle.terms.proofs.RowSteps.{length-terms}
 use Rattle.merging.specs.declared.run.Run.{Run}
 use Rattle.merging.specs.code.Runs.{Holds}
-use Rattle.journal.specs.Obeying.{obeyed}
+use Rattle.obeying.specs.Obeying.{obeyed}
 use Rattle.journal.specs.Resuming.{roomy}
 use Rattle.journal.specs.Promises.{Lent, lent, rooms-of}
 use Rattle.journal.specs.code.Finishing.{FromOwn}

@@ -1,0 +1,107 @@
+-- A line that was written is read back as what it was to say, and a line that says something is the one that is written for it.
+use mathlib.Core.Path.{_≡_, refl, ap, _∙_}
+use mathlib.Core.Bool.{Bool, true, false}
+use mathlib.Core.List.{List, [], _∷_, _++_, map}
+use Prim.Native.Nat.{ℕ, _-_, _≤_}
+use native.Mathlib.Omega.{arith}
+use borrow.Author.Tests.{eqb-true, le-leb}
+use lib.Dec.{eqb}
+use lib.ListN.{length, getD, drop}
+use Rattle.lists.specs.Members.{every}
+use Rattle.lists.specs.Ranges.{listed}
+use Rattle.lists.proofs.Tests.{both}
+use Rattle.lists.proofs.Alike.{alike-self}
+use Rattle.fields.specs.Texts.{spelt}
+use Rattle.fields.specs.Decimal.{is-number, value, decimal}
+use Rattle.fields.specs.Fields.{fields, tabbed}
+use Rattle.fields.specs.code.Reading.{numbers-good}
+use Rattle.fields.proofs.DecimalRead.{value-decimal, decimal-is-number}
+use Rattle.fields.proofs.Tabbed.{no-tab}
+use Rattle.fields.proofs.NumbersTabbed.{decimal-no-tab, fits, decimals-no-tab, decimals-are-numbers, values-of-decimals, fields-line, numbers-are, line-is}
+use Rattle.obeying.specs.declared.header.Header.the-variants.{Is as HeaderIs, Broken as HeaderBroken}
+use Rattle.obeying.specs.declared.merge_line.MergeLine.{MergeLine}
+use Rattle.obeying.specs.declared.merge_line.Merge.the-variants.{Is as MergeIs, Broken as MergeBroken}
+use Rattle.obeying.specs.LineForms.{header-good, header-of, merge-good, merge-of-line, header-text, merge-text}
+use Rattle.obeying.proofs.LineSaid.{merge-said, header-fields}
+
+module _ (modes terms : ℕ) (m : modes ≤ 65535) (t : terms ≤ 65535) where
+  header-parts : fields (header-text modes terms) ≡ spelt "hatt" ∷ (spelt "1" ∷ (decimal modes ∷ (decimal terms ∷ [])))
+  unfolding header-text every no-tab
+  header-parts =
+      fields-line (spelt "hatt") ((spelt "1") ∷ (decimal modes ∷ (decimal terms ∷ []))) (rw (decimal-no-tab modes, decimal-no-tab terms))
+
+  -- A header that was written is read back.
+  pub header-read : header-of (header-text modes terms) ≡ HeaderIs modes terms
+  unfolding header-of header-good every
+  header-read =
+      rw (header-parts, alike-self (spelt "hatt"), alike-self (spelt "1"), decimal-is-number modes m, decimal-is-number terms t)
+      (rw (value-decimal modes m, value-decimal terms t))
+
+module _ (said : MergeLine) where
+  abbrev numbers-said : List ℕ
+  numbers-said = said .step ∷ (said .triple .x ∷ (said .triple .y ∷ (said .triple .z ∷ (said .weight ∷ []))))
+
+  merge-said-back : every fits numbers-said ≡ true → merge-of-line (merge-text (said .step) (said .triple) (said .weight)) ≡ MergeIs said
+  unfolding merge-text numbers-good
+  merge-said-back e =
+      let text = merge-text (said .step) (said .triple) (said .weight) in
+      let parts : fields text ≡ map decimal numbers-said =
+      fields-line (decimal (said .step)) (map decimal (drop 1 numbers-said)) (decimals-no-tab numbers-said e) in
+      merge-said text numbers-said (rw (parts, decimals-are-numbers numbers-said e)) (rw (parts, values-of-decimals numbers-said e))
+
+  -- A merge line that was written is read back.
+  pub merge-read : said .step ≤ 65535 → said .triple .x ≤ 65535 → said .triple .y ≤ 65535 → said .triple .z ≤ 65535 → said .weight ≤ 65535
+      → merge-of-line (merge-text (said .step) (said .triple) (said .weight)) ≡ MergeIs said
+  unfolding fits every
+  merge-read s x y z w = merge-said-back (rw (le-leb _ 65535 s, le-leb _ 65535 x, le-leb _ 65535 y, le-leb _ 65535 z, le-leb _ 65535 w))
+
+-- What a merge line's fields say.
+abbrev said-by : List (List ℕ) → MergeLine
+said-by parts =
+    record {
+      step = value (getD parts 0 []);
+      triple = record { x = value (getD parts 1 []); y = value (getD parts 2 []); z = value (getD parts 3 []) };
+      weight = value (getD parts 4 []);
+    }
+
+merge-fields : (parts : List (List ℕ)) → merge-good parts ≡ true
+    → parts ≡ map decimal (numbers-said (said-by parts))
+unfolding merge-good listed
+merge-fields parts e =
+    let p = both (eqb (length parts) 5) (every is-number parts) e in
+    numbers-are 5 parts (eqb-true (length parts) 5 (p .0)) (p .1)
+
+-- A line that says a merge and ends in LF is the one that is written for it.
+pub merge-written : (line : List ℕ) (said : MergeLine) → merge-of-line line ≡ MergeIs said → getD line (length line - 1) 0 ≡ 10
+    → line ≡ merge-text (said .step) (said .triple) (said .weight)
+unfolding merge-of-line merge-text
+merge-written line said e last = go (merge-good (fields line)) refl
+  where
+    go : (z : Bool) → merge-good (fields line) ≡ z → line ≡ merge-text (said .step) (said .triple) (said .weight)
+    go true f =
+        let g : MergeIs (said-by (fields line)) ≡ MergeIs said = rw f at e in
+        let same : said-by (fields line) ≡ said = cc in
+        line-is line last
+        ∙ ap (λ parts. tabbed parts ++ (10 ∷ [])) (merge-fields (fields line) f)
+        ∙ ap (λ (m : MergeLine). merge-text (m .step) (m .triple) (m .weight)) same
+    go false f =
+        let g : MergeBroken ≡ MergeIs said = rw f at e in
+        let z : _≡_ {A = ℕ} 0 1 = cc in
+        absurd (omega arith)
+
+-- A line that says a header and ends in LF is the one that is written for it.
+pub header-written : (line : List ℕ) (modes terms : ℕ) → header-of line ≡ HeaderIs modes terms → getD line (length line - 1) 0 ≡ 10
+    → line ≡ header-text modes terms
+unfolding header-of header-text
+header-written line modes terms e last = go (header-good (fields line)) refl
+  where
+    go : (z : Bool) → header-good (fields line) ≡ z → line ≡ header-text modes terms
+    go true f =
+        let g : HeaderIs (value (getD (fields line) 2 [])) (value (getD (fields line) 3 [])) ≡ HeaderIs modes terms = rw f at e in
+        let m : value (getD (fields line) 2 []) ≡ modes = cc in
+        let t : value (getD (fields line) 3 []) ≡ terms = cc in
+        line-is line last ∙ ap (λ parts. tabbed parts ++ (10 ∷ [])) (header-fields (fields line) f) ∙ rw (m, t)
+    go false f =
+        let g : HeaderBroken ≡ HeaderIs modes terms = rw f at e in
+        let z : _≡_ {A = ℕ} 0 1 = cc in
+        absurd (omega arith)
