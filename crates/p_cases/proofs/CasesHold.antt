@@ -59,7 +59,7 @@ use Rattle.topphatt.specs.Promises.{numbers-of as topphatt-numbers, returned as
 use Rattle.newick.specs.Grammar.{spelled}
 use Rattle.newick.specs.Writing.{end-shape, shape-under, newick-text}
 use Rattle.newick.specs.Calls.{written-as, newick-written}
-use Rattle.text.specs.Input.{modes-line, term-line, well-formed, formed-from, formed, term-row, whole, said}
+use Rattle.terms_text.specs.Input.{modes-line, term-line, well-formed, formed-from, formed, term-row, whole, said}
 use Rattle.text.specs.Running.{ran-by, ran}
 use Rattle.text.specs.Output.{
   line-of as text-line,

@@ -11,7 +11,7 @@ use Rattle.journal.specs.Resuming.{Ending, done, ending, resumed}
 use Rattle.journal.specs.CutAndResumed.{journal-of, Suffice}
 use Rattle.journal.proofs.CallDone.{call-done}
 use Rattle.journal.proofs.CutAndResumed.{cut-and-resumed}
-use Rattle.text.specs.Input.{Said, given, malformed, said}
+use Rattle.terms_text.specs.Input.{Said, given, malformed, said}
 use Rattle.text.specs.Running.{program-rooms, ran-by, ran}
 use Rattle.text.specs.Output.{new-printed, continue-text, ResumesFrom, ContinuesWhole}
 

@@ -1,8 +1,6 @@
 -- The laws of the programs' text.
 pub mod PrintedLines
-pub mod LineWords
-pub mod TermsAhead
-pub mod InputSaid
+pub mod InputRan
 pub mod RunEnds
 pub mod LongInput
 pub mod JournalRefused

@@ -23,7 +23,7 @@ use Rattle.journal.specs.Writing.{line-of, header-behind}
 use Rattle.journal.specs.computed.NewText.{greedy-lines, new-text}
 use Rattle.journal.specs.Resuming.{Ending, Outcome, done, refuses, ending, resumed}
 use Rattle.journal.proofs.CallDone.{call-done}
-use Rattle.text.specs.Input.{Said, given, malformed, said}
+use Rattle.terms_text.specs.Input.{Said, given, malformed, said}
 use Rattle.text.specs.Running.{program-rooms, ran-by, ran}
 use Rattle.text.specs.Output.{refusal-text, new-printed, continue-text, NewLinesSuffice, line-of as text-line}
 use Rattle.text.proofs.RoomSuffices.{refusal-five, number-in, ran-never}

@@ -26,7 +26,7 @@ use Rattle.terms.specs.Job.{job-of}
 use Rattle.journal.specs.Obeying.{Obeyed, went, refused, obeyed}
 use Rattle.journal.specs.Resuming.{Outcome, done, refuses, with-journal, with-terms, resumed}
 use Rattle.journal.proofs.CallDone.{rooms-fit, with-room}
-use Rattle.text.specs.Input.{Said, given, malformed, said}
+use Rattle.terms_text.specs.Input.{Said, given, malformed, said}
 use Rattle.text.specs.Running.{program-rooms, ran-by, ran}
 use Rattle.text.specs.Output.{line-of, refusal-text, done-text, printed, resume-text, RoomSuffices}
 use Rattle.text.proofs.JournalRefused.{number-obeyed, obeyed-never}

@@ -1,5 +1,4 @@
--- What document 01 says of the program's text: what it reads, and what it prints.
-pub mod Input
+-- What document 01 says of the program's text: what it asks for, and what is printed.
 pub mod Running
 pub mod Output
 pub mod code

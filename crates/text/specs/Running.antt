@@ -4,7 +4,7 @@ use Prim.Native.Nat.{ℕ, _+_, _*_}
 use Rattle.refusal.specs.declared.Refusal.the-variants.{Malformed}
 use Rattle.entities.specs.Limits.{most-modes, most-terms, row-width}
 use Rattle.journal.specs.Resuming.{Outcome, refuses, resumed, Rooms as RunRooms}
-use Rattle.text.specs.Input.{Said, given, malformed, said}
+use Rattle.terms_text.specs.Input.{Said, given, malformed, said}
 
 -- What a program has room for: the most terms that it reads, and what its run has room for.
 pub record Rooms : Type 0 where

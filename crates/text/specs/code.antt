@@ -1,4 +1,3 @@
--- How the code reads a text and runs it: no promise needs it.
-pub mod Reading
+-- How the code runs a text and prints of it: no promise needs it.
 pub mod Runs
 pub mod Printing

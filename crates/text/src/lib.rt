@@ -1,8 +1,7 @@
-// The programs' text: their input read and their answers printed, from bytes to bytes.
+// The programs' text: the run that their input asks for made and their answers printed, from bytes to bytes.
 ghost use Rattle.text.specs.Running.{«program-rooms»};
 ghost use Rattle.text.specs.Output.{«answer-text», Prints};
 
-mod input;
 pub mod journals;
 pub mod output;
 pub mod running;

@@ -38,7 +38,7 @@ fn put_node(out: &mut [u8], at: usize, row: &[u16]) -> usize
 }
 
 // The lines of rows of four written at this place; the place after them.
-fn put_nodes(out: &mut [u8], start: usize, rows: &[u16]) -> usize
+pub fn put_nodes(out: &mut [u8], start: usize, rows: &[u16]) -> usize
     requires { ⌜ start + 29 * (length (now rows) / 4) ≤ length (now out) ⌝ }
     ensures { λ r. ⌜ (r ≡ start + length (node-lines (now (rows .entry)))) × (r ≤ start + 29 * (length (now (rows .entry)) / 4)) ⌝ }
     ensures { λ r. ⌜ now (out .exit) ≡ written-at start (node-lines (now (rows .entry))) (now (out .entry)) ⌝ }
@@ -56,7 +56,7 @@ fn put_nodes(out: &mut [u8], start: usize, rows: &[u16]) -> usize
 }
 
 // A word with its tab, a number and LF written at this place; the place after them.
-fn put_value(out: &mut [u8], at: usize, word: &[u8], number: u64) -> usize
+pub fn put_value(out: &mut [u8], at: usize, word: &[u8], number: u64) -> usize
     requires { ⌜ at + (length (now word) + 21) ≤ length (now out) ⌝ }
     ensures { λ r. ⌜ (r ≡ at + length (now (word .entry) ++ (decimal number ++ (10 ∷ [])))) × (r ≤ at + (length (now (word .entry)) + 21)) ⌝ }
     ensures { λ r. ⌜ now (out .exit) ≡ written-at at (now (word .entry) ++ (decimal number ++ (10 ∷ []))) (now (out .entry)) ⌝ }

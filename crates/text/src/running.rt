@@ -3,14 +3,13 @@ ghost use mathlib.Core.Path.{_≡_};
 ghost use Prim.Native.Nat.{_+_, _*_};
 ghost use lib.ListN.{length};
 ghost use Rattle.entities.specs.Limits.{«most-modes», «most-terms», «row-width»};
-ghost use Rattle.text.specs.Input.{given};
+ghost use Rattle.terms_text.specs.Input.{given};
 ghost use Rattle.text.specs.code.Runs.{lent, Runs};
 ghost use Rattle.text.specs.Running.{«program-rooms», «ran-by», ran};
-use crate::input;
-use crate::input::Said;
 use journal::resuming;
 use journal::resuming::Answer;
 use refusal::Refusal;
+use terms_text::Said;
 
 // A run that is done: its modes, greedy weight and trials, and how many bytes its new lines have.
 pub struct Run {
@@ -78,7 +77,7 @@ fn run_read(
     ensures { λ r. ⌜ Runs most-modes (ran program-rooms (now (input .entry)) (now (read .entry)))
         (lent (now (rows .entry)) (now (journal .entry))) (lent (now (rows .exit)) (now (journal .exit))) r ⌝ }
 {
-    match input::read_input(input, numbers) {
+    match terms_text::read_input(input, numbers) {
         Said::Malformed(line) => Ran::Refused(Refusal::Malformed(line)),
         Said::Given(modes, count) => {
             let end = 8 * count;

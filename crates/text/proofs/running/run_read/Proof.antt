@@ -5,8 +5,9 @@ use native.Mathlib.Omega.{arith}
 use borrow.Author.Needs.{needs}
 use lib.Seq.{length-take-le}
 use lib.ListN.{length}
+use Rattle.terms_text.proofs.InputSaid.{given-few}
 use Rattle.text.specs.Running.{program-rooms}
-use Rattle.text.proofs.InputSaid.{given-few, given-ran, malformed-ran}
+use Rattle.text.proofs.InputRan.{given-ran, malformed-ran}
 use Rattle.text.proofs.running.run_read.Statement.{statement}
 use Rattle.text.proofs.running.run_read.Tie as tie
 

@@ -5,9 +5,9 @@ use native.Mathlib.Omega.{arith}
 use borrow.Author.Needs.{needs}
 use borrow.Author.Tests.{not-true, not-false}
 use lib.ListN.{length}
-use Rattle.text.proofs.TermsAhead.{Passing, passing-starts, passing-ends, passing-stops, too-many, no-term, passing-goes}
-use Rattle.text.proofs.input.read_terms.Statement.{statement}
-use Rattle.text.proofs.input.read_terms.Tie as tie
+use Rattle.terms_text.proofs.TermsAhead.{Passing, passing-starts, passing-ends, passing-stops, too-many, no-term, passing-goes}
+use Rattle.terms_text.proofs.read_terms.Statement.{statement}
+use Rattle.terms_text.proofs.read_terms.Tie as tie
 
 abbrev Inv-loop : tie.InvT-loop
 Inv-loop text numbers₀ at₀ count₀ numbers at count = Passing 2048 text numbers at count

@@ -2,9 +2,9 @@
 use mathlib.Core.Path.{sym, _∙_}
 use borrow.Author.Needs.{needs}
 use borrow.Author.Tests.{not-true, not-false}
-use Rattle.text.proofs.LineWords.{modes-broken, modes-told}
-use Rattle.text.proofs.input.read_modes.Statement.{statement}
-use Rattle.text.proofs.input.read_modes.Tie as tie
+use Rattle.terms_text.proofs.LineWords.{modes-broken, modes-told}
+use Rattle.terms_text.proofs.read_modes.Statement.{statement}
+use Rattle.terms_text.proofs.read_modes.Tie as tie
 
 slice-aggregate-read-line : tie.Need-slice-aggregate-read-line
 slice-aggregate-read-line c = search needs

@@ -1,11 +1,11 @@
 // The program's input: its first line read as modes, every other as a term's row of eight.
 ghost use mathlib.Core.Path.{_≡_};
 ghost use mathlib.Core.List.{_∷_};
-ghost use Prim.Native.Nat.{_+_, _*_, _≤_, _<_};
+ghost use Prim.Native.Nat.{_+_, _*_, _≤_};
 ghost use lib.ListN.{length, replicate};
 ghost use Rattle.entities.specs.Limits.{«most-terms», «row-width»};
-ghost use Rattle.text.specs.Input.{said};
-ghost use Rattle.text.specs.code.Reading.{«modes-said», IndicesRead, TermRead, TermPut, TermsRead, Reads};
+ghost use Rattle.terms_text.specs.Input.{said};
+ghost use Rattle.terms_text.specs.code.Reading.{«modes-said», IndicesRead, TermRead, TermPut, TermsRead, Reads};
 use fields::lines;
 use fields::numbers;
 use terms::slices;
@@ -17,15 +17,15 @@ pub enum Said {
 }
 
 // What the first line says.
-pub enum Modes {
+enum Modes {
     Are(u16),
     Broken,
 }
 
 // How many lines say a term before the first that doesn't, and whether they are all there is.
-pub struct Terms {
-    pub count: usize,
-    pub all: bool,
+struct Terms {
+    count: usize,
+    all: bool,
 }
 
 // The modes that a line, LF included, says.

@@ -10,19 +10,16 @@ use lib.Dec.{eqb, eqb·suc-suc}
 use lib.ListN.{length, getD, take, drop, length-drop}
 use Rattle.lists.proofs.Parts.{nothing-in}
 use Rattle.lists.proofs.Tests.{same-or-not, not-so}
-use Rattle.refusal.specs.declared.Refusal.the-variants.{Malformed as Badly}
 use Rattle.fields.specs.Decimal.{value}
 use Rattle.fields.specs.Lines.{lines, kept-of, first-line}
 use Rattle.fields.specs.Fields.{fields, fields-after}
 use Rattle.fields.proofs.LineSteps.{first-line-stands, next-line, no-next-line, kept-more}
-use Rattle.text.specs.declared.input.Modes.the-variants.{Are, Broken}
-use Rattle.text.specs.declared.input.Said.{Said}
-use Rattle.text.specs.declared.input.Said.the-variants.{Given, Malformed}
-use Rattle.text.specs.declared.input.Terms.{Terms}
-use Rattle.text.specs.Input.{modes-line, well-formed, formed-from, formed, whole, said, given, malformed}
-use Rattle.journal.specs.Resuming.{refuses}
-use Rattle.text.specs.Running.{Rooms, ran-by, ran}
-use Rattle.text.specs.code.Reading.{modes-said, all-terms, TermsRead, meant-by, terms-given, Reads}
+use Rattle.terms_text.specs.declared.Modes.the-variants.{Are, Broken}
+use Rattle.terms_text.specs.declared.Said.{Said}
+use Rattle.terms_text.specs.declared.Said.the-variants.{Given, Malformed}
+use Rattle.terms_text.specs.declared.Terms.{Terms}
+use Rattle.terms_text.specs.Input.{modes-line, well-formed, formed-from, formed, whole, said, given, malformed}
+use Rattle.terms_text.specs.code.Reading.{modes-said, all-terms, TermsRead, meant-by, terms-given, Reads}
 
 eqb-behind : (n a b : ℕ) → eqb (n + a) (n + b) ≡ eqb a b
 eqb-behind n a b =
@@ -142,16 +139,10 @@ module _ (most : ℕ) (text numbers : List ℕ) (r : Said) (reads : Reads most (
     unfolding terms-given
     given-few = rw e at (reads .few)
 
-    pub given-ran : (rooms : Rooms) (read : List ℕ) → rooms .terms ≡ most
-        → ran-by rooms (given n (take (8 * count) numbers)) read ≡ ran rooms text read
-    unfolding ran ran-by meant-by
-    given-ran rooms read fits =
-        let says : given n (take (8 * count) numbers) ≡ said most text = rw e at (reads .says) in
-        rw (fits, ← says)
+    pub given-says : given n (take (8 * count) numbers) ≡ said most text
+    unfolding meant-by
+    given-says = rw e at (reads .says)
 
-  pub malformed-ran : (line : ℕ) → r ≡ Malformed line → (rooms : Rooms) (read : List ℕ) → rooms .terms ≡ most
-      → ran rooms text read ≡ refuses (Badly line)
-  unfolding ran ran-by meant-by
-  malformed-ran line e rooms read fits =
-      let says : malformed line ≡ said most text = rw e at (reads .says) in
-      rw (fits, ← says)
+  pub malformed-says : (line : ℕ) → r ≡ Malformed line → malformed line ≡ said most text
+  unfolding meant-by
+  malformed-says line e = rw e at (reads .says)

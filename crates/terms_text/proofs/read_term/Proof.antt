@@ -4,9 +4,9 @@ use native.Mathlib.Omega.{arith}
 use borrow.Author.Needs.{needs}
 use lib.Seq.{length-take-le}
 use Rattle.fields.specs.Fields.{fields}
-use Rattle.text.proofs.LineWords.{term-empty, term-short, term-long, term-told}
-use Rattle.text.proofs.input.read_term.Statement.{statement}
-use Rattle.text.proofs.input.read_term.Tie as tie
+use Rattle.terms_text.proofs.LineWords.{term-empty, term-short, term-long, term-told}
+use Rattle.terms_text.proofs.read_term.Statement.{statement}
+use Rattle.terms_text.proofs.read_term.Tie as tie
 
 returns : tie.Need-returns
 returns c = term-empty (c .before .before .before .args .line .now) _ (c .if1 .taken)

@@ -20,8 +20,8 @@ use Rattle.fields.specs.Lines.{lines, kept-of, first-line}
 use Rattle.fields.specs.Fields.{fields}
 use Rattle.fields.specs.code.Reading.{says-numbers, LineRead}
 use Rattle.fields.proofs.LineSteps.{lines-none, lines-next, kept-none, kept-more}
-use Rattle.text.specs.Input.{term-line, well-formed, formed-from, term-row}
-use Rattle.text.specs.code.Reading.{term-opening, all-terms, IndicesRead, TermRead, TermPut, TermsRead}
+use Rattle.terms_text.specs.Input.{term-line, well-formed, formed-from, term-row}
+use Rattle.terms_text.specs.code.Reading.{term-opening, all-terms, IndicesRead, TermRead, TermPut, TermsRead}
 
 -- Indices read between their count and the zeros.
 pub indices-read : (line : List ℕ) (count : ℕ) → count ≤ 7 → (row part : List ℕ) (k : ℕ) (r : Bool)

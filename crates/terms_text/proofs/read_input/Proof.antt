@@ -5,9 +5,9 @@ use borrow.Author.Needs.{needs}
 use borrow.Author.Tests.{not-true, not-false}
 use lib.Seq.{length-take-le}
 use Rattle.lists.proofs.Steps.{part-to-end}
-use Rattle.text.proofs.InputSaid.{reads-none, reads-part, reads-all}
-use Rattle.text.proofs.input.read_input.Statement.{statement}
-use Rattle.text.proofs.input.read_input.Tie as tie
+use Rattle.terms_text.proofs.InputSaid.{reads-none, reads-part, reads-all}
+use Rattle.terms_text.proofs.read_input.Statement.{statement}
+use Rattle.terms_text.proofs.read_input.Tie as tie
 
 line-end-requires : tie.Need-line-end-requires
 line-end-requires c κs = search needs

@@ -12,12 +12,12 @@ use Rattle.fields.specs.Decimal.{value}
 use Rattle.fields.specs.Lines.{lines, kept-of}
 use Rattle.fields.specs.Fields.{fields}
 use Rattle.fields.specs.code.Reading.{fields-behind, says-numbers}
-use Rattle.text.specs.declared.input.Modes.{Modes}
-use Rattle.text.specs.declared.input.Modes.the-variants.{Are, Broken}
-use Rattle.text.specs.declared.input.Said.{Said}
-use Rattle.text.specs.declared.input.Said.the-variants.{Given, Malformed}
-use Rattle.text.specs.declared.input.Terms.{Terms}
-use Rattle.text.specs.Input.{modes-line, term-line, formed-from, term-row, given, malformed, Said as Meant}
+use Rattle.terms_text.specs.declared.Modes.{Modes}
+use Rattle.terms_text.specs.declared.Modes.the-variants.{Are, Broken}
+use Rattle.terms_text.specs.declared.Said.{Said}
+use Rattle.terms_text.specs.declared.Said.the-variants.{Given, Malformed}
+use Rattle.terms_text.specs.declared.Terms.{Terms}
+use Rattle.terms_text.specs.Input.{modes-line, term-line, formed-from, term-row, given, malformed, Said as Meant}
 
 -- The first line's number, where it says one.
 unfoldable pub modes-said : List ℕ → Modes

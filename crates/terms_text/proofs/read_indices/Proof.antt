@@ -2,9 +2,9 @@
 use Prim.Native.Nat.{_+_, _-_}
 use native.Mathlib.Omega.{arith}
 use borrow.Author.Needs.{needs}
-use Rattle.text.proofs.TermsAhead.{indices-read}
-use Rattle.text.proofs.input.read_indices.Statement.{statement}
-use Rattle.text.proofs.input.read_indices.Tie as tie
+use Rattle.terms_text.proofs.TermsAhead.{indices-read}
+use Rattle.terms_text.proofs.read_indices.Statement.{statement}
+use Rattle.terms_text.proofs.read_indices.Tie as tie
 
 begin-row-requires : tie.Need-begin-row-requires
 begin-row-requires c κs = search needs

@@ -1,7 +1,7 @@
 -- Zeros, and then the count over the first of them.
 use borrow.Author.Needs.{needs}
-use Rattle.text.proofs.input.begin_row.Statement.{statement}
-use Rattle.text.proofs.input.begin_row.Tie as tie
+use Rattle.terms_text.proofs.begin_row.Statement.{statement}
+use Rattle.terms_text.proofs.begin_row.Tie as tie
 
 fill-requires : tie.Need-fill-requires
 fill-requires c κs = search needs

@@ -2,9 +2,9 @@
 use Prim.Native.Nat.{_+_, _-_, _*_}
 use native.Mathlib.Omega.{arith}
 use borrow.Author.Needs.{needs}
-use Rattle.text.proofs.TermsAhead.{term-put}
-use Rattle.text.proofs.input.put_term.Statement.{statement}
-use Rattle.text.proofs.input.put_term.Tie as tie
+use Rattle.terms_text.proofs.TermsAhead.{term-put}
+use Rattle.terms_text.proofs.put_term.Statement.{statement}
+use Rattle.terms_text.proofs.put_term.Tie as tie
 
 mul-from : tie.Need-mul-from
 mul-from c = search needs

@@ -17,9 +17,9 @@ use Rattle.fields.specs.code.Reading.{numbers-good, opens, fields-behind, says-
 use Rattle.fields.proofs.Tabbed.{no-tab}
 use Rattle.fields.proofs.NumbersTabbed.{value-at}
 use Rattle.fields.proofs.Openings.{opening, opened-fields, opens-with, two-fields}
-use Rattle.text.specs.declared.input.Modes.the-variants.{Are, Broken}
-use Rattle.text.specs.Input.{modes-line, term-line, term-row}
-use Rattle.text.specs.code.Reading.{modes-said, term-opening, IndicesRead, TermRead}
+use Rattle.terms_text.specs.declared.Modes.the-variants.{Are, Broken}
+use Rattle.terms_text.specs.Input.{modes-line, term-line, term-row}
+use Rattle.terms_text.specs.code.Reading.{modes-said, term-opening, IndicesRead, TermRead}
 
 -- The word of the first line, and a tab.
 abbrev pub modes-opening : List ℕ

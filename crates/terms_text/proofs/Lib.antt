@@ -1,0 +1,5 @@
+-- The laws of reading a program's input.
+pub mod LineWords
+pub mod TermsAhead
+pub mod InputSaid
+pub mod LongInput

@@ -1,0 +1,3 @@
+-- What document 01 says of the text that a program reads.
+pub mod Input
+pub mod code
