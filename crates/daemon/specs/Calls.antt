@@ -9,7 +9,7 @@ use Rattle.terms.specs.Job.{job-of}
 use Rattle.terms.specs.Good.{modes-good, checked}
 use Rattle.terms.specs.declared.checking.Checked.{Checked}
 use Rattle.terms.specs.declared.checking.Checked.the-variants.{Good, Refused as BadTerms}
-use Rattle.journal.specs.Obeying.{obeyed}
+use Rattle.obeying.specs.Obeying.{obeyed}
 use Rattle.journal.specs.Resuming.{Outcome, refuses, with-journal}
 use Rattle.tree.specs.Check.{tree-checked}
 use Rattle.tree.specs.declared.TreeChecked.{TreeChecked}

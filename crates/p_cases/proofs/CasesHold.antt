@@ -25,8 +25,8 @@ use Rattle.merging.specs.computed.Choosing.{candidates, chosen}
 use Rattle.merging.specs.computed.Greedy.{greedy, finished, trials}
 use Rattle.merging.specs.Flatpack.{absent-leaf, children, walk, rows-for, flatpack}
 use Rattle.merging.specs.Trials.{trial-total}
-use Rattle.journal.specs.LineForms.{header-good, header-of, merge-good, merge-of-line, header-text, merge-text}
-use Rattle.journal.specs.Obeying.{
+use Rattle.obeying.specs.LineForms.{header-good, header-of, merge-good, merge-of-line, header-text, merge-text}
+use Rattle.obeying.specs.Obeying.{
   judged-merge,
   judged-form,
   judged-line,

@@ -18,7 +18,7 @@ use Rattle.fields.proofs.Numerals.{digit-above}
 use Rattle.fields.proofs.Digits.{some-digits}
 use Rattle.fields.proofs.DecimalRead.{decimal-without}
 use Rattle.terms.specs.Job.{Job, job-of}
-use Rattle.journal.specs.LineForms.{header-text, merge-text}
+use Rattle.obeying.specs.LineForms.{header-text, merge-text}
 use Rattle.journal.specs.Writing.{line-of, header-behind}
 use Rattle.journal.specs.computed.NewText.{greedy-lines, new-text}
 use Rattle.journal.specs.Resuming.{Ending, Outcome, done, refuses, ending, resumed}

@@ -22,14 +22,14 @@ use Rattle.fields.proofs.NumbersTabbed.{decimal-no-tab, fields-line}
 use Rattle.terms.specs.declared.checking.Checked.{Checked}
 use Rattle.terms.specs.declared.checking.Checked.the-variants.{Good, Refused}
 use Rattle.terms.specs.Good.{modes-good, good-rows, checked}
-use Rattle.terms.specs.Job.{job-of}
-use Rattle.journal.specs.Obeying.{Obeyed, went, refused, obeyed}
+use Rattle.terms.specs.Job.{Job, job-of}
+use Rattle.obeying.specs.Obeying.{Obeyed, went, refused, obeyed}
 use Rattle.journal.specs.Resuming.{Outcome, done, refuses, with-journal, with-terms, resumed}
 use Rattle.journal.proofs.CallDone.{rooms-fit, with-room}
 use Rattle.terms_text.specs.Input.{Said, given, malformed, said}
 use Rattle.text.specs.Running.{program-rooms, ran-by, ran}
 use Rattle.text.specs.Output.{line-of, refusal-text, done-text, printed, resume-text, RoomSuffices}
-use Rattle.text.proofs.JournalRefused.{number-obeyed, obeyed-never}
+use Rattle.obeying.proofs.LineRefused.{journal-refusal}
 
 -- The text of a refusal tells its number.
 second-field : (refusal : Refusal) → getD (fields (refusal-text refusal)) 1 [] ≡ decimal (numberOf refusal)
@@ -72,18 +72,19 @@ module _ (modes : ℕ) (numbers read : List ℕ) where
   abbrev number-with : Checked → ℕ
   number-with found = number-in (with-terms (program-rooms .run) modes numbers read found)
 
-  journal-number : (found : Obeyed) → number-in (with-journal (job-of modes count numbers) read found) ≡ number-obeyed found
-  unfolding number-in with-journal number-obeyed
-  journal-number (went history) = refl
-  journal-number (refused refusal) = refl
+  -- The journal's lines have numbers of their own, 6 to 12.
+  journal-never : (job : Job) (found : Obeyed) → obeyed job read ≡ found → number-in (with-journal job read found) ≡ 5 → ⊥
+  unfolding number-in with-journal
+  journal-never job (went history) e h = omega arith
+  journal-never job (refused made why) e h = omega (arith, h, journal-refusal job read made why e .1 .from)
 
   -- With room for all, the journal decides.
   room-never : modes ≤ most-modes → count ≤ most-terms → number-with (Good count) ≡ 5 → ⊥
   room-never few short h =
       let job = job-of modes count numbers in
       let fits = rooms-fit (program-rooms .run) modes count (omega arith) (omega arith) (omega arith) in
-      let decides = ap number-in (with-room (program-rooms .run) modes numbers read count fits) ∙ journal-number (obeyed job read) in
-      obeyed-never job read (sym decides ∙ h)
+      let decides = ap number-in (with-room (program-rooms .run) modes numbers read count fits) in
+      journal-never job (obeyed job read) refl (sym decides ∙ h)
 
   terms-never : modes ≤ most-modes → number-with (checked modes numbers) ≡ 5 → ⊥
   unfolding number-in with-terms checked
