@@ -1,11 +1,8 @@
 -- A call from C answers what resuming comes to: nothing is written where it refuses, and all that is known where it is done.
 use mathlib.Core.Path.{_≡_, refl, ap, _∙_, sym}
-use mathlib.Core.Bool.{Bool, true, false, cond}
 use mathlib.Core.List.{List, _++_}
-use Prim.Native.Nat.{ℕ, _+_, _*_, _/_, _≤_, min}
+use Prim.Native.Nat.{ℕ, _+_, _*_}
 use native.Mathlib.Omega.{arith}
-use borrow.Author.Tests.{leb-true}
-use lib.Dec.{leb}
 use lib.ListN.{length, take}
 use lib.Seq.{length-take-le}
 use Rattle.lists.specs.Written.{written-at}
@@ -18,11 +15,14 @@ use Rattle.journal.specs.declared.resuming.Answer.the-variants.{Done, Refused}
 use Rattle.journal.specs.Resuming.{Ending, Outcome, done, refuses, Rooms, resumed}
 use Rattle.journal.specs.Promises.{lent as run-lent, rooms-of, returned, lent-then as run-lent-then, Answers}
 use Rattle.journal.proofs.RowsFit.{RowsFit, rows-fit}
-use Rattle.daemon.specs.Bytes.{two-bytes, eight-bytes}
+use Rattle.call_bytes.specs.Bytes.{two-bytes, eight-bytes}
+use Rattle.call_bytes.specs.code.Handing.{room-of, term-numbers}
+use Rattle.call_bytes.specs.code.Reading.{TermsRead}
+use Rattle.call_bytes.proofs.RoomFits.{room-fits}
 use Rattle.daemon.specs.Calls.{Lent, lent}
-use Rattle.daemon.specs.code.Handing.{room-of, rooms-in, resume-handed}
-use Rattle.daemon.specs.code.Reading.{TermsRead}
+use Rattle.daemon.specs.code.Handing.{rooms-in, resume-handed}
 use Rattle.daemon.specs.Promises.{Called, result-of, answer-bytes, lent-then}
+use Rattle.daemon.proofs.ResumedAlike.{resumed-same}
 
 -- What the answer says of the meaning.
 refused-meant : (meant : Outcome) (why : Refusal) (r : Answer) → r ≡ returned meant → r ≡ Refused why → meant ≡ refuses why
@@ -100,20 +100,6 @@ pub called-so : (meant same : Lent → Outcome) (before after : Lent) (r : ℕ) 
     → Called same before after r → Called meant before after r
 called-so meant same before after r e called = record { result = rw e (called .result); leaves = rw e (called .leaves) }
 
--- The room fits into the call's own and into the lent bytes, and where there is any the answer's numbers fit.
-pub record RoomFits (numbers own bytes answer room : ℕ) : Type 0 where
-  pub in-own : room ≤ own
-  pub in-bytes : 2 * room ≤ bytes
-  pub answered : 1 ≤ room → 8 * numbers ≤ answer
-
-pub room-fits : (numbers own bytes answer : ℕ) → RoomFits numbers own bytes answer (room-of numbers own bytes answer)
-unfolding room-of
-room-fits numbers own bytes answer = go (leb (8 * numbers) answer) refl
-  where
-    go : (b : Bool) → leb (8 * numbers) answer ≡ b → RoomFits numbers own bytes answer (cond b (min own (bytes / 2)) 0)
-    go true e = record { in-own = omega arith; in-bytes = omega arith; answered = λ some. leb-true (8 * numbers) answer e }
-    go false e = record { in-own = omega arith; in-bytes = omega arith; answered = λ some. absurd (omega arith) }
-
 -- The parts that the call lends to resuming mean what it was given.
 pub lent-means : (modes : ℕ) (terms read numbers work own : List ℕ) (count room : ℕ) (given : Lent) → TermsRead terms numbers count
     → room ≡ room-of 4 (length own) (length (given .rows)) (length (given .answer))
@@ -124,4 +110,4 @@ lent-means modes terms read numbers work own count room given reads e =
     let fits = room-fits 4 (length own) (length (given .rows)) (length (given .answer)) in
     let l : length (take room own) ≡ room-of 4 (length own) (length (given .rows)) (length (given .answer)) =
     length-take-le room own (omega (arith, e, fits .in-own)) ∙ e in
-    rw (← l) (sym (reads .same (rooms-of 256 (run-lent work (take room own) (given .journal))) modes read))
+    rw (← l) (sym (resumed-same (take count numbers) (term-numbers terms) (reads .stands) (rooms-of 256 (run-lent work (take room own) (given .journal))) modes read))

@@ -1,11 +1,7 @@
--- The laws of the calls from C.
+-- The laws of a run called from C.
 pub mod CallAnswered
-pub mod Outright
 pub mod OneResult
+pub mod Outright
 pub mod RefusalPlaces
 pub mod ResultSays
-pub mod TermsSame
-pub mod WordSteps
-pub mod TreeSame
-pub mod AssignPlaces
-pub mod AssignAnswered
+pub mod ResumedAlike

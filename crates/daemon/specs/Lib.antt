@@ -1,5 +1,4 @@
--- What document 01 says of the calls from C: every slice is bytes.
-pub mod Bytes
+-- What document 01 says of a run called from C.
 pub mod Calls
 pub mod Promises
 pub mod code

@@ -1,4 +1,4 @@
--- What the calls from C promise: the number they return, and every byte of every lent slice after the call.
+-- What the calls from C that make a run promise: the number they return, and every byte of every lent slice after the call.
 use mathlib.Core.Path.{_≡_}
 use mathlib.Core.List.{List, _++_}
 use Prim.Native.Nat.{ℕ, _+_, _*_}
@@ -6,9 +6,8 @@ use lib.ListN.{length}
 use Rattle.lists.specs.Written.{written-at}
 use Rattle.refusal.specs.Numbers.{numberOf, placeOf}
 use Rattle.journal.specs.Resuming.{Ending, Outcome, done, refuses}
-use Rattle.topphatt.specs.Answer.{Outcome as Assignment, done as assigned, refused as unassigned}
-use Rattle.daemon.specs.Bytes.{two-bytes, eight-bytes}
-use Rattle.daemon.specs.Calls.{Lent, LentTable}
+use Rattle.call_bytes.specs.Bytes.{two-bytes, eight-bytes}
+use Rattle.daemon.specs.Calls.{Lent}
 
 -- "The result is the refusal number times 65536 plus the place, 0 on success".
 unfoldable pub result-of : Outcome → ℕ
@@ -33,21 +32,3 @@ lent-then (refuses refusal) given = given
 pub record Called (meant : Lent → Outcome) (before after : Lent) (r : ℕ) : Type 0 where
   pub result : r ≡ result-of (meant before)
   pub leaves : after ≡ lent-then (meant before) before
-
--- The same of an assignment, whose answer is its weight alone.
-unfoldable pub assign-result-of : Assignment → ℕ
-assign-result-of (assigned count weight codes) = 0
-assign-result-of (unassigned refusal) = numberOf refusal * 65536 + placeOf refusal
-
--- The table and the weight, each over a front; a refused call writes nothing.
-unfoldable pub table-then : Assignment → LentTable → LentTable
-table-then (assigned count weight codes) given = record {
-  table = written-at 0 (two-bytes codes) (given .table);
-  answer = written-at 0 (eight-bytes weight) (given .answer);
-}
-table-then (unassigned refusal) given = given
-
--- The result of the meaning, and every byte of what was lent after the call.
-pub record AssignCalled (meant : LentTable → Assignment) (before after : LentTable) (r : ℕ) : Type 0 where
-  pub result : r ≡ assign-result-of (meant before)
-  pub leaves : after ≡ table-then (meant before) before

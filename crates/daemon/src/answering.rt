@@ -1,22 +1,12 @@
-// What a call from C leaves: the rows and the four numbers as bytes where it is done, and the one number that it returns.
+// What a call from C that is done leaves: the rows and the four numbers as bytes.
 ghost use mathlib.Core.Path.{_≡_};
 ghost use mathlib.Core.List.{_++_};
-ghost use Prim.Native.Nat.{_+_, _*_, _≤_};
+ghost use Prim.Native.Nat.{_*_, _≤_};
 ghost use lib.ListN.{length, take};
 ghost use Rattle.lists.specs.Written.{«written-at»};
-ghost use Rattle.refusal.specs.Numbers.{numberOf, placeOf};
-ghost use Rattle.daemon.specs.Bytes.{«two-bytes», «eight-bytes»};
-use crate::words;
+ghost use Rattle.call_bytes.specs.Bytes.{«two-bytes», «eight-bytes»};
+use call_bytes::words;
 use journal::resuming::Numbers;
-use refusal::Refusal;
-
-// The refusal's number and its place in one.
-pub fn refusal_result(why: Refusal) -> u64
-    requires { ⌜ placeOf why ≤ 65535 ⌝ }
-    ensures { λ r. ⌜ r ≡ numberOf why * 65536 + placeOf why ⌝ }
-{
-    (refusal::number(why) * 65536 + refusal::place(why)) as u64
-}
 
 // The four numbers, one behind the other.
 pub fn put_numbers(numbers: Numbers, out: &mut [u8])

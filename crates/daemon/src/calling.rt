@@ -6,10 +6,10 @@ ghost use Rattle.entities.specs.Limits.{«most-modes», «most-terms», «row-w
 ghost use Rattle.journal.specs.Resuming.{resumed};
 ghost use Rattle.journal.specs.Promises.{lent as «run-lent», «rooms-of»};
 ghost use Rattle.daemon.specs.Calls.{lent, «resume-called»};
-ghost use Rattle.daemon.specs.code.Handing.{«room-of», «own-of», «resume-handed»};
+ghost use Rattle.daemon.specs.code.Handing.{«own-of», «resume-handed»};
 ghost use Rattle.daemon.specs.Promises.{Called};
 use crate::answering;
-use crate::term_bytes;
+use call_bytes::term_bytes;
 use journal::resuming;
 use journal::resuming::Answer;
 
@@ -29,26 +29,12 @@ fn resume_numbers(
         (lent (now (rows .entry)) (now (journal .entry)) (now (answer .entry))) (lent (now (rows .exit)) (now (journal .exit)) (now (answer .exit))) r ⌝ }
 {
     match resuming::resume(modes, terms, read, work, own, journal) {
-        Answer::Refused(why) => answering::refusal_result(why),
+        Answer::Refused(why) => call_bytes::refusal_result(why),
         Answer::Done(numbers) => {
             answering::put_done(modes, own, numbers, rows, answer);
             0
         }
     }
-}
-
-// The room in numbers, of the call's own and of the lent bytes; none where so many numbers of the answer don't fit.
-pub fn room_for(numbers: usize, own: usize, bytes: usize, answer: usize) -> usize
-    requires { ⌜ numbers ≤ 4 ⌝ }
-    ensures { λ r. ⌜ r ≡ room-of numbers own bytes answer ⌝ }
-{
-    if answer < 8 * numbers {
-        return 0;
-    }
-    if bytes / 2 < own {
-        return bytes / 2;
-    }
-    own
 }
 
 // The terms read, and as much of the call's own rows lent as the caller's have room for, so that 5 is given in its turn.
@@ -68,7 +54,7 @@ fn resume_lent(
         (lent (now (rows .entry)) (now (journal .entry)) (now (answer .entry))) (lent (now (rows .exit)) (now (journal .exit)) (now (answer .exit))) r ⌝ }
 {
     let count = term_bytes::read_terms(terms, numbers);
-    let room = room_for(4, own.len(), rows.len(), answer.len());
+    let room = call_bytes::room_for(4, own.len(), rows.len(), answer.len());
     resume_numbers(
         modes,
         &numbers[..count],

@@ -1,13 +1,12 @@
 // The calls of the queue daemon, which is C: numbers and slices of bytes.
 ghost use Rattle.entities.specs.Limits.{«most-modes»};
-ghost use Rattle.daemon.specs.Calls.{lent, «resume-called», «hatt-called», «lent-table», «assign-called»};
-ghost use Rattle.daemon.specs.Promises.{Called, AssignCalled};
+ghost use Rattle.assign_call.specs.Calls.{«lent-table», «assign-called»};
+ghost use Rattle.assign_call.specs.Promises.{AssignCalled};
+ghost use Rattle.daemon.specs.Calls.{lent, «resume-called», «hatt-called»};
+ghost use Rattle.daemon.specs.Promises.{Called};
 
 mod answering;
-mod assigning;
 mod calling;
-mod term_bytes;
-mod words;
 
 // An unbroken run: resuming from an empty journal.
 #[no_mangle]
@@ -53,5 +52,5 @@ pub extern "C" fn dewgoblin_assign(
     ensures { λ r. ⌜ AssignCalled (assign-called most-modes modes (now (tree .entry)) heuristic (now (terms .entry)))
         (lent-table (now (table .entry)) (now (answer .entry))) (lent-table (now (table .exit)) (now (answer .exit))) r ⌝ }
 {
-    assigning::assign_bytes(modes, tree, heuristic, terms, table, answer)
+    assign_call::assign_bytes(modes, tree, heuristic, terms, table, answer)
 }

@@ -72,7 +72,7 @@ use Rattle.text.specs.Output.{
   answer-text,
 }
 use Rattle.newick_line.specs.NewickLine.{line-as, table-line, newick-printed, newick-answer-text}
-use Rattle.daemon.specs.Bytes.{word-at, words, two-bytes, eight-bytes}
+use Rattle.call_bytes.specs.Bytes.{word-at, words, two-bytes, eight-bytes}
 use Rattle.daemon.specs.Calls.{roomy as bytes-roomy, with-terms as with-bytes, resume-called, hatt-called}
 use Rattle.daemon.specs.Promises.{result-of, answer-bytes, lent-then as bytes-left}
 use Rattle.p_cases.specs.Cases.{

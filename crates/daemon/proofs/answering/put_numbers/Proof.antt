@@ -1,7 +1,7 @@
 -- Each number stands behind the one before it.
 use mathlib.Core.Path.{_∙_}
 use borrow.Author.Needs.{needs}
-use Rattle.daemon.proofs.WordSteps.{four-written}
+use Rattle.call_bytes.proofs.WordSteps.{four-written}
 use Rattle.daemon.proofs.answering.put_numbers.Statement.{statement}
 use Rattle.daemon.proofs.answering.put_numbers.Tie as tie
 

@@ -5,8 +5,9 @@ use native.Mathlib.Omega.{arith}
 use borrow.Author.Needs.{needs}
 use lib.ListN.{length}
 use lib.Seq.{length-take-le}
+use Rattle.call_bytes.proofs.RoomFits.{room-fits}
 use Rattle.daemon.specs.Calls.{lent}
-use Rattle.daemon.proofs.CallAnswered.{called-so, room-fits, lent-means}
+use Rattle.daemon.proofs.CallAnswered.{called-so, lent-means}
 use Rattle.daemon.proofs.calling.resume_lent.Statement.{statement}
 use Rattle.daemon.proofs.calling.resume_lent.Tie as tie
 
