@@ -16,26 +16,20 @@ use Rattle.merging.specs.computed.Greedy.{greedy, finished}
 use Rattle.merging.proofs.RunLawful.{greedy-length}
 use Rattle.merging.proofs.GreedySteps.{greedy-on}
 use Rattle.obeying.specs.LineForms.{header-of}
-use Rattle.obeying.specs.Obeying.{Obeyed, went, obeyed-next, obeyed-lines, obeyed-header, obeyed-texts, obeyed}
+use Rattle.obeying.specs.Obeying.{went, obeyed-lines, obeyed-header, obeyed-texts, obeyed}
 use Rattle.journal.specs.computed.NewText.{greedy-lines, new-text}
 use Rattle.journal.proofs.GreedyLines.{lines-on, length-greedy-lines, greedy-are-lines, no-header}
 use Rattle.journal.proofs.ObeyGreedy.{greedy-obeyed}
+use Rattle.obeying.proofs.LinesObeyed.{lines-on-lines}
 use Rattle.obeying.proofs.Obedience.{obedient}
 use Rattle.journal.proofs.CutObeyed.{CutObeyed}
 
 module _ (job : Job) where
-  -- Lines obeyed one after the other are obeyed together.
-  lines-on-lines : (so-far : Obeyed) (first more : List (List ℕ))
-      → obeyed-lines false job so-far (first ++ more) ≡ obeyed-lines false job (obeyed-lines false job so-far first) more
-  unfolding obeyed-lines
-  lines-on-lines so-far [] more = refl
-  lines-on-lines so-far (bytes ∷ first) more = lines-on-lines (obeyed-next false job bytes so-far) first more
-
   texts-behind : (texts more : List (List ℕ)) (history : List Triple) → 0 < length texts → obeyed-texts job texts ≡ went history
       → obeyed-texts job (texts ++ more) ≡ obeyed-lines false job (went history) more
   unfolding obeyed-texts
   texts-behind [] more history some e = absurd (omega arith)
-  texts-behind (first ∷ rest) more history some e = lines-on-lines (obeyed-header job (header-of first)) rest more ∙ rw e
+  texts-behind (first ∷ rest) more history some e = lines-on-lines false job (obeyed-header job (header-of first)) rest more ∙ rw e
 
   -- A journal with a line at least, and a cut so many bytes behind it.
   module _ (few : 3 * job .modes ≤ 65535) (light : length (job .terms) ≤ 65535) (bytes : List ℕ) (history : List Triple)

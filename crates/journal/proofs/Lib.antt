@@ -18,3 +18,4 @@ pub mod ObeyedThenGreedy
 pub mod OneAnswer
 pub mod ObeyedText
 pub mod JournalRoom
+pub mod JournalText

@@ -22,7 +22,7 @@ use Rattle.merging.proofs.GreedySteps.{before-step, step-chosen}
 use Rattle.obeying.specs.LineForms.{header-text, merge-text}
 use Rattle.journal.specs.Writing.{line-of, header-behind}
 use Rattle.journal.specs.computed.NewText.{greedy-lines, new-text}
-use Rattle.journal.specs.code.NewLines.{noted-line, noted-text, noted-from, StepsFit, Ended}
+use Rattle.journal.specs.code.NewLines.{noted-line, noted-text, noted-from, noted-behind, StepsFit, TextFits, Ended}
 use Rattle.journal.proofs.GreedyLines.{greedy-lines-more}
 
 module _ (job : Job) where
@@ -90,27 +90,40 @@ noted-all job history kept =
     let e : length (greedy job steps history) - length history ≡ steps = omega (arith, greedy-length job steps history) in
     rw e (ap (λ l. header-behind job kept ++ flatMap (λ line. line) l) (noted-greedy job history steps steps (omega arith)))
 
--- A run at its end, with room for all that it writes.
+-- Room for all that is to be written is room for the header, and behind it for the lines.
+module _ (job : Job) (own : List ℕ) (run : Run) (modes count from kept room : ℕ) (text : TextFits job own run modes count from kept room) where
+  both-fit : length (header-behind job kept) + length (noted-from job (history-of run) from) ≤ room
+  both-fit = omega (arith, text .fits, length-append (header-behind job kept) (noted-from job (history-of run) from))
+
+  pub header-fits : length (header-behind job kept) ≤ room
+  header-fits = omega (arith, both-fit)
+
+  pub steps-fit : (at : ℕ) → at ≡ length (header-behind job kept) → StepsFit job own run from at room
+  steps-fit at e =
+      record {
+        holds = text .holds;
+        begun = text .begun;
+        small = omega (arith, merges-within job own run (text .holds), text .sized .modes-are, text .few);
+        fits = omega (arith, both-fit);
+      }
+
+-- A run at its end writes the new text.
 module _ (job : Job) (history : List Triple) (modes count from : ℕ) (run : Run) (ended : Ended job history modes count from run) (kept : ℕ) where
-  pub ended-text : header-behind job kept ++ noted-from job (history-of run) from ≡ new-text job kept history
+  pub ended-text : noted-behind job kept (history-of run) from ≡ new-text job kept history
   ended-text = rw (ended .merges, ← ended .from-is) (noted-all job history kept)
 
   all-merges : length (history-of run) ≡ from + (job .modes - from)
   unfolding finished
   all-merges = rw (ended .merges, ← ended .from-is) (greedy-length job (job .modes - length history) history)
 
-  module _ (room : ℕ) (fits : length (new-text job kept history) ≤ room) where
-    whole-length : length (header-behind job kept) + length (noted-from job (history-of run) from) ≤ room
-    whole-length = omega (arith, ap length ended-text, length-append (header-behind job kept) (noted-from job (history-of run) from))
-
-    pub header-fits : length (header-behind job kept) ≤ room
-    header-fits = omega (arith, whole-length)
-
-    pub steps-fit : modes < 65536 → (at : ℕ) → at ≡ length (header-behind job kept) → StepsFit job (ended .own) run from at room
-    steps-fit small at e =
-        record {
-          holds = ended .holds;
-          begun = omega (arith, all-merges);
-          small = omega (arith, merges-within job (ended .own) run (ended .holds), ended .sized .modes-are);
-          fits = omega (arith, whole-length);
-        }
+  pub ended-fits : modes < 65536 → count < 65536 → (room : ℕ) → length (new-text job kept history) ≤ room
+      → TextFits job (ended .own) run modes count from kept room
+  ended-fits few light room fits =
+      record {
+        holds = ended .holds;
+        sized = ended .sized;
+        few = few;
+        light = light;
+        begun = omega (arith, all-merges);
+        fits = rw ended-text fits;
+      }

@@ -7,6 +7,7 @@ use lib.ListN.{length, replicate, length-replicate}
 use Rattle.lists.specs.Written.{written-at}
 use Rattle.lists.proofs.Written.{written-front}
 use Rattle.fields.specs.Lines.{kept-of}
+use Rattle.entities.specs.Limits.{most-modes, most-terms}
 use Rattle.terms.specs.Job.{Job}
 use Rattle.merging.specs.declared.run.Run.{Run}
 use Rattle.merging.specs.Run.{run-weight}
@@ -23,7 +24,8 @@ use Rattle.journal.specs.computed.NewText.{new-text}
 use Rattle.journal.specs.Resuming.{done, ending}
 use Rattle.journal.specs.Promises.{lent, Answers, returned, lent-then}
 use Rattle.obeying.specs.code.Sized.{Sized}
-use Rattle.journal.specs.code.NewLines.{Ended}
+use Rattle.journal.specs.code.NewLines.{noted-behind, TextFits, Ended}
+use Rattle.journal.proofs.NotedLines.{ended-text, ended-fits}
 use Rattle.journal.proofs.JournalRoom.{new-fits}
 use Rattle.journal.proofs.JournalAnswered.{answers}
 
@@ -35,13 +37,13 @@ module _ (job : Job) (work now-work : List ℕ) (run after : Run) (holds : Holds
   pub at-the-end : length (history-of after) ≡ job .modes
   at-the-end = ap length (gone .merges) ∙ finished-length job (history-of run) (merges-lawful job work run holds) within
 
-  pub new-has-room : (kept : ℕ) → 3 * job .modes < 1000 → length (job .terms) < 10000
+  new-has-room : (kept : ℕ) → 3 * job .modes < 1000 → length (job .terms) < 10000
       → length (new-text job kept (history-of run)) ≤ 16 + 21 * job .modes
   new-has-room kept few light =
       omega (arith, new-fits job few light kept (history-of run) (merges-lawful job work run holds) within)
 
   module _ (modes count from : ℕ) (sized : Sized job modes count) (from-is : from ≡ length (history-of run)) where
-    pub has-ended : Ended job (history-of run) modes count from after
+    has-ended : Ended job (history-of run) modes count from after
     has-ended =
         record {
           own = now-work;
@@ -51,6 +53,13 @@ module _ (job : Job) (work now-work : List ℕ) (run after : Run) (holds : Holds
           from-is = sym from-is;
           within = omega (arith, within, sized .modes-are);
         }
+
+    pub text-fits : (kept room : ℕ) → job .modes ≤ most-modes → length (job .terms) ≤ most-terms → 16 + 21 * modes ≤ room
+        → TextFits job now-work after modes count from kept room
+    unfolding has-ended
+    text-fits kept room few light fits =
+        ended-fits job (history-of run) modes count from after has-ended kept (omega (arith, sized .modes-are)) (omega (arith, sized .count-is)) room
+        (omega (arith, new-has-room kept (omega arith) (omega arith), sized .modes-are))
 
     trials-are : trial-total (modes - from) ≡ trials job (job .modes - length (history-of run)) (history-of run)
     trials-are =
@@ -66,15 +75,16 @@ module _ (job : Job) (work now-work : List ℕ) (run after : Run) (holds : Holds
     pub ends : (weight total kept new : ℕ) (bytes rows journal end-work end-rows end-journal : List ℕ) → kept ≡ length (kept-of bytes)
         → weight ≡ run-weight job (history-of after)
         → end-rows ≡ written-at 0 (flatpack (job .modes) (history-of after)) rows
-        → (new ≡ length (new-text job kept (history-of run))) × (end-journal ≡ written-at 0 (new-text job kept (history-of run)) journal)
+        → (new ≡ length (noted-behind job kept (history-of after) from))
+        × (end-journal ≡ written-at 0 (noted-behind job kept (history-of after) from) journal)
         → end-work ≡ written-at 0 (replicate (8 * count) 0) now-work
         → total ≡ trial-total (modes - from)
         → Answers (λ given. done (ending job bytes (history-of run))) (lent work rows journal) (lent end-work end-rows end-journal)
         (Done (record { weight = weight; trials = total; kept = kept; new = new }))
     unfolding ending returned lent-then
     ends weight total kept new bytes rows journal end-work end-rows end-journal kept-is weighs rows-put lines-put work-put totalled =
-        let text : new-text job kept (history-of run) ≡ new-text job (length (kept-of bytes)) (history-of run) =
-        ap (λ k. new-text job k (history-of run)) kept-is in
+        let text : noted-behind job kept (history-of after) from ≡ new-text job (length (kept-of bytes)) (history-of run) =
+        ended-text job (history-of run) modes count from after has-ended kept ∙ ap (λ k. new-text job k (history-of run)) kept-is in
         answers (λ given. done (ending job bytes (history-of run))) (lent work rows journal) _ _
         (same-answer (weighs ∙ ap (run-weight job) (gone .merges)) (totalled ∙ trials-are) kept-is (lines-put .0 ∙ ap length text))
         (same-lent (work-put ∙ cleared) (rows-put ∙ ap (λ h. written-at 0 (flatpack (job .modes) h) rows) (gone .merges))

@@ -1,4 +1,4 @@
 // The journal: its lines written, and a run resumed from it.
-mod new_lines;
+pub mod new_lines;
 pub mod resuming;
 mod writing;

@@ -1,16 +1,14 @@
-// What a run writes: the header if nothing was kept, and a line for each merge that was not kept.
+// What is written of a run: the header if nothing was kept, and a line for each merge that was not kept.
 ghost use mathlib.Core.Path.{_≡_};
 ghost use mathlib.Core.List.{List};
 ghost use Prim.Native.Nat.{ℕ, _+_, _≤_, _<_};
 ghost use lib.ListN.{length};
 ghost use Rattle.lists.specs.Written.{«written-at»};
-ghost use Rattle.entities.specs.declared.Triple.{Triple as Three};
 ghost use Rattle.terms.specs.Job.{Job};
 ghost use Rattle.merging.specs.code.State.{«history-of»};
 ghost use Rattle.journal.specs.Writing.{«header-behind»};
-ghost use Rattle.journal.specs.computed.NewText.{«new-text»};
 ghost use Rattle.obeying.specs.code.Sized.{Sized};
-ghost use Rattle.journal.specs.code.NewLines.{«noted-line», «noted-from», StepFits, StepsFit, Ended};
+ghost use Rattle.journal.specs.code.NewLines.{«noted-line», «noted-from», «noted-behind», StepFits, StepsFit, TextFits};
 use crate::writing;
 use merging::asked;
 use merging::run::Run;
@@ -52,7 +50,7 @@ fn put_first(modes: usize, count: usize, kept: usize, journal: &mut [u8]) -> usi
     writing::put_header(journal, modes as u16, count as u16)
 }
 
-// All that a finished run writes over the front, where so many steps and bytes were kept; how many bytes that is.
+// The lines of a run's merges from one on, behind the header if nothing was kept, written over the front; how many bytes that is.
 pub fn write_new(
     run: Run,
     modes: usize,
@@ -61,9 +59,8 @@ pub fn write_new(
     kept: usize,
     journal: &mut [u8],
 ) -> usize
-    requires { ⌜ (modes < 65536) × (count < 65536) ⌝ }
-    requires { ⌜ ((job : Job) × ((history : List Three) × (Ended job history modes count from run × (length (new-text job kept history) ≤ length (now journal))))) ⌝ }
-    ensures { λ r. ⌜ ((job : Job) (history : List Three) → Ended job history modes count from run → length (new-text job kept history) ≤ length (now (journal .entry)) → (r ≡ length (new-text job kept history)) × (now (journal .exit) ≡ written-at 0 (new-text job kept history) (now (journal .entry)))) ⌝ }
+    requires { ⌜ ((job : Job) × ((own : List ℕ) × TextFits job own run modes count from kept (length (now journal)))) ⌝ }
+    ensures { λ r. ⌜ ((job : Job) (own : List ℕ) → TextFits job own run modes count from kept (length (now (journal .entry))) → (r ≡ length (noted-behind job kept (history-of run) from)) × (now (journal .exit) ≡ written-at 0 (noted-behind job kept (history-of run) from) (now (journal .entry)))) ⌝ }
 {
     let start = put_first(modes, count, kept, journal);
     put_steps(run, from, journal, start)

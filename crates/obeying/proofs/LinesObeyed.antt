@@ -1,7 +1,7 @@
 -- Line by line: what the lines ahead come to, after what was made so far, is the whole answer.
 use mathlib.Core.Path.{_≡_, refl, _∙_, sym}
 use mathlib.Core.Bool.{Bool}
-use mathlib.Core.List.{List, [], _∷_}
+use mathlib.Core.List.{List, [], _∷_, _++_}
 use Prim.Native.Nat.{ℕ}
 use Rattle.refusal.specs.declared.Refusal.{Refusal}
 use Rattle.entities.specs.declared.Triple.{Triple}
@@ -21,6 +21,13 @@ pub refused-stays : (by-hand : Bool) (job : Job) (made : List Triple) (why : Ref
 unfolding obeyed-lines obeyed-next
 refused-stays by-hand job made why [] = refl
 refused-stays by-hand job made why (bytes ∷ rest) = refused-stays by-hand job made why rest
+
+-- Lines obeyed one after the other are obeyed together.
+pub lines-on-lines : (by-hand : Bool) (job : Job) (so-far : Obeyed) (first more : List (List ℕ))
+    → obeyed-lines by-hand job so-far (first ++ more) ≡ obeyed-lines by-hand job (obeyed-lines by-hand job so-far first) more
+unfolding obeyed-lines
+lines-on-lines by-hand job so-far [] more = refl
+lines-on-lines by-hand job so-far (bytes ∷ first) more = lines-on-lines by-hand job (obeyed-next by-hand job bytes so-far) first more
 
 module _ (by-hand : Bool) (job : Job) (first-rows : List ℕ) (answer : Obeyed) where
   pub record Along (run : Run) (rows : List ℕ) (ahead : List (List ℕ)) : Type 0 where

@@ -1,8 +1,6 @@
 -- Eighteen numbers and a place below 65536 fit.
 use native.Mathlib.Omega.{arith}
 use borrow.Author.Needs.{needs}
-use Rattle.refusal.proofs.number.Reads as number-reads
-use Rattle.refusal.proofs.place.Reads as place-reads
 use Rattle.call_bytes.proofs.RefusalNumbers.{number-small}
 use Rattle.call_bytes.proofs.refusal_result.Statement.{statement}
 use Rattle.call_bytes.proofs.refusal_result.Tie as tie

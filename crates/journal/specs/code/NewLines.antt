@@ -1,6 +1,6 @@
 -- What the code writes of a finished run: the lines of the merges that it has made.
 use mathlib.Core.Path.{_≡_}
-use mathlib.Core.List.{List, flatMap}
+use mathlib.Core.List.{List, _++_, flatMap}
 use Prim.Native.Nat.{ℕ, _+_, _-_, _<_, _≤_}
 use lib.ListN.{length}
 use Rattle.lists.specs.Ranges.{listed}
@@ -11,7 +11,7 @@ use Rattle.merging.specs.History.{merge-of, history-before}
 use Rattle.merging.specs.computed.Greedy.{finished}
 use Rattle.merging.specs.code.State.{history-of}
 use Rattle.merging.specs.code.Runs.{Holds}
-use Rattle.journal.specs.Writing.{line-of}
+use Rattle.journal.specs.Writing.{line-of, header-behind}
 use Rattle.obeying.specs.code.Sized.{Sized}
 
 -- The line of one step.
@@ -39,6 +39,19 @@ pub record StepsFit (job : Job) (own : List ℕ) (run : Run) (from at room : ℕ
   pub begun : from ≤ length (history-of run)
   pub small : length (history-of run) < 65536
   pub fits : at + length (noted-from job (history-of run) from) ≤ room
+
+-- The same behind the header, if nothing was kept.
+abbrev pub noted-behind : Job → ℕ → List Triple → ℕ → List ℕ
+noted-behind job kept history from = header-behind job kept ++ noted-from job history from
+
+-- A run whose merges from one on are to be written, and room for that.
+pub record TextFits (job : Job) (own : List ℕ) (run : Run) (modes count from kept room : ℕ) : Type 0 where
+  pub holds : Holds job own run
+  pub sized : Sized job modes count
+  pub few : modes < 65536
+  pub light : count < 65536
+  pub begun : from ≤ length (history-of run)
+  pub fits : length (noted-behind job kept (history-of run) from) ≤ room
 
 -- A run that went on to its end by the greedy rule, from a history of so many merges.
 pub record Ended (job : Job) (history : List Triple) (modes count from : ℕ) (run : Run) : Type 0 where

@@ -10,7 +10,6 @@ use Rattle.lists.specs.Written.{written-at}
 use Rattle.lists.proofs.Behind.{nothing-written}
 use Rattle.call_bytes.specs.Bytes.{two-bytes}
 use Rattle.call_bytes.proofs.WordSteps.{two-next}
-use Rattle.call_bytes.proofs.words.put_word.Reads as put-word-reads
 use Rattle.call_bytes.proofs.words.put_words.Statement.{statement}
 use Rattle.call_bytes.proofs.words.put_words.Tie as tie
 

@@ -8,7 +8,6 @@ use Rattle.lists.specs.Ranges.{listed}
 use Rattle.lists.proofs.Writes.{all-of}
 use Rattle.call_bytes.specs.Bytes.{word-at}
 use Rattle.call_bytes.proofs.WordSteps.{word-next}
-use Rattle.call_bytes.proofs.words.word.Reads as word-reads
 use Rattle.call_bytes.proofs.words.read_words.Statement.{statement}
 use Rattle.call_bytes.proofs.words.read_words.Tie as tie
 

@@ -1,15 +1,8 @@
 -- The run goes on to its end; its rows, its new lines and the zeros are written, and nothing refuses.
-use Prim.Native.Nat.{_*_, _<_, _≤_}
 use native.Mathlib.Omega.{arith}
 use borrow.Author.Needs.{needs}
-use lib.ListN.{length}
-use Rattle.terms.specs.Job.{Job}
-use Rattle.merging.specs.code.State.{history-of}
 use Rattle.merging.proofs.Runs.{merges-within, rows-room}
-use Rattle.journal.specs.computed.NewText.{new-text}
-use Rattle.journal.specs.Promises.{lent}
-use Rattle.journal.specs.code.Finishing.{Finishing}
-use Rattle.journal.proofs.RunEnds.{at-the-end, has-ended, new-has-room, ends}
+use Rattle.journal.proofs.RunEnds.{at-the-end, text-fits, ends}
 use Rattle.journal.proofs.resuming.finish_run.Statement.{statement}
 use Rattle.journal.proofs.resuming.finish_run.Tie as tie
 
@@ -30,21 +23,6 @@ write-flatpack-requires c κs =
     let gone = finished .ensures job (given .holds) in
     (job, (_, (gone .holds, at-the-end job (start .args .work .now) _ (start .args .run) (finished .result) (given .holds) gone, omega (arith, given .rows-room, given .sized .modes-are))))
 
--- The new lines fit, whatever the job.
-lines-fit : (c : tie.After-write-new-arg) (job : Job)
-    → Finishing job (c .before .before .before .before .before .before .before .before .before .before .before .before .before .args .run) (c .before .before .before .before .before .before .before .before .before .before .before .before .before .args .modes) (c .before .before .before .before .before .before .before .before .before .before .before .before .before .args .count) (lent (c .before .before .before .before .before .before .before .before .before .before .before .before .before .args .work .now) (c .before .before .before .before .before .before .before .before .before .before .before .before .before .args .rows .now) (c .before .before .before .before .before .before .before .before .before .before .before .before .before .args .journal .now))
-    → length (new-text job (c .before .before .before .before .before .before .before .before .before .before .before .before .before .args .kept) (history-of (c .before .before .before .before .before .before .before .before .before .before .before .before .before .args .run))) ≤ length (c .before .before .before .before .before .before .before .before .before .before .before .before .before .args .journal .now)
-lines-fit c job given =
-    let args = c .before .before .before .before .before .before .before .before .before .before .before .before .before .args in
-    let finished = c .before .before .before .before .before .before .before .finished in
-    let gone = finished .ensures job (given .holds) in
-    let modes = given .sized .modes-are in
-    let count = given .sized .count-is in
-    let few : 3 * job .modes < 1000 = omega (arith, given .few) in
-    let light : length (job .terms) < 10000 = omega (arith, given .light) in
-    let fits = new-has-room job (args .work .now) _ (args .run) (finished .result) (given .holds) gone (args .kept) few light in
-    omega (arith, fits, given .journal-room)
-
 write-new-requires : tie.Need-write-new-requires
 write-new-requires c κs =
     let start = c .before .before .before .before .before .before .before .before .before .before .before .before .before in
@@ -52,8 +30,14 @@ write-new-requires c κs =
     let given = start .pre .1 in
     let finished = c .before .before .before .before .before .before .before .finished in
     let gone = finished .ensures job (given .holds) in
-    let ended = has-ended job (start .args .work .now) _ (start .args .run) (finished .result) (given .holds) gone _ _ _ (given .sized) (c .before .before .before .before .before .before .before .before .before .merges .ensures) in
-    ((omega (arith, given .few), omega (arith, given .light)), (job, (_, (ended, lines-fit c job given))))
+    let from = c .before .before .before .before .before .before .before .before .before .merges .ensures in (
+      job,
+      (
+        _,
+        text-fits job (start .args .work .now) _ (start .args .run) (finished .result) (given .holds) gone _ _ _ (given .sized) from _ _
+            (omega (arith, given .few, given .sized .modes-are)) (omega (arith, given .light, given .sized .count-is)) (given .journal-room),
+      ),
+    )
 
 mul-clear-front : tie.Need-mul-clear-front
 mul-clear-front c = search needs
@@ -92,11 +76,12 @@ returns c job bytes given kept-is =
     let finished = c .before .before .before .before .before .before .before .before .before .before .before .before .before .before .before .before .finished in
     let gone = finished .ensures job (given .holds) in
     let from = c .before .before .before .before .before .before .before .before .before .before .before .before .before .before .before .before .before .before .merges .ensures in
-    let ended = has-ended job (args .work .now) _ (args .run) (finished .result) (given .holds) gone _ _ _ (given .sized) from in
+    let text = text-fits job (args .work .now) _ (args .run) (finished .result) (given .holds) gone _ _ _ (given .sized) from (args .kept) _
+    (omega (arith, given .few, given .sized .modes-are)) (omega (arith, given .light, given .sized .count-is)) (given .journal-room) in
     ends job (args .work .now) _ (args .run) (finished .result) (given .holds) gone (args .modes) (args .count) _ (given .sized) from _ _ (args .kept) _ bytes
     (args .rows .now) (args .journal .now) _ _ _ kept-is (c .before .greedy-weight .ensures job _ (gone .holds))
     (c .before .before .before .before .before .before .before .before .before .before .before .before .write-flatpack .ensures job _ (gone .holds))
-    (c .before .before .before .before .before .before .before .before .write-new .ensures job _ ended (lines-fit (c .before .before .before .before .before .before .before .before .before) job given))
+    (c .before .before .before .before .before .before .before .before .write-new .ensures job _ text)
     (c .before .before .before .before .clear-front .ensures) (c .trial-total .ensures)
 
 pub finish-run-spec : {M : Type 1} → statement M
