@@ -7,9 +7,12 @@ use native.Mathlib.Omega.{arith}
 use borrow.Author.Tests.{leb-true, lt-leb, le-leb}
 use lib.Dec.{leb}
 use Rattle.lists.proofs.Tests.{both}
+use Rattle.refusal.specs.declared.Refusal.{Refusal}
 use Rattle.refusal.specs.declared.Refusal.the-variants.{Modes}
+use Rattle.refusal.specs.Numbers.{numberOf}
 use Rattle.terms.specs.Good.{modes-good, checked}
 use Rattle.terms.specs.declared.checking.Checked.the-variants.{Good, Refused as BadTerms}
+use Rattle.text.proofs.TermsRefused.{terms-refusal}
 use Rattle.steering.specs.Steering.{counted}
 
 module _ (most modes : ℕ) (numbers : List ℕ) where
@@ -37,3 +40,11 @@ module _ (most modes : ℕ) (numbers : List ℕ) where
           let f : BadTerms Modes ≡ Good count = rw m at e in
           let z : _≡_ {A = ℕ} 0 1 = cc in
           absurd (omega arith)
+
+  pub counted-refusal : (why : Refusal) → counted most modes numbers ≡ BadTerms why → numberOf why ≤ 4
+  unfolding counted
+  counted-refusal why = go (modes-good most modes)
+    where
+      go : (b : Bool) → cond (not b) (BadTerms Modes) (checked modes numbers) ≡ BadTerms why → numberOf why ≤ 4
+      go true e = terms-refusal modes numbers why e
+      go false e = let same : Modes ≡ why = cc in rw (← same) (omega arith)

@@ -2,3 +2,5 @@
 pub mod JobCounted
 pub mod JournalSteered
 pub mod ReasonTold
+pub mod SteeredObeyed
+pub mod SteerSuffices
