@@ -14,7 +14,7 @@ use Rattle.lists.proofs.Alike.{alike-self, alike-same}
 use Rattle.fields.specs.Texts.{spelt}
 use Rattle.fields.specs.Decimal.{is-number, value, decimal}
 use Rattle.fields.specs.Fields.{fields-after, fields}
-use Rattle.fields.specs.code.Reading.{numbers-good, opens, fields-behind, says-numbers}
+use Rattle.fields.specs.code.Reading.{fields-good, numbers-good, opens, fields-behind, says-numbers}
 use Rattle.fields.proofs.Tabbed.{no-tab}
 use Rattle.fields.proofs.NumbersTabbed.{numbers-are, value-at}
 use Rattle.fields.proofs.Openings.{opening, opened-fields, opens-with}
@@ -28,7 +28,7 @@ merge-empty [] e = refl
 merge-empty (byte ∷ line) e = absurd (omega arith)
 
 pub merge-broken : (line : List ℕ) → numbers-good 5 (fields line) ≡ false → merge-of-line line ≡ MergeBroken
-unfolding merge-of-line merge-good numbers-good
+unfolding merge-of-line merge-good fields-good
 merge-broken line e = rw e
 
 pub merge-said : (line found : List ℕ) → numbers-good 5 (fields line) ≡ true → found ≡ map value (fields line)
@@ -39,7 +39,7 @@ pub merge-said : (line found : List ℕ) → numbers-good 5 (fields line) ≡ tr
       triple = record { x = getD found 1 0; y = getD found 2 0; z = getD found 3 0 };
       weight = getD found 4 0;
     })
-unfolding merge-of-line merge-good numbers-good
+unfolding merge-of-line merge-good fields-good
 merge-said line found e f =
     let p = fields line in
     rw (e, f, value-at p 0, value-at p 1, value-at p 2, value-at p 3, value-at p 4)
@@ -75,7 +75,7 @@ module _ (line : List ℕ) where
   header-opens e = opens-with (spelt "hatt") ((spelt "1") ∷ []) line _ _ (header-fields (fields line) e)
 
   header-says : header-good (fields line) ≡ says-numbers header-opening 2 line
-  unfolding header-good numbers-good says-numbers
+  unfolding header-good fields-good says-numbers
   header-says = go (opens header-opening line) refl
     where
       go : (z : Bool) → opens header-opening line ≡ z → header-good (fields line) ≡ (z && numbers-good 2 (fields-behind header-opening line))
