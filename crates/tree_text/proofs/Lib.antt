@@ -1,0 +1,6 @@
+-- The laws of a tree's text and of what is printed for it.
+pub mod CodeFields
+pub mod NodeLines
+pub mod NodesAhead
+pub mod TreeLaid
+pub mod AnswersPrinted
