@@ -4,3 +4,5 @@ pub mod NodeLines
 pub mod NodesAhead
 pub mod TreeLaid
 pub mod AnswersPrinted
+pub mod AssignedRows
+pub mod AssignmentPrinted

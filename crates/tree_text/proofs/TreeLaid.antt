@@ -12,7 +12,7 @@ use Rattle.tree_text.specs.declared.nodes.Nodes.{Nodes}
 use Rattle.tree_text.specs.declared.nodes.Nodes.the-variants.{Are, Malformed}
 use Rattle.tree_text.specs.TreeInput.{TreeSaid, malformed}
 use Rattle.tree_text.specs.Answers.{table-of}
-use Rattle.tree_text.specs.code.Reading.{NodesRead, Reads, TreeRead, ReadsTree}
+use Rattle.tree_text.specs.code.Reading.{NodesRead, Reads, TreeRead, ReadsTree, RowsFit}
 
 -- Rows laid over the front of a table of their size.
 pub laid-front : (rows before part : List ℕ) (end : ℕ) → end ≡ 3 * modes-in rows → end ≤ length before
@@ -43,6 +43,11 @@ module _ (most : ℕ) (meant : TreeSaid) (rows : List ℕ) where
 pub modes-front : (most count : ℕ) (rows : List ℕ) → count ≤ most → length rows ≡ 4 * most → modes-in (take (4 * count) rows) ≡ count
 unfolding modes-in
 modes-front most count rows few room = rw (length-take-le (4 * count) rows (omega arith)) (omega arith)
+
+pub rows-fit : (most count : ℕ) (rows : List ℕ) → count ≤ most → length rows ≡ 4 * most → RowsFit most (take (4 * count) rows)
+rows-fit most count rows few room =
+    let exact = modes-front most count rows few room in
+    record { exact = rw exact (length-take-le (4 * count) rows (omega arith)); few = omega arith }
 
 pub tree-laid : {most : ℕ} {meant : TreeSaid} {rows : List ℕ} {count : ℕ} (table : List ℕ) → NodesRead most meant rows count → length rows ≡ 4 * most
     → take (3 * modes-in (take (4 * count) rows)) table ≡ table-of (take (4 * count) rows) → TreeRead most meant rows table count

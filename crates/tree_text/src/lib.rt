@@ -2,11 +2,14 @@
 ghost use Rattle.entities.specs.Limits.{«most-modes»};
 ghost use Rattle.text.specs.Running.{«program-rooms»};
 ghost use Rattle.text.specs.Output.{Prints};
-ghost use Rattle.tree_text.specs.Answers.{«check-text», «weigh-text»};
+ghost use Rattle.tree_text.specs.Answers.{«check-text», «weigh-text», «assign-text»};
 use text::Printed;
 
+mod assigned;
+mod assigned_rows;
 mod checked;
 mod code_fields;
+mod heuristics;
 mod nodes;
 mod trees;
 mod weighed;
@@ -33,6 +36,20 @@ pub fn weigh_answer(tree: &[u8], input: &[u8]) -> Printed
     let mut table = [0u16; 768];
     let mut bytes = [0u8; 8192];
     let count = weighed::print_weigh(tree, input, &mut rows, &mut table, &mut bytes);
+    Printed {
+        bytes: bytes,
+        count: count,
+    }
+}
+
+// What `assign` prints for a tree, the name of a heuristic and terms.
+pub fn assign_answer(tree: &[u8], heuristic: &[u8], input: &[u8]) -> Printed
+    ensures { λ r. ⌜ Prints (assign-text program-rooms (now (tree .entry)) (now (heuristic .entry)) (now (input .entry))) r ⌝ }
+{
+    let mut rows = [0u16; 1024];
+    let mut table = [0u16; 768];
+    let mut bytes = [0u8; 8192];
+    let count = assigned::print_assign(tree, heuristic, input, &mut rows, &mut table, &mut bytes);
     Printed {
         bytes: bytes,
         count: count,
