@@ -6,3 +6,5 @@ pub mod TreeLaid
 pub mod AnswersPrinted
 pub mod AssignedRows
 pub mod AssignmentPrinted
+pub mod NodesRead
+pub mod AssignSuffices

@@ -15,7 +15,7 @@ use Rattle.fields.specs.Lines.{lines, kept-of, first-line}
 use Rattle.fields.specs.Fields.{fields}
 use Rattle.fields.proofs.LineSteps.{lines-none, lines-next, kept-none, kept-more}
 use Rattle.tree_text.specs.TreeInput.{says-node, node-row, nodes-formed, malformed, tree-whole, tree-said}
-use Rattle.tree_text.specs.code.Reading.{NodeRead, NodePut, NodesRead}
+use Rattle.tree_text.specs.code.Reading.{NodeRead, NodePut, NodesFound}
 use Rattle.tree_text.proofs.NodeLines.{row-of-four}
 
 -- A row read into its place.
@@ -74,7 +74,7 @@ module _ (most : ℕ) (text rows : List ℕ) (at count end : ℕ) (p : Passing m
     unfolding tree-said tree-whole
     passing-none f = rw (all-formed, all-lines, f)
 
-    pub passing-all : length text ≤ at → (count ≡ 0 → ⊥) → NodesRead most (tree-said most text) rows count
+    pub passing-all : length text ≤ at → (count ≡ 0 → ⊥) → NodesFound most (tree-said most text) rows count
     unfolding tree-said tree-whole flatMap
     passing-all h some =
         let rows-are : flatMap node-row (lines text) ≡ take (4 * count) rows = p .stand ∙ rw none (append-nil (take (4 * count) rows)) in

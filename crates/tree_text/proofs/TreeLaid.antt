@@ -12,7 +12,7 @@ use Rattle.tree_text.specs.declared.nodes.Nodes.{Nodes}
 use Rattle.tree_text.specs.declared.nodes.Nodes.the-variants.{Are, Malformed}
 use Rattle.tree_text.specs.TreeInput.{TreeSaid, malformed}
 use Rattle.tree_text.specs.Answers.{table-of}
-use Rattle.tree_text.specs.code.Reading.{NodesRead, Reads, TreeRead, ReadsTree, RowsFit}
+use Rattle.tree_text.specs.code.Reading.{NodesFound, Reads, TreeRead, ReadsTree, RowsFit}
 
 -- Rows laid over the front of a table of their size.
 pub laid-front : (rows before part : List ℕ) (end : ℕ) → end ≡ 3 * modes-in rows → end ≤ length before
@@ -26,8 +26,8 @@ laid-front rows before part end size room e =
 
 -- What is known of an answer, case by case.
 module _ (most : ℕ) (meant : TreeSaid) (rows : List ℕ) where
-  pub nodes-read : (r : Nodes) → Reads most meant rows r → (count : ℕ) → r ≡ Are count → NodesRead most meant rows count
-  nodes-read r reads count e = rw e at reads
+  pub nodes-found : (r : Nodes) → Reads most meant rows r → (count : ℕ) → r ≡ Are count → NodesFound most meant rows count
+  nodes-found r reads count e = rw e at reads
 
   pub nodes-malformed : (r : Nodes) → Reads most meant rows r → (line : ℕ) → r ≡ Malformed line → meant ≡ malformed line
   nodes-malformed r reads line e = rw e at reads
@@ -49,7 +49,7 @@ rows-fit most count rows few room =
     let exact = modes-front most count rows few room in
     record { exact = rw exact (length-take-le (4 * count) rows (omega arith)); few = omega arith }
 
-pub tree-laid : {most : ℕ} {meant : TreeSaid} {rows : List ℕ} {count : ℕ} (table : List ℕ) → NodesRead most meant rows count → length rows ≡ 4 * most
+pub tree-laid : {most : ℕ} {meant : TreeSaid} {rows : List ℕ} {count : ℕ} (table : List ℕ) → NodesFound most meant rows count → length rows ≡ 4 * most
     → take (3 * modes-in (take (4 * count) rows)) table ≡ table-of (take (4 * count) rows) → TreeRead most meant rows table count
 tree-laid {most} {meant} {rows} {count} table read room front =
     let exact = modes-front most count rows (read .few) room in

@@ -23,13 +23,13 @@ pub record NodePut (line : List ℕ) (place : ℕ) (before after : List ℕ) (r 
   pub row : r ≡ true → after ≡ written-at place (node-row line) before
 
 -- So many nodes are read, at most as many as there may be, and their rows stand in front.
-pub record NodesRead (most : ℕ) (meant : TreeSaid) (rows : List ℕ) (count : ℕ) : Type 0 where
+pub record NodesFound (most : ℕ) (meant : TreeSaid) (rows : List ℕ) (count : ℕ) : Type 0 where
   pub says : meant ≡ nodes (take (4 * count) rows)
   pub few : count ≤ most
 
 -- A text read: the answer says what the text says.
 abbrev pub Reads : ℕ → TreeSaid → List ℕ → Nodes → Type 0
-Reads most meant rows (Are count) = NodesRead most meant rows count
+Reads most meant rows (Are count) = NodesFound most meant rows count
 Reads most meant rows (Malformed line) = meant ≡ malformed line
 
 -- The same with the table of the rows in front of another list.
