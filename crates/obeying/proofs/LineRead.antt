@@ -15,7 +15,7 @@ use Rattle.entities.specs.declared.Triple.{Triple}
 use Rattle.fields.specs.Texts.{spelt}
 use Rattle.fields.specs.Decimal.{is-number, value, decimal}
 use Rattle.fields.specs.Fields.{fields, tabbed}
-use Rattle.fields.specs.code.Reading.{numbers-good}
+use Rattle.fields.specs.code.Reading.{fields-good}
 use Rattle.fields.proofs.DecimalRead.{value-decimal, decimal-is-number}
 use Rattle.fields.proofs.Tabbed.{no-tab}
 use Rattle.fields.proofs.NumbersTabbed.{decimal-no-tab, fits, decimals-no-tab, decimals-are-numbers, values-of-decimals, fields-line, numbers-are, line-is}
@@ -45,7 +45,7 @@ module _ (said : MergeLine) where
   numbers-said = said .step ∷ (said .triple .x ∷ (said .triple .y ∷ (said .triple .z ∷ (said .weight ∷ []))))
 
   merge-said-back : every fits numbers-said ≡ true → merge-of-line (merge-text (said .step) (said .triple) (said .weight)) ≡ MergeIs said
-  unfolding merge-text numbers-good
+  unfolding merge-text fields-good
   merge-said-back e =
       let text = merge-text (said .step) (said .triple) (said .weight) in
       let parts : fields text ≡ map decimal numbers-said =
