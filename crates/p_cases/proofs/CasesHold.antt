@@ -75,7 +75,7 @@ use Rattle.text.specs.Output.{
 }
 use Rattle.steering.specs.Steering.{steered-as, counted, steered-with, steered-by, steered, steer-printed, steer-text}
 use Rattle.steering.specs.Reasons.{first-closed, reason-of, reason-said, reason-in, reason-with, reason-by, reason-text}
-use Rattle.tree_text.specs.TreeInput.{is-code, code-said, says-node, node-row, nodes-formed, tree-whole, tree-said}
+use Rattle.nodes_text.specs.TreeInput.{is-code, code-said, says-node, node-row, nodes-formed, tree-whole, tree-said}
 use Rattle.tree_text.specs.Answers.{
   weighed-with,
   weighed-as,
