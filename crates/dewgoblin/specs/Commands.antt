@@ -9,7 +9,8 @@ use Rattle.text.specs.Running.{program-rooms}
 use Rattle.text.specs.Output.{resume-text, continue-text}
 use Rattle.steering.specs.Steering.{steer-text}
 use Rattle.steering.specs.Reasons.{reason-text}
-use Rattle.tree_text.specs.Answers.{check-text, weigh-text, assign-text}
+use Rattle.tree_text.specs.Answers.{check-text, weigh-text}
+use Rattle.assign_text.specs.Assigning.{assign-text}
 
 -- The commands whose file is a journal or merges by hand. `continue` has the new lines alone, and so has `journal`, for which an empty file is
 -- read; the starter lets no other name through.

@@ -53,7 +53,7 @@ fn answer(name: &[u8], word: &[u8], input: &[u8], file: &[u8]) -> Printed
         return tree_text::weigh_answer(file, input);
     }
     if parts::same_bytes(name, b"assign") {
-        return tree_text::assign_answer(file, word, input);
+        return assign_text::assign_answer(file, word, input);
     }
     journal_answer(name, input, file)
 }

@@ -1,6 +1,5 @@
 -- Demand 3: the journal of a call that is done, cut after any byte that isn't before the end of what it kept, resumes to the same end.
 use mathlib.Core.Path.{_≡_, ap, _∙_, sym}
-use mathlib.Core.Bool.{true}
 use mathlib.Core.List.{List, [], _++_, flatMap}
 use mathlib.Core.Logic.{⊎-elim}
 use Prim.Native.Nat.{ℕ, _+_, _-_, _*_, _<_, _≤_}

@@ -5,7 +5,7 @@ use mathlib.Core.List.{List, [], _∷_, _++_, append-nil, append-assoc}
 use Prim.Native.Nat.{ℕ, zero, suc, _+_, _<_, _≤_}
 use native.Mathlib.Omega.{arith}
 use lib.ListN.{length, getD, drop, drop-of-length-le}
-use Rattle.lists.specs.Members.{some-of, firsts-after, firsts}
+use Rattle.lists.specs.Members.{some-of, firsts-after}
 use Rattle.lists.proofs.Tests.{neither}
 use Rattle.lists.proofs.Steps.{drop-step}
 

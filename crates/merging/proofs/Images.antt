@@ -4,7 +4,6 @@ use mathlib.Core.List.{List, [], _∷_}
 use mathlib.Core.Logic.{inl, inr, ⊎-elim}
 use Prim.Native.Nat.{ℕ}
 use native.Mathlib.Omega.{arith}
-use lib.ListN.{length}
 use Rattle.entities.specs.declared.Triple.{Triple}
 use Rattle.terms.specs.Job.{Job}
 use Rattle.terms.specs.Reduction.{sorted, rewriting}

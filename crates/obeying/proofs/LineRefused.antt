@@ -8,15 +8,7 @@ use borrow.Author.Tests.{ltb-true}
 use lib.Dec.{eqb, ltb}
 use lib.ListN.{length}
 use Rattle.refusal.specs.declared.Refusal.{Refusal}
-use Rattle.refusal.specs.declared.Refusal.the-variants.{
-  LineForm,
-  Header as OtherHeader,
-  StepNotNext,
-  ChildNotOpen,
-  NotLawful,
-  WeightUntrue,
-  LineAfterLast,
-}
+use Rattle.refusal.specs.declared.Refusal.the-variants.{Header as OtherHeader, StepNotNext, ChildNotOpen, NotLawful, WeightUntrue, LineAfterLast}
 use Rattle.refusal.specs.Numbers.{numberOf, placeOf}
 use Rattle.entities.specs.declared.Triple.{Triple}
 use Rattle.fields.specs.Lines.{lines}

@@ -1,6 +1,5 @@
 -- "The lines are obeyed in order": what lines that were obeyed to a history have said.
 use mathlib.Core.Path.{_≡_}
-use mathlib.Core.Bool.{Bool}
 use mathlib.Core.List.{List, []}
 use Prim.Native.Nat.{ℕ, suc, _-_, _<_, _≤_}
 use lib.ListN.{length, getD}

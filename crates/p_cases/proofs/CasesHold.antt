@@ -76,20 +76,8 @@ use Rattle.text.specs.Output.{
 use Rattle.steering.specs.Steering.{steered-as, counted, steered-with, steered-by, steered, steer-printed, steer-text}
 use Rattle.steering.specs.Reasons.{first-closed, reason-of, reason-said, reason-in, reason-with, reason-by, reason-text}
 use Rattle.nodes_text.specs.TreeInput.{is-code, code-said, says-node, node-row, nodes-formed, tree-whole, tree-said}
-use Rattle.tree_text.specs.Answers.{
-  weighed-with,
-  weighed-as,
-  weight-line,
-  weigh-printed,
-  weigh-text,
-  heuristic-of,
-  assigned-with,
-  row-in,
-  assigned-rows,
-  assign-printed,
-  assign-as,
-  assign-text,
-}
+use Rattle.tree_text.specs.Answers.{weighed-with, weighed-as, weight-line, weigh-printed, weigh-text}
+use Rattle.assign_text.specs.Assigning.{heuristic-of, assigned-with, row-in, assigned-rows, assign-printed, assign-as, assign-text}
 use Rattle.newick_line.specs.NewickLine.{line-as, table-line, newick-printed, newick-answer-text}
 use Rattle.call_bytes.specs.Bytes.{word-at, words, two-bytes, eight-bytes}
 use Rattle.daemon.specs.Calls.{roomy as bytes-roomy, with-terms as with-bytes, resume-called, hatt-called}

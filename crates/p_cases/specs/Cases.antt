@@ -19,7 +19,8 @@ use Rattle.text.specs.Running.{program-rooms}
 use Rattle.text.specs.Output.{answer-text}
 use Rattle.steering.specs.Steering.{steer-text}
 use Rattle.steering.specs.Reasons.{reason-text}
-use Rattle.tree_text.specs.Answers.{weigh-text, assign-text}
+use Rattle.tree_text.specs.Answers.{weigh-text}
+use Rattle.assign_text.specs.Assigning.{assign-text}
 use Rattle.newick_line.specs.NewickLine.{newick-answer-text}
 use Rattle.daemon.specs.Calls.{lent as bytes-lent, hatt-called}
 use Rattle.daemon.specs.Promises.{result-of, lent-then as bytes-left}

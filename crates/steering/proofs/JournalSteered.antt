@@ -1,7 +1,7 @@
 -- Merges by hand that were obeyed, as the code comes to them: their journal, or the refusal.
 use mathlib.Core.Path.{_≡_, sym, _∙_, ap}
 use mathlib.Core.List.{List}
-use Prim.Native.Nat.{ℕ, _+_, _*_, _≤_}
+use Prim.Native.Nat.{ℕ, _≤_}
 use native.Mathlib.Omega.{arith}
 use borrow.Author.Tests.{eq-eqb, ne-eqb}
 use lib.ListN.{length}
@@ -25,7 +25,7 @@ use Rattle.journal.specs.code.NewLines.{noted-behind, TextFits}
 use Rattle.journal.proofs.JournalRoom.{journal-fits}
 use Rattle.journal.proofs.JournalText.{journal-noted}
 use Rattle.text.specs.code.Printing.{Puts}
-use Rattle.steering.specs.Steering.{Steered, writes, refuses, steered-as}
+use Rattle.steering.specs.Steering.{writes, refuses, steered-as}
 
 module _ (job : Job) (merges : List ℕ) where
   module _ (history : List Triple) where

@@ -1,5 +1,5 @@
 -- A reason as the code comes to it: nothing, or a word and a number.
-use mathlib.Core.Path.{_≡_, refl, sym, _∙_, ap}
+use mathlib.Core.Path.{_≡_, _∙_, ap}
 use mathlib.Core.List.{List, [], _∷_, _++_, append-assoc}
 use Prim.Native.Nat.{ℕ, _+_, _≤_}
 use native.Mathlib.Nat.{zero-add}
@@ -23,10 +23,6 @@ use Rattle.obeying.specs.code.Obeys.{came-to}
 use Rattle.text.specs.Output.{line-of}
 use Rattle.text.specs.code.Printing.{Puts}
 use Rattle.steering.specs.Reasons.{first-closed, reason-line, reason-of, reason-in}
-
-pub nothing-puts : (before : List ℕ) → Puts [] before before 0
-unfolding written-at
-nothing-puts before = record { count = refl; fits = omega arith; bytes = refl }
 
 -- A word with its tab, a number and LF.
 module _ (word : List ℕ) (number : ℕ) where

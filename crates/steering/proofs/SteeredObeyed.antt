@@ -12,7 +12,7 @@ use Rattle.refusal.specs.declared.Refusal.{Refusal}
 use Rattle.refusal.specs.declared.Refusal.the-variants.{LineForm}
 use Rattle.entities.specs.declared.Triple.{Triple}
 use Rattle.entities.specs.Limits.{most-modes, most-terms}
-use Rattle.fields.specs.Lines.{lines, kept-of}
+use Rattle.fields.specs.Lines.{kept-of}
 use Rattle.fields.proofs.LinesJoined.{kept-front}
 use Rattle.terms.specs.Job.{Job, job-of}
 use Rattle.terms.specs.Good.{modes-good, checked}
@@ -22,26 +22,13 @@ use Rattle.terms.proofs.RowSteps.{length-terms}
 use Rattle.terms.proofs.StaysGood.{accepted}
 use Rattle.obeying.specs.Obeying.{line-after, Obeyed, went, refused, obeyed-by-hand}
 use Rattle.obeying.proofs.LineRead.{hand-numbers}
-use Rattle.obeying.proofs.Obedience.{HandObedient, hand-obedient}
+use Rattle.obeying.proofs.Obedience.{hand-obedient}
 use Rattle.journal.specs.Writing.{journal-text}
-use Rattle.journal.specs.Resuming.{done, ending, resumed}
 use Rattle.journal.proofs.CallDone.{rooms-fit, done-in}
 use Rattle.journal.proofs.JournalText.{journal-obeyed}
 use Rattle.terms_text.specs.Input.{Said, given, malformed, said}
 use Rattle.text.specs.Running.{program-rooms, ran-by, ran}
-use Rattle.steering.specs.Steering.{
-  Steered,
-  writes,
-  refuses,
-  steered-as,
-  counted,
-  steered-with,
-  steered-by,
-  steered,
-  AsWritten,
-  Steers,
-  SteeredIsObeyed,
-}
+use Rattle.steering.specs.Steering.{writes, refuses, steered-as, counted, steered-with, steered-by, steered, AsWritten, Steers, SteeredIsObeyed}
 use Rattle.steering.proofs.JobCounted.{counted-good}
 
 not-written : {A : Type 0} (refusal : Refusal) (journal : List ℕ) → refuses refusal ≡ writes journal → A

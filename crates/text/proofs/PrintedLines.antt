@@ -28,6 +28,11 @@ pub wrote-puts : {text before after : List ℕ} {end : ℕ} → Wrote 0 text bef
 wrote-puts wrote room = record { count = omega (arith, wrote .behind); fits = omega (arith, wrote .behind); bytes = wrote .written }
 
 -- Written over the front of a list's front, a part is written over the list's.
+-- Nothing printed leaves what is lent as it was.
+pub puts-none : (before : List ℕ) → Puts [] before before 0
+unfolding written-at
+puts-none before = record { count = refl; fits = omega arith; bytes = refl }
+
 pub front-over : (part s : List ℕ) (room : ℕ) → length part ≤ room → room ≤ length s → written-at 0 part (take room s) ++ drop room s ≡ written-at 0 part s
 unfolding written-at
 front-over part s room h k =

@@ -2,17 +2,17 @@
 use mathlib.Core.Path.{_≡_, refl, ap, _∙_, sym}
 use mathlib.Core.Bool.{Bool, true, false, cond, not}
 use mathlib.Core.List.{List, [], _∷_}
-use Prim.Native.Nat.{ℕ, _+_, _*_, _/_, _%_, _≤_}
+use Prim.Native.Nat.{ℕ, _+_, _/_, _%_, _≤_}
 use native.Mathlib.Omega.{arith}
 use borrow.Author.Tests.{leb-true}
-use lib.Dec.{eqb, ltb, leb}
+use lib.Dec.{leb}
 use lib.ListN.{length, getD, length-append}
 use Rattle.lists.specs.Members.{every}
 use Rattle.lists.proofs.Tests.{both}
 use Rattle.refusal.specs.declared.Refusal.{Refusal}
-use Rattle.refusal.specs.declared.Refusal.the-variants.{Modes, TermNumbers, TooManyTerms, BadRow, Room}
+use Rattle.refusal.specs.declared.Refusal.the-variants.{Modes, Room}
 use Rattle.refusal.specs.Numbers.{numberOf, placeOf}
-use Rattle.entities.specs.Limits.{most-modes, most-terms, row-width}
+use Rattle.entities.specs.Limits.{most-modes, most-terms}
 use Rattle.fields.specs.Texts.{spelt}
 use Rattle.fields.specs.Decimal.{digits, decimal}
 use Rattle.fields.specs.Fields.{fields, tabbed}

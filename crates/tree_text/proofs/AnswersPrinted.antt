@@ -1,11 +1,10 @@
 -- What is printed, told by what the texts were read to say.
-use mathlib.Core.Path.{_≡_, refl, ap, _∙_, sym}
+use mathlib.Core.Path.{_≡_, refl, ap, _∙_}
 use mathlib.Core.List.{List, [], _∷_, _++_}
 use Prim.Native.Nat.{ℕ, _*_}
 use native.Mathlib.Omega.{arith}
 use lib.ListN.{length, take, replicate, length-replicate}
 use Rattle.lists.specs.Written.{written-at}
-use Rattle.lists.proofs.Behind.{nothing-written}
 use Rattle.refusal.specs.declared.Refusal.the-variants.{Malformed as Badly}
 use Rattle.entities.specs.Limits.{most-modes}
 use Rattle.fields.specs.Texts.{spelt}
@@ -23,10 +22,6 @@ use Rattle.text.specs.code.Printing.{Puts}
 use Rattle.nodes_text.specs.TreeInput.{malformed, tree-said}
 use Rattle.tree_text.specs.Answers.{checked-as, weighed-with, weighed-as, weight-line}
 use Rattle.tree_text.specs.code.Reading.{TreeRead}
-
--- Nothing is printed.
-pub puts-none : (before : List ℕ) → Puts [] before before 0
-puts-none before = record { count = refl; fits = omega arith; bytes = sym (nothing-written 0 before) }
 
 -- A weight's line is its word with a tab, the number and LF.
 pub weight-parts : (weight : ℕ) → spelt "weight\t" ++ (decimal weight ++ (10 ∷ [])) ≡ weight-line weight

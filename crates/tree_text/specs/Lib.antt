@@ -1,3 +1,3 @@
--- What the commands on trees print: the answers of `check`, `weigh` and `assign`.
+-- What the commands `check` and `weigh` print.
 pub mod Answers
 pub mod code

@@ -1,6 +1,5 @@
 -- The first state holds the call's job; the first line is the header, and the others are obeyed from there.
 use mathlib.Core.Path.{refl, sym}
-use native.Mathlib.Omega.{arith}
 use borrow.Author.Needs.{needs}
 use lib.Seq.{length-take-le}
 use Rattle.fields.proofs.LineSteps.{lines-none}

@@ -1,8 +1,8 @@
 -- The header and the lines behind it are all that is written.
-use mathlib.Core.Path.{_∙_, sym}
+use mathlib.Core.Path.{_∙_}
 use native.Mathlib.Omega.{arith}
 use borrow.Author.Needs.{needs}
-use lib.ListN.{length, length-append}
+use lib.ListN.{length-append}
 use Rattle.lists.proofs.Behind.{written-behind-front}
 use Rattle.merging.specs.code.State.{history-of}
 use Rattle.journal.specs.Writing.{header-behind}

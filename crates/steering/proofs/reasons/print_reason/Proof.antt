@@ -7,7 +7,7 @@ use lib.ListN.{length}
 use lib.Seq.{length-take-le}
 use Rattle.terms_text.proofs.InputSaid.{given-few, given-says, malformed-says}
 use Rattle.steering.specs.Reasons.{reason-by, reason-text}
-use Rattle.steering.proofs.ReasonTold.{nothing-puts}
+use Rattle.text.proofs.PrintedLines.{puts-none}
 use Rattle.steering.proofs.reasons.print_reason.Statement.{statement}
 use Rattle.steering.proofs.reasons.print_reason.Tie as tie
 
@@ -46,7 +46,7 @@ unfolding reason-text reason-by
 returns c =
     let args = c .before .before .before .before .before .before .before .before .before .before .before .args in
     let told = c .before .line .given in
-    rw (sym (malformed-says 2048 (args .input .now) _ _ (c .before .before .before .before .before .read-input .ensures) _ (told .1))) (nothing-puts (args .out .now))
+    rw (sym (malformed-says 2048 (args .input .now) _ _ (c .before .before .before .before .before .read-input .ensures) _ (told .1))) (puts-none (args .out .now))
 
 same-length-2 : tie.Need-same-length-2
 same-length-2 c = search needs

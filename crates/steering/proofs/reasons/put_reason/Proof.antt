@@ -3,7 +3,8 @@ use native.Mathlib.Omega.{arith}
 use borrow.Author.Needs.{needs}
 use Rattle.fields.specs.Texts.{spelt}
 use Rattle.merging.specs.code.State.{history-of}
-use Rattle.steering.proofs.ReasonTold.{nothing-puts, line-puts, due-told, closed-told, weight-told, nothing-told}
+use Rattle.text.proofs.PrintedLines.{puts-none}
+use Rattle.steering.proofs.ReasonTold.{line-puts, due-told, closed-told, weight-told, nothing-told}
 use Rattle.steering.proofs.reasons.put_reason.Statement.{statement}
 use Rattle.steering.proofs.reasons.put_reason.Tie as tie
 
@@ -80,7 +81,7 @@ returns-4 : tie.Need-returns-4
 returns-4 c job holds =
     let args = c .before .before .before .before .before .args in
     rw (nothing-told job (history-of (args .run)) (args .number) (args .triple) (c .before .before .if1 .left) (c .before .if2 .left) (c .if3 .left))
-    (nothing-puts (args .out .now))
+    (puts-none (args .out .now))
 
 pub put-reason-spec : {M : Type 1} → statement M
 put-reason-spec =

@@ -2,7 +2,7 @@
 use mathlib.Core.Path.{sym, _∙_}
 use borrow.Author.Needs.{needs}
 use Rattle.steering.specs.Reasons.{reason-said, reason-in}
-use Rattle.steering.proofs.ReasonTold.{nothing-puts}
+use Rattle.text.proofs.PrintedLines.{puts-none}
 use Rattle.steering.proofs.reasons.put_refused.Statement.{statement}
 use Rattle.steering.proofs.reasons.put_refused.Tie as tie
 
@@ -44,7 +44,7 @@ returns-2 c job holds =
     let args = c .before .before .before .before .before .before .before .before .args in
     let line = c .before .before .before .line-at .ensures in
     let place = c .before .before .before .before .place .ensures in
-    rw (← place, ← line, sym (c .before .before .read-merge .ensures) ∙ c .enum-told .given .1) (nothing-puts (args .out .now))
+    rw (← place, ← line, sym (c .before .before .read-merge .ensures) ∙ c .enum-told .given .1) (puts-none (args .out .now))
 
 pub put-refused-spec : {M : Type 1} → statement M
 put-refused-spec =

@@ -4,7 +4,7 @@ use borrow.Author.Needs.{needs}
 use Rattle.terms.proofs.StaysGood.{accepted}
 use Rattle.steering.specs.Reasons.{reason-with, reason-by}
 use Rattle.steering.proofs.JobCounted.{counted-good}
-use Rattle.steering.proofs.ReasonTold.{nothing-puts}
+use Rattle.text.proofs.PrintedLines.{puts-none}
 use Rattle.steering.proofs.reasons.reason_given.Statement.{statement}
 use Rattle.steering.proofs.reasons.reason_given.Tie as tie
 
@@ -30,7 +30,7 @@ same-length c = search needs
 
 returns : tie.Need-returns
 unfolding reason-by reason-with
-returns c = rw (sym (c .before .before .before .count-terms .ensures) ∙ c .before .why .given .1) (nothing-puts (c .before .before .before .before .before .before .before .before .args .out .now))
+returns c = rw (sym (c .before .before .before .count-terms .ensures) ∙ c .before .why .given .1) (puts-none (c .before .before .before .before .before .before .before .before .args .out .now))
 
 same-length-2 : tie.Need-same-length-2
 same-length-2 c = search needs

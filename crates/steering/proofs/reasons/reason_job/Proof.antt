@@ -1,7 +1,8 @@
 -- What obeying came to is told, where it was refused.
 use borrow.Author.Needs.{needs}
 use Rattle.terms.specs.Job.{job-of}
-use Rattle.steering.proofs.ReasonTold.{nothing-puts, refused-told, fine-told}
+use Rattle.text.proofs.PrintedLines.{puts-none}
+use Rattle.steering.proofs.ReasonTold.{refused-told, fine-told}
 use Rattle.steering.proofs.reasons.reason_job.Statement.{statement}
 use Rattle.steering.proofs.reasons.reason_job.Tie as tie
 
@@ -40,7 +41,7 @@ returns-2 c =
     let job = job-of (args .modes) (args .count) (args .rows .now) in
     let obey = c .before .before .before .before .obey in
     rw (fine-told job (args .read .now) (obey .result .verdict) (obey .result .run) _ (obey .ensures .comes-to) (c .enum-told .given .1)) at
-    (nothing-puts (args .out .now))
+    (puts-none (args .out .now))
 
 pub reason-job-spec : {M : Type 1} → statement M
 reason-job-spec =

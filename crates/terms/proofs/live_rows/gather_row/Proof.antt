@@ -1,7 +1,6 @@
 -- A row of no term is passed over, and any other is put behind those gathered.
 use mathlib.Core.Path.{refl}
 use borrow.Author.Needs.{needs}
-use lib.ListN.{length}
 use Rattle.terms.proofs.RowSteps.{row-length}
 use Rattle.terms.proofs.live_rows.gather_row.Statement.{statement}
 use Rattle.terms.proofs.live_rows.gather_row.Tie as tie

@@ -1,7 +1,7 @@
 -- An accepted tree prints nothing, and another its refusal.
 use borrow.Author.Needs.{needs}
 use Rattle.tree_text.specs.Answers.{check-printed}
-use Rattle.tree_text.proofs.AnswersPrinted.{puts-none}
+use Rattle.text.proofs.PrintedLines.{puts-none}
 use Rattle.tree_text.proofs.checked.put_checked.Statement.{statement}
 use Rattle.tree_text.proofs.checked.put_checked.Tie as tie
 

@@ -1,0 +1,4 @@
+-- The laws of what `assign` prints.
+pub mod AssignedRows
+pub mod AssignmentPrinted
+pub mod AssignSuffices

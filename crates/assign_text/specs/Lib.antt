@@ -1,0 +1,3 @@
+-- What the command `assign` prints.
+pub mod Assigning
+pub mod code

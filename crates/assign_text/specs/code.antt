@@ -1,0 +1,2 @@
+-- How the code goes about an assignment: no promise needs it.
+pub mod Finding
