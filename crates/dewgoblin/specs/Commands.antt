@@ -1,13 +1,29 @@
--- What a command prints for a text and the journal that is read.
+-- What a command prints for the terms on standard input and the file that it is given.
 use mathlib.Core.Bool.{cond}
 use mathlib.Core.List.{List}
 use Prim.Native.Nat.{ℕ}
 use Rattle.lists.specs.Members.{alike}
+use Rattle.entities.specs.Limits.{most-modes}
 use Rattle.fields.specs.Texts.{spelt}
 use Rattle.text.specs.Running.{program-rooms}
 use Rattle.text.specs.Output.{resume-text, continue-text}
+use Rattle.steering.specs.Steering.{steer-text}
+use Rattle.steering.specs.Reasons.{reason-text}
+use Rattle.tree_text.specs.Answers.{check-text, weigh-text, assign-text}
 
--- `resume` has the lines of the resumed run; `continue` has its new lines alone, and so has `journal`, for which an empty journal is read.
-unfoldable pub command-text : List ℕ → List ℕ → List ℕ → List ℕ
-command-text name bytes read =
-    cond (alike name (spelt "resume")) (resume-text program-rooms bytes read) (continue-text program-rooms bytes read)
+-- The commands whose file is a journal or merges by hand. `continue` has the new lines alone, and so has `journal`, for which an empty file is
+-- read; the starter lets no other name through.
+unfoldable pub journal-command : List ℕ → List ℕ → List ℕ → List ℕ
+journal-command name bytes file =
+    cond (alike name (spelt "resume")) (resume-text program-rooms bytes file)
+    (cond (alike name (spelt "steer")) (steer-text program-rooms bytes file)
+    (cond (alike name (spelt "reason")) (reason-text program-rooms bytes file)
+    (continue-text program-rooms bytes file)))
+
+-- Those whose file is a tree; `assign` has one more word, the heuristic's.
+unfoldable pub command-text : List ℕ → List ℕ → List ℕ → List ℕ → List ℕ
+command-text name word bytes file =
+    cond (alike name (spelt "check")) (check-text most-modes file)
+    (cond (alike name (spelt "weigh")) (weigh-text program-rooms file bytes)
+    (cond (alike name (spelt "assign")) (assign-text program-rooms file word bytes)
+    (journal-command name bytes file)))

@@ -1,20 +1,21 @@
-// The program: the command that its first argument names, for the terms on standard input and the journal on descriptor 3; its answer on standard output, with a full stop behind it.
+// The program: the command that its first argument names, for the terms on standard input and the file on descriptor 3; its answer on standard output, with a full stop behind it.
 ghost use Prim.Native.Nat.{_≤_};
 ghost use lib.ListN.{length};
 ghost use Rattle.io.specs.Counts.{Counts};
 ghost use Rattle.text.specs.Output.{Prints};
-ghost use Rattle.dewgoblin.specs.Commands.{«command-text»};
+ghost use Rattle.dewgoblin.specs.Commands.{«journal-command», «command-text»};
 use fields::parts;
 use standard_input::Input;
+use steering::reasons;
 use text::Printed;
 use text::journals;
 
-// The starter opens the journal here.
-const JOURNAL: i32 = 3;
+// The starter opens the file here: a journal, merges by hand or a tree.
+const FILE: i32 = 3;
 
-// The journal that a command reads; `journal` reads none.
-fn read_journal(name: &[u8], journal: &mut [u8]) -> Input
-    ensures { λ r. ⌜ Counts (r .count) (now (journal .exit)) ⌝ }
+// The file that a command reads; `journal` reads none.
+fn read_file(name: &[u8], file: &mut [u8]) -> Input
+    ensures { λ r. ⌜ Counts (r .count) (now (file .exit)) ⌝ }
 {
     if parts::same_bytes(name, b"journal") {
         return Input {
@@ -22,17 +23,39 @@ fn read_journal(name: &[u8], journal: &mut [u8]) -> Input
             failed: false,
         };
     }
-    standard_input::read_input(JOURNAL, journal)
+    standard_input::read_input(FILE, file)
+}
+
+// The answer of a command whose file is a journal or merges by hand.
+fn journal_answer(name: &[u8], input: &[u8], file: &[u8]) -> Printed
+    ensures { λ r. ⌜ Prints (journal-command (now (name .entry)) (now (input .entry)) (now (file .entry))) r ⌝ }
+{
+    if parts::same_bytes(name, b"resume") {
+        return journals::resume_answer(input, file);
+    }
+    if parts::same_bytes(name, b"steer") {
+        return steering::steer_answer(input, file);
+    }
+    if parts::same_bytes(name, b"reason") {
+        return reasons::reason_answer(input, file);
+    }
+    journals::continue_answer(input, file)
 }
 
 // A command's answer.
-fn answer(name: &[u8], input: &[u8], read: &[u8]) -> Printed
-    ensures { λ r. ⌜ Prints (command-text (now (name .entry)) (now (input .entry)) (now (read .entry))) r ⌝ }
+fn answer(name: &[u8], word: &[u8], input: &[u8], file: &[u8]) -> Printed
+    ensures { λ r. ⌜ Prints (command-text (now (name .entry)) (now (word .entry)) (now (input .entry)) (now (file .entry))) r ⌝ }
 {
-    if parts::same_bytes(name, b"resume") {
-        return journals::resume_answer(input, read);
+    if parts::same_bytes(name, b"check") {
+        return tree_text::check_answer(file);
     }
-    journals::continue_answer(input, read)
+    if parts::same_bytes(name, b"weigh") {
+        return tree_text::weigh_answer(file, input);
+    }
+    if parts::same_bytes(name, b"assign") {
+        return tree_text::assign_answer(file, word, input);
+    }
+    journal_answer(name, input, file)
 }
 
 // An answer may be empty: the full stop tells it from none.
@@ -45,26 +68,28 @@ fn write_answer(printed: Printed)
     io::write_all(libc::STDOUT_FILENO, b".");
 }
 
-// A command by its name, in lent room for what it reads. One whose input failed says nothing, and its starter says why.
-fn run(name: &[u8], input: &mut [u8], journal: &mut [u8]) {
+// A command by its name and its other word, in lent room for what it reads. One whose input failed says nothing, and its starter says why.
+fn run(name: &[u8], word: &[u8], input: &mut [u8], file: &mut [u8]) {
     let terms = standard_input::read_input(libc::STDIN_FILENO, input);
     if terms.failed {
         return;
     }
-    let read = read_journal(name, journal);
+    let read = read_file(name, file);
     if read.failed {
         return;
     }
     let count = terms.count;
     let kept = read.count;
-    write_answer(answer(name, &input[..count], &journal[..kept]));
+    write_answer(answer(name, word, &input[..count], &file[..kept]));
 }
 
 fn main() {
     let mut name = [0u8; 16];
     let length = os::arg(1, &mut name);
-    // more than any well-formed text has, as for `hatt`; and more than the starter lets through of a journal
+    let mut word = [0u8; 16];
+    let width = os::arg(2, &mut word);
+    // more than any well-formed text has, as for `hatt`; and more than the starter lets through of a file
     let mut input = [0u8; 98304];
-    let mut journal = [0u8; 66000];
-    run(&name[..length], &mut input, &mut journal);
+    let mut file = [0u8; 66000];
+    run(&name[..length], &word[..width], &mut input, &mut file);
 }

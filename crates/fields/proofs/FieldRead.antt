@@ -17,7 +17,7 @@ use Rattle.lists.proofs.Every.{every-append, every-cons, every-uncons, every-fa
 use Rattle.fields.specs.declared.numbers.Field.{Field}
 use Rattle.fields.specs.declared.numbers.Field.the-variants.{Broken}
 use Rattle.fields.specs.Decimal.{is-digit, value-after, value, leads-well, is-number}
-use Rattle.fields.specs.code.Reading.{first-field, field-read, number-at, goes-on, ended-at}
+use Rattle.fields.specs.code.Reading.{first-field, field-read, field-at, number-at, goes-on, ended-at}
 use Rattle.fields.proofs.Numerals.{numeral, digit-bounds, value-more, value-beyond, leads-first}
 
 -- What comes of reading on, with so many digits of this value read.
@@ -80,7 +80,7 @@ pub nothing-begun : Begun []
 unfolding every leads-well least value
 nothing-begun = record { digits = refl; short = omega arith; leads = refl; size = omega arith }
 
-begun-ends : (begun : List ℕ) (place : ℕ) → Begun begun → ended-at (length begun) (value begun) place ≡ field-read begun place
+begun-ends : (begun : List ℕ) (place : ℕ) → Begun begun → ended-at (length begun) (value begun) place ≡ field-read is-number value begun place
 unfolding ended-at field-read is-number
 begun-ends begun place b = rw (b .digits, le-leb (length begun) 5 (b .short), b .leads)
 
@@ -169,7 +169,7 @@ stops begun byte rest b g = go (leb (value begun) 6553) refl
 
 -- Reading on from digits that a number may begin with.
 read-is : (begun rest : List ℕ) (place : ℕ) → Begun begun
-    → read-after (length begun) (value begun) place rest ≡ field-read (begun ++ first-field rest) (place + length (first-field rest))
+    → read-after (length begun) (value begun) place rest ≡ field-read is-number value (begun ++ first-field rest) (place + length (first-field rest))
 unfolding read-after first-field field-read
 read-is begun [] place b = rw (append-nil begun, add-zero place) (begun-ends begun place b)
 read-is begun (byte ∷ rest) place b =
@@ -182,12 +182,12 @@ read-is begun (byte ∷ rest) place b =
     On : Type 0
     On =
         is-digit byte ≡ true → goes-on (length begun) (value begun) ≡ true
-        → read-after (length more) (value more) (suc place) rest ≡ field-read (more ++ first-field rest) (suc place + length (first-field rest))
+        → read-after (length more) (value more) (suc place) rest ≡ field-read is-number value (more ++ first-field rest) (suc place + length (first-field rest))
 
     Goal : Type 0
     Goal =
         read-after (length begun) (value begun) place (byte ∷ rest)
-        ≡ field-read (begun ++ first-field (byte ∷ rest)) (place + length (first-field (byte ∷ rest)))
+        ≡ field-read is-number value (begun ++ first-field (byte ∷ rest)) (place + length (first-field (byte ∷ rest)))
 
     field : List ℕ
     field = begun ++ (byte ∷ first-field rest)
@@ -195,7 +195,7 @@ read-is begun (byte ∷ rest) place b =
     Next : Bool → Type 0
     Next z =
         cond z (read-after (suc (length begun)) (10 * value begun + (byte - 48)) (suc place) rest) Broken
-        ≡ field-read field (place + suc (length (first-field rest)))
+        ≡ field-read is-number value field (place + suc (length (first-field rest)))
 
     broken : is-number field ≡ false → Next false
     broken e = rw e
@@ -215,5 +215,5 @@ read-is begun (byte ∷ rest) place b =
     by-tab false e on = rw e (by-digit (is-digit byte) refl on)
 
 pub read-starts : (text : List ℕ) (at : ℕ) → number-at text at ≡ read-after 0 0 at (drop at text)
-unfolding number-at value value-after
+unfolding field-at value value-after
 read-starts text at = sym (read-is [] (drop at text) at nothing-begun)

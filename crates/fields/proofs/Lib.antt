@@ -6,7 +6,7 @@ pub mod FieldRead
 pub mod FieldsAhead
 pub mod FieldsCounted
 pub mod Openings
-pub mod NumbersAhead
+pub mod ReadingFields
 pub mod Tabbed
 pub mod LineSteps
 pub mod LinesJoined

@@ -15,7 +15,7 @@ use Rattle.lists.proofs.Every.{every-uncons}
 use Rattle.lists.proofs.Alike.{alike-self, alike-same}
 use Rattle.fields.specs.Decimal.{is-number}
 use Rattle.fields.specs.Fields.{fields-after, fields, tabbed}
-use Rattle.fields.specs.code.Reading.{opens, fields-behind, numbers-good, says-numbers, NumbersRead, LineRead}
+use Rattle.fields.specs.code.Reading.{opens, fields-behind, fields-good, numbers-good, says-numbers, NumbersRead, LineRead}
 use Rattle.fields.proofs.Tabbed.{no-tab, tabbed-fields, field-ended}
 
 -- Words with a tab behind each.
@@ -91,28 +91,29 @@ two-fields word [] e h = absurd (omega arith)
 two-fields word (a ∷ []) e h = absurd (omega arith)
 two-fields word (a ∷ (b ∷ parts)) e h = rw (alike-same a word e)
 
--- Each way that a line is read ends.
+-- A line that is too short, or not alike in front, doesn't open so.
 module _ (front line : List ℕ) where
-  pub read-short : (room : ℕ) (after : List ℕ) → length line ≤ length front → LineRead front line room after false
-  unfolding says-numbers opens
-  read-short room after h =
-      record { good = rw (le-ltb (length front) (length line) h); values = λ f. absurd (true≢false (sym f)) }
+  pub closed-short : length line ≤ length front → opens front line ≡ false
+  unfolding opens
+  closed-short h = rw (le-ltb (length front) (length line) h)
 
-  module _ (h : length front < length line) where
-    pub read-unlike : (room : ℕ) (after : List ℕ) → alike (take (length front) line) front ≡ false → LineRead front line room after false
-    unfolding says-numbers opens
-    read-unlike room after e =
-        record { good = rw (lt-ltb (length front) (length line) h, e); values = λ f. absurd (true≢false (sym f)) }
+  pub opens-alike : length front < length line → opens front line ≡ alike (take (length front) line) front
+  unfolding opens
+  opens-alike h = rw (lt-ltb (length front) (length line) h)
 
-    pub read-behind : (room : ℕ) (after : List ℕ) (r : Bool) → alike (take (length front) line) front ≡ true
-        → NumbersRead (fields-behind front line) room after r → LineRead front line room after r
-    unfolding says-numbers opens
-    read-behind room after r e n =
-        record { good = n .good ∙ rw (lt-ltb (length front) (length line) h, e); values = n .values }
+  -- Each way that a line is read ends.
+  pub read-closed : (room : ℕ) (after : List ℕ) → opens front line ≡ false → LineRead front line room after false
+  unfolding says-numbers
+  read-closed room after e = record { good = rw e; values = λ f. absurd (true≢false (sym f)) }
+
+  pub read-behind : (room : ℕ) (after : List ℕ) (r : Bool) → opens front line ≡ true
+      → NumbersRead (fields-behind front line) room after r → LineRead front line room after r
+  unfolding says-numbers
+  read-behind room after r e n = record { good = n .good ∙ rw e; values = n .values }
 
 -- A line behind no opening is its own fields; one without a byte has no number.
 plain-good : (count : ℕ) (line : List ℕ) → says-numbers [] count line ≡ numbers-good count (fields line)
-unfolding says-numbers opens alike numbers-good fields fields-after fields-behind every is-number
+unfolding says-numbers opens alike fields-good fields fields-after fields-behind every is-number
 plain-good count [] = go (eqb 1 count)
   where
     go : (b : Bool) → false ≡ (b && false)

@@ -4,7 +4,7 @@ ghost use mathlib.Core.List.{[]};
 ghost use Prim.Native.Nat.{_≤_};
 ghost use lib.ListN.{length};
 ghost use Rattle.fields.specs.Fields.{«fields-after»};
-ghost use Rattle.fields.specs.code.Reading.{«tab-in», «ended-at», «number-at», NumbersRead, LineRead};
+ghost use Rattle.fields.specs.code.Reading.{«tab-in», «ended-at», «number-at», opens, NumbersRead, LineRead};
 use crate::decimal;
 use crate::parts;
 
@@ -51,7 +51,7 @@ fn ended(count: usize, value: u32, end: usize) -> Field
 }
 
 // The field that begins at this place.
-fn read_number(text: &[u8], at: usize) -> Field
+pub fn read_number(text: &[u8], at: usize) -> Field
     requires { ⌜ at ≤ length (now text) ⌝ }
     ensures { λ r. ⌜ r ≡ number-at (now (text .entry)) at ⌝ }
 {
@@ -96,17 +96,25 @@ pub fn read_numbers(text: &[u8], numbers: &mut [u16]) -> bool
     false
 }
 
-// The line, LF included, is this opening and then as many numbers as there is room for, and they are put there.
-pub fn read_line(line: &[u8], opening: &[u8], numbers: &mut [u16]) -> bool
-    ensures { λ r. ⌜ LineRead (now (opening .entry)) (now (line .entry)) (length (now (numbers .entry))) (now (numbers .exit)) r ⌝ }
+// The line, LF included, opens with these bytes.
+pub fn opens(line: &[u8], opening: &[u8]) -> bool
+    ensures { λ r. ⌜ r ≡ opens (now (opening .entry)) (now (line .entry)) ⌝ }
 {
     let front = opening.len();
     if line.len() <= front {
         return false;
     }
-    if !parts::same_bytes(&line[..front], opening) {
+    parts::same_bytes(&line[..front], opening)
+}
+
+// The line, LF included, is this opening and then as many numbers as there is room for, and they are put there.
+pub fn read_line(line: &[u8], opening: &[u8], numbers: &mut [u16]) -> bool
+    ensures { λ r. ⌜ LineRead (now (opening .entry)) (now (line .entry)) (length (now (numbers .entry))) (now (numbers .exit)) r ⌝ }
+{
+    if !opens(line, opening) {
         return false;
     }
+    let front = opening.len();
     let end = line.len() - 1;
     read_numbers(&line[front..end], numbers)
 }

@@ -5,7 +5,7 @@ ghost use mathlib.Core.List.{List};
 ghost use Prim.Native.Nat.{ℕ, _<_};
 ghost use lib.ListN.{length};
 ghost use Rattle.terms.specs.Job.{Job};
-ghost use Rattle.merging.specs.History.{«merge-of», «history-before»};
+ghost use Rattle.merging.specs.History.{«merge-of», «history-before», «is-open»};
 ghost use Rattle.merging.specs.Lawful.{«three-open», paired};
 ghost use Rattle.merging.specs.Choice.{«weight-in»};
 ghost use Rattle.merging.specs.Run.{«run-weight»};
@@ -28,6 +28,13 @@ pub fn greedy_weight(run: Run) -> usize
     ensures { λ r. ⌜ ((job : Job) (rows : List ℕ) → Holds job rows run → r ≡ run-weight job (history-of run)) ⌝ }
 {
     run.weight
+}
+
+// The entity is open.
+pub fn is_open(run: Run, entity: u16) -> bool
+    ensures { λ r. ⌜ ((job : Job) (rows : List ℕ) → Holds job rows run → r ≡ is-open (job .modes) (history-of run) entity) ⌝ }
+{
+    lawful::marked(&run.opens, entity)
 }
 
 // Three open entities.

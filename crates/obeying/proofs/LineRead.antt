@@ -1,6 +1,6 @@
 -- A line that was written is read back as what it was to say, and a line that says something is the one that is written for it.
 use mathlib.Core.Path.{_≡_, refl, ap, _∙_}
-use mathlib.Core.Bool.{Bool, true, false}
+use mathlib.Core.Bool.{Bool, true, false, _&&_}
 use mathlib.Core.List.{List, [], _∷_, _++_, map}
 use Prim.Native.Nat.{ℕ, _-_, _≤_}
 use native.Mathlib.Omega.{arith}
@@ -11,17 +11,20 @@ use Rattle.lists.specs.Members.{every}
 use Rattle.lists.specs.Ranges.{listed}
 use Rattle.lists.proofs.Tests.{both}
 use Rattle.lists.proofs.Alike.{alike-self}
+use Rattle.entities.specs.declared.Triple.{Triple}
 use Rattle.fields.specs.Texts.{spelt}
 use Rattle.fields.specs.Decimal.{is-number, value, decimal}
 use Rattle.fields.specs.Fields.{fields, tabbed}
-use Rattle.fields.specs.code.Reading.{numbers-good}
+use Rattle.fields.specs.code.Reading.{fields-good}
 use Rattle.fields.proofs.DecimalRead.{value-decimal, decimal-is-number}
 use Rattle.fields.proofs.Tabbed.{no-tab}
 use Rattle.fields.proofs.NumbersTabbed.{decimal-no-tab, fits, decimals-no-tab, decimals-are-numbers, values-of-decimals, fields-line, numbers-are, line-is}
+use Rattle.terms.specs.Job.{Job}
 use Rattle.obeying.specs.declared.header.Header.the-variants.{Is as HeaderIs, Broken as HeaderBroken}
 use Rattle.obeying.specs.declared.merge_line.MergeLine.{MergeLine}
 use Rattle.obeying.specs.declared.merge_line.Merge.the-variants.{Is as MergeIs, Broken as MergeBroken}
 use Rattle.obeying.specs.LineForms.{header-good, header-of, merge-good, merge-of-line, header-text, merge-text}
+use Rattle.obeying.specs.Obeying.{completed, merge-by-hand}
 use Rattle.obeying.proofs.LineSaid.{merge-said, header-fields}
 
 module _ (modes terms : ℕ) (m : modes ≤ 65535) (t : terms ≤ 65535) where
@@ -42,7 +45,7 @@ module _ (said : MergeLine) where
   numbers-said = said .step ∷ (said .triple .x ∷ (said .triple .y ∷ (said .triple .z ∷ (said .weight ∷ []))))
 
   merge-said-back : every fits numbers-said ≡ true → merge-of-line (merge-text (said .step) (said .triple) (said .weight)) ≡ MergeIs said
-  unfolding merge-text numbers-good
+  unfolding merge-text fields-good
   merge-said-back e =
       let text = merge-text (said .step) (said .triple) (said .weight) in
       let parts : fields text ≡ map decimal numbers-said =
@@ -103,5 +106,34 @@ header-written line modes terms e last = go (header-good (fields line)) refl
         line-is line last ∙ ap (λ parts. tabbed parts ++ (10 ∷ [])) (header-fields (fields line) f) ∙ rw (m, t)
     go false f =
         let g : HeaderBroken ≡ HeaderIs modes terms = rw f at e in
+        let z : _≡_ {A = ℕ} 0 1 = cc in
+        absurd (omega arith)
+
+-- A line by hand that says a merge has its three numbers and no more.
+pub hand-numbers : (job : Job) (history : List Triple) (line : List ℕ) (said : MergeLine) → merge-by-hand job history line ≡ MergeIs said
+    → map value (fields line) ≡ said .triple .x ∷ (said .triple .y ∷ (said .triple .z ∷ []))
+unfolding merge-by-hand
+hand-numbers job history line said e = go (eqb (length (fields line)) 3 && every is-number (fields line)) refl
+  where
+    three : (parts : List (List ℕ)) → length parts ≡ 3
+        → map value parts ≡ value (getD parts 0 []) ∷ (value (getD parts 1 []) ∷ (value (getD parts 2 []) ∷ []))
+    three [] h = absurd (omega arith)
+    three (a ∷ []) h = absurd (omega arith)
+    three (a ∷ (b ∷ [])) h = absurd (omega arith)
+    three (a ∷ (b ∷ (c ∷ []))) h = refl
+    three (a ∷ (b ∷ (c ∷ (d ∷ rest)))) h = absurd (omega arith)
+
+    go : (z : Bool) → (eqb (length (fields line)) 3 && every is-number (fields line)) ≡ z
+        → map value (fields line) ≡ said .triple .x ∷ (said .triple .y ∷ (said .triple .z ∷ []))
+    go true f =
+        let x = value (getD (fields line) 0 []) in
+        let y = value (getD (fields line) 1 []) in
+        let z = value (getD (fields line) 2 []) in
+        let g : MergeIs (completed job history (record { x = x; y = y; z = z })) ≡ MergeIs said = rw f at e in
+        let same : completed job history (record { x = x; y = y; z = z }) ≡ said = cc in
+        three (fields line) (eqb-true (length (fields line)) 3 (both (eqb (length (fields line)) 3) (every is-number (fields line)) f .0))
+        ∙ ap (λ (m : MergeLine). m .triple .x ∷ (m .triple .y ∷ (m .triple .z ∷ []))) same
+    go false f =
+        let g : MergeBroken ≡ MergeIs said = rw f at e in
         let z : _≡_ {A = ℕ} 0 1 = cc in
         absurd (omega arith)

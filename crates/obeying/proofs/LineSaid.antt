@@ -15,7 +15,7 @@ use Rattle.entities.specs.declared.Triple.{Triple}
 use Rattle.fields.specs.Texts.{spelt}
 use Rattle.fields.specs.Decimal.{is-number, value, decimal}
 use Rattle.fields.specs.Fields.{fields}
-use Rattle.fields.specs.code.Reading.{numbers-good, opens, fields-behind, says-numbers}
+use Rattle.fields.specs.code.Reading.{fields-good, numbers-good, opens, fields-behind, says-numbers}
 use Rattle.fields.proofs.Tabbed.{no-tab}
 use Rattle.fields.proofs.NumbersTabbed.{numbers-are, value-at}
 use Rattle.fields.proofs.Openings.{opening, opened-fields, opens-with}
@@ -26,7 +26,7 @@ use Rattle.obeying.specs.LineForms.{header-good, header-of, merge-good, 
 use Rattle.obeying.specs.Obeying.{completed, merge-by-hand}
 
 pub merge-broken : (line : List ℕ) → numbers-good 5 (fields line) ≡ false → merge-of-line line ≡ MergeBroken
-unfolding merge-of-line merge-good numbers-good
+unfolding merge-of-line merge-good fields-good
 merge-broken line e = rw e
 
 pub merge-said : (line found : List ℕ) → numbers-good 5 (fields line) ≡ true → found ≡ map value (fields line)
@@ -37,7 +37,7 @@ pub merge-said : (line found : List ℕ) → numbers-good 5 (fields line) ≡ tr
       triple = record { x = getD found 1 0; y = getD found 2 0; z = getD found 3 0 };
       weight = getD found 4 0;
     })
-unfolding merge-of-line merge-good numbers-good
+unfolding merge-of-line merge-good fields-good
 merge-said line found e f =
     let p = fields line in
     rw (e, f, value-at p 0, value-at p 1, value-at p 2, value-at p 3, value-at p 4)
@@ -45,13 +45,13 @@ merge-said line found e f =
 -- A line by hand, likewise.
 module _ (job : Job) (history : List Triple) (line : List ℕ) where
   pub hand-broken : numbers-good 3 (fields line) ≡ false → merge-by-hand job history line ≡ MergeBroken
-  unfolding merge-by-hand numbers-good
+  unfolding merge-by-hand fields-good
   hand-broken e = rw e
 
   pub hand-said : (found : List ℕ) → numbers-good 3 (fields line) ≡ true → found ≡ map value (fields line)
       → merge-by-hand job history line
       ≡ MergeIs (completed job history (record { x = getD found 0 0; y = getD found 1 0; z = getD found 2 0 }))
-  unfolding merge-by-hand numbers-good
+  unfolding merge-by-hand fields-good
   hand-said found e f = let p = fields line in rw (e, f, value-at p 0, value-at p 1, value-at p 2)
 
 -- A header's fields: the word, the version and the two numbers, as they would be written.
@@ -85,7 +85,7 @@ module _ (line : List ℕ) where
   header-opens e = opens-with (spelt "hatt") ((spelt "1") ∷ []) line _ _ (header-fields (fields line) e)
 
   header-says : header-good (fields line) ≡ says-numbers header-opening 2 line
-  unfolding header-good numbers-good says-numbers
+  unfolding header-good fields-good says-numbers
   header-says = go (opens header-opening line) refl
     where
       go : (z : Bool) → opens header-opening line ≡ z → header-good (fields line) ≡ (z && numbers-good 2 (fields-behind header-opening line))

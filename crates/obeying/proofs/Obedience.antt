@@ -15,7 +15,7 @@ use Rattle.refusal.specs.declared.Refusal.the-variants.{LineForm, Header as Oth
 use Rattle.entities.specs.declared.Triple.{Triple}
 use Rattle.fields.specs.Lines.{lines}
 use Rattle.terms.specs.Job.{Job}
-use Rattle.merging.specs.History.{merge-of}
+use Rattle.merging.specs.History.{merge-of, history-before}
 use Rattle.merging.specs.Lawful.{Lawful, LawfulHistory}
 use Rattle.merging.specs.Choice.{weight-in}
 use Rattle.merging.proofs.Amounts.{merge-getD}
@@ -26,7 +26,7 @@ use Rattle.obeying.specs.declared.merge_line.Merge.the-variants.{Is as M
 use Rattle.obeying.specs.declared.judging.Judged.{Judged}
 use Rattle.obeying.specs.declared.judging.Judged.the-variants.{Obey, Refused}
 use Rattle.obeying.specs.LineForms.{header-of}
-use Rattle.obeying.specs.Obeying.{Obeyed, went, refused, line-said, judged-line, obeyed-as, obeyed-next, obeyed-lines, obeyed-header, obeyed-texts, obeyed}
+use Rattle.obeying.specs.Obeying.{Obeyed, went, refused, merge-by-hand, line-said, judged-line, obeyed-as, obeyed-next, obeyed-lines, obeyed-header, obeyed-texts, obeyed, obeyed-by-hand}
 use Rattle.obeying.specs.Obedience.{Obedient}
 use Rattle.obeying.proofs.LineJudged.{says-next}
 use Rattle.obeying.proofs.LinesObeyed.{refused-stays}
@@ -202,3 +202,27 @@ module _ (job : Job) where
   pub obedient : (bytes : List ℕ) (history : List Triple) → obeyed job bytes ≡ went history → Obedient job (lines bytes) history
   unfolding obeyed
   obedient bytes history e = texts-obedient (lines bytes) history e
+
+  -- Lines by hand: each says a merge, its step and weight filled in.
+  pub record HandObedient (texts : List (List ℕ)) (history : List Triple) : Type 0 where
+    pub lawful : LawfulHistory (job .modes) history
+    pub within : length history ≤ job .modes
+    pub a-line-each : length history ≡ length texts
+    pub says : (i : ℕ) → i < length history
+        → merge-by-hand job (history-before history i) (getD texts i []) ≡ MergeIs (record {
+          step = i;
+          triple = merge-of history i;
+          weight = weight-in job (history-before history i) (merge-of history i);
+        })
+
+  pub hand-obedient : (bytes : List ℕ) (history : List Triple) → obeyed-by-hand job bytes ≡ went history → HandObedient (lines bytes) history
+  unfolding obeyed-by-hand
+  hand-obedient bytes history e =
+      let all = all-added true job (lines bytes) [] history tt (omega arith) e in
+      let size : length (lines bytes) ≡ length history = omega (arith, all .longer) in
+      record {
+        lawful = all .lawful;
+        within = all .within;
+        a-line-each = omega arith;
+        says = λ i l. (let said = all .says i (omega arith) in rw (merge-getD history i l) (rw (zero-add i, size) at said));
+      }

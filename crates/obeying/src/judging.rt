@@ -4,7 +4,7 @@ ghost use Rattle.terms.specs.Job.{Job};
 ghost use Rattle.merging.specs.code.State.{«history-of»};
 ghost use Rattle.merging.specs.code.Runs.{Holds};
 ghost use Rattle.obeying.specs.Obeying.{«line-after», «judged-merge», «judged-line»};
-use crate::merge_line;
+use crate::by_hand;
 use crate::merge_line::Merge;
 use crate::merge_line::MergeLine;
 use merging::asked;
@@ -55,7 +55,7 @@ pub fn judge_line(run: Run, modes: usize, rows: &[u16], bytes: &[u8], by_hand: b
     if modes <= asked::merges(run) {
         return Judged::Refused(Refusal::LineAfterLast(line));
     }
-    match merge_line::read_said(run, rows, bytes, by_hand) {
+    match by_hand::read_said(run, rows, bytes, by_hand) {
         Merge::Is(said) => judge_merge(run, rows, said, line),
         Merge::Broken => Judged::Refused(Refusal::LineForm(line)),
     }

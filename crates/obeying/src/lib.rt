@@ -21,6 +21,7 @@ use merging::run;
 use merging::run::Run;
 use refusal::Refusal;
 
+mod by_hand;
 mod header;
 mod judging;
 pub mod merge_line;

@@ -13,7 +13,7 @@ use Rattle.lists.proofs.Alike.{alike-self}
 use Rattle.fields.specs.Texts.{spelt}
 use Rattle.fields.specs.Decimal.{value}
 use Rattle.fields.specs.Fields.{fields-after, fields}
-use Rattle.fields.specs.code.Reading.{numbers-good, opens, fields-behind, says-numbers}
+use Rattle.fields.specs.code.Reading.{fields-good, numbers-good, opens, fields-behind, says-numbers}
 use Rattle.fields.proofs.Tabbed.{no-tab}
 use Rattle.fields.proofs.NumbersTabbed.{value-at}
 use Rattle.fields.proofs.Openings.{opening, opened-fields, opens-with, two-fields}
@@ -39,7 +39,7 @@ module _ (line : List ℕ) where
       opens-with (spelt "modes") [] line _ _ (two-fields (spelt "modes") (fields line) (both (alike (getD (fields line) 0 []) (spelt "modes")) _ (p .1) .0) (omega arith))
 
   modes-says : modes-line (fields line) ≡ says-numbers modes-opening 1 line
-  unfolding modes-line numbers-good says-numbers
+  unfolding modes-line fields-good says-numbers
   modes-says = go (opens modes-opening line) refl
     where
       go : (z : Bool) → opens modes-opening line ≡ z → modes-line (fields line) ≡ (z && numbers-good 1 (fields-behind modes-opening line))
@@ -102,7 +102,7 @@ module _ (line : List ℕ) (count : ℕ) (size : suc count ≡ length (fields li
       opens-with (spelt "term") [] line _ _ (two-fields (spelt "term") (fields line) (t .first) (t .some))
 
   term-says : term-line (fields line) ≡ says-numbers term-opening count line
-  unfolding term-line numbers-good says-numbers
+  unfolding term-line fields-good says-numbers
   term-says = go (opens term-opening line) refl
     where
       go : (z : Bool) → opens term-opening line ≡ z → term-line (fields line) ≡ (z && numbers-good count (fields-behind term-opening line))

@@ -21,8 +21,9 @@ use Rattle.fields.proofs.Tabbed.{no-tab}
 use Rattle.fields.proofs.NumbersTabbed.{decimal-no-tab, fields-line}
 use Rattle.terms.specs.declared.checking.Checked.{Checked}
 use Rattle.terms.specs.declared.checking.Checked.the-variants.{Good, Refused}
-use Rattle.terms.specs.Good.{modes-good, good-rows, checked}
+use Rattle.terms.specs.Good.{modes-good, checked}
 use Rattle.terms.specs.Job.{Job, job-of}
+use Rattle.terms.proofs.StaysGood.{accepted}
 use Rattle.obeying.specs.Obeying.{Obeyed, went, refused, obeyed}
 use Rattle.journal.specs.Resuming.{Outcome, done, refuses, with-journal, with-terms, resumed}
 use Rattle.journal.proofs.CallDone.{rooms-fit, with-room}
@@ -30,6 +31,7 @@ use Rattle.terms_text.specs.Input.{Said, given, malformed, said}
 use Rattle.text.specs.Running.{program-rooms, ran-by, ran}
 use Rattle.text.specs.Output.{line-of, refusal-text, done-text, printed, resume-text, RoomSuffices}
 use Rattle.obeying.proofs.LineRefused.{journal-refusal}
+use Rattle.text.proofs.TermsRefused.{terms-refusal}
 
 -- The text of a refusal tells its number.
 second-field : (refusal : Refusal) → getD (fields (refusal-text refusal)) 1 [] ≡ decimal (numberOf refusal)
@@ -66,9 +68,6 @@ five-ended (done ending) e = absurd (omega (arith, ap (λ text. getD text 0 0) e
 five-ended (refuses refusal) e = refusal-five refusal e
 
 module _ (modes : ℕ) (numbers read : List ℕ) where
-  abbrev count : ℕ
-  count = length numbers / row-width
-
   abbrev number-with : Checked → ℕ
   number-with found = number-in (with-terms (program-rooms .run) modes numbers read found)
 
@@ -78,28 +77,16 @@ module _ (modes : ℕ) (numbers read : List ℕ) where
   journal-never job (went history) e h = omega arith
   journal-never job (refused made why) e h = omega (arith, h, journal-refusal job read made why e .1 .from)
 
-  -- With room for all, the journal decides.
-  room-never : modes ≤ most-modes → count ≤ most-terms → number-with (Good count) ≡ 5 → ⊥
-  room-never few short h =
+  -- Terms that are refused have other numbers, and with room for all the journal decides.
+  terms-never : modes ≤ most-modes → (found : Checked) → checked modes numbers ≡ found → number-with found ≡ 5 → ⊥
+  unfolding number-in with-terms
+  terms-never few (Good count) e h =
       let job = job-of modes count numbers in
-      let fits = rooms-fit (program-rooms .run) modes count (omega arith) (omega arith) (omega arith) in
+      let short = accepted modes numbers count e .at-most in
+      let fits = rooms-fit (program-rooms .run) modes count (omega (arith, short)) (omega arith) (omega arith) in
       let decides = ap number-in (with-room (program-rooms .run) modes numbers read count fits) in
       journal-never job (obeyed job read) refl (sym decides ∙ h)
-
-  terms-never : modes ≤ most-modes → number-with (checked modes numbers) ≡ 5 → ⊥
-  unfolding number-in with-terms checked
-  terms-never few =
-      go (eqb (length numbers % row-width) 0) (leb count most-terms) refl (ltb (good-rows (2 * modes) count numbers) count)
-    where
-      go : (a b : Bool) → leb count most-terms ≡ b → (c : Bool)
-          → number-with (cond (not a) (Refused TermNumbers)
-          (cond (not b) (Refused TooManyTerms) (cond c (Refused (BadRow (good-rows (2 * modes) count numbers))) (Good count))))
-          ≡ 5
-          → ⊥
-      go false b e c h = omega arith
-      go true false e c h = omega arith
-      go true true e true h = omega arith
-      go true true e false h = room-never few (leb-true count most-terms e) h
+  terms-never few (Refused why) e h = omega (arith, h, terms-refusal modes numbers why e)
 
   run-never : number-in (resumed (program-rooms .run) modes numbers read) ≡ 5 → ⊥
   unfolding number-in resumed modes-good
@@ -109,7 +96,7 @@ module _ (modes : ℕ) (numbers read : List ℕ) where
           → number-in (cond (not b) (refuses Modes) (with-terms (program-rooms .run) modes numbers read (checked modes numbers))) ≡ 5
           → ⊥
       go false e h = omega arith
-      go true e h = terms-never (leb-true modes most-modes (both (leb 1 modes) (leb modes most-modes) e .1)) h
+      go true e h = terms-never (leb-true modes most-modes (both (leb 1 modes) (leb modes most-modes) e .1)) (checked modes numbers) refl h
 
 -- No text's run ends with 5, whatever journal is read.
 pub ran-never : (bytes read : List ℕ) → number-in (ran program-rooms bytes read) ≡ 5 → ⊥

@@ -1,9 +1,6 @@
--- The name decides which of the two answers is given.
-use mathlib.Core.Path.{_≡_, _∙_, sym}
-use mathlib.Core.Bool.{true, false}
+-- The name decides which answer is given.
+use mathlib.Core.Path.{sym, _∙_}
 use borrow.Author.Needs.{needs}
-use Rattle.lists.specs.Members.{alike}
-use Rattle.fields.specs.Texts.{spelt}
 use Rattle.dewgoblin.specs.Commands.{command-text}
 use Rattle.dewgoblin.proofs.answer.Statement.{statement}
 use Rattle.dewgoblin.proofs.answer.Tie as tie
@@ -14,25 +11,62 @@ slice-aggregate-same-bytes c = search needs
 same-bytes-requires : tie.Need-same-bytes-requires
 same-bytes-requires c κs = search needs
 
-resume-answer-requires : tie.Need-resume-answer-requires
-resume-answer-requires c κs = search needs
+check-answer-requires : tie.Need-check-answer-requires
+check-answer-requires c κs = search needs
 
 returns : tie.Need-returns
 unfolding command-text
-returns c =
-    let start = c .before .before .before .before .before .before .before .args in
-    let named : alike (start .name .now) (spelt "resume") ≡ true = sym (c .before .before .same-bytes .ensures) ∙ c .before .if1 .taken in
-    rw named (c .resume-answer .ensures)
+returns c = rw (sym (c .before .before .same-bytes .ensures) ∙ c .before .if1 .taken) (c .check-answer .ensures)
 
-continue-answer-requires : tie.Need-continue-answer-requires
-continue-answer-requires c κs = search needs
+slice-aggregate-same-bytes-2 : tie.Need-slice-aggregate-same-bytes-2
+slice-aggregate-same-bytes-2 c = search needs
+
+same-bytes-requires-2 : tie.Need-same-bytes-requires-2
+same-bytes-requires-2 c κs = search needs
+
+weigh-answer-requires : tie.Need-weigh-answer-requires
+weigh-answer-requires c κs = search needs
 
 returns-2 : tie.Need-returns-2
 unfolding command-text
 returns-2 c =
-    let start = c .before .before .before .before .before .before .before .args in
-    let other : alike (start .name .now) (spelt "resume") ≡ false = sym (c .before .before .same-bytes .ensures) ∙ c .before .if1 .left in
-    rw other (c .continue-answer .ensures)
+    rw (
+      sym (c .before .before .before .before .before .same-bytes .ensures) ∙ c .before .before .before .before .if1 .left,
+      sym (c .before .before .same-bytes2 .ensures) ∙ c .before .if2 .taken,
+    )
+    (c .weigh-answer .ensures)
+
+slice-aggregate-same-bytes-3 : tie.Need-slice-aggregate-same-bytes-3
+slice-aggregate-same-bytes-3 c = search needs
+
+same-bytes-requires-3 : tie.Need-same-bytes-requires-3
+same-bytes-requires-3 c κs = search needs
+
+assign-answer-requires : tie.Need-assign-answer-requires
+assign-answer-requires c κs = search needs
+
+returns-3 : tie.Need-returns-3
+unfolding command-text
+returns-3 c =
+    rw (
+      sym (c .before .before .before .before .before .before .before .before .same-bytes .ensures) ∙ c .before .before .before .before .before .before .before .if1 .left,
+      sym (c .before .before .before .before .before .same-bytes2 .ensures) ∙ c .before .before .before .before .if2 .left,
+      sym (c .before .before .same-bytes3 .ensures) ∙ c .before .if3 .taken,
+    )
+    (c .assign-answer .ensures)
+
+journal-answer-requires : tie.Need-journal-answer-requires
+journal-answer-requires c κs = search needs
+
+returns-4 : tie.Need-returns-4
+unfolding command-text
+returns-4 c =
+    rw (
+      sym (c .before .before .before .before .before .before .before .before .same-bytes .ensures) ∙ c .before .before .before .before .before .before .before .if1 .left,
+      sym (c .before .before .before .before .before .same-bytes2 .ensures) ∙ c .before .before .before .before .if2 .left,
+      sym (c .before .before .same-bytes3 .ensures) ∙ c .before .if3 .left,
+    )
+    (c .journal-answer .ensures)
 
 pub answer-spec : {M : Type 1} → statement M
 answer-spec =
@@ -40,7 +74,15 @@ answer-spec =
     (tie.spec
     slice-aggregate-same-bytes
     same-bytes-requires
-    resume-answer-requires
+    check-answer-requires
     returns
-    continue-answer-requires
-    returns-2)
+    slice-aggregate-same-bytes-2
+    same-bytes-requires-2
+    weigh-answer-requires
+    returns-2
+    slice-aggregate-same-bytes-3
+    same-bytes-requires-3
+    assign-answer-requires
+    returns-3
+    journal-answer-requires
+    returns-4)

@@ -13,8 +13,8 @@ same-length c = search needs
 returns : tie.Need-returns
 returns c = search needs
 
-read-journal-requires : tie.Need-read-journal-requires
-read-journal-requires c κs = search needs
+read-file-requires : tie.Need-read-file-requires
+read-file-requires c κs = search needs
 
 same-length-2 : tie.Need-same-length-2
 same-length-2 c = search needs
@@ -59,7 +59,7 @@ run-spec =
     read-input-requires
     same-length
     returns
-    read-journal-requires
+    read-file-requires
     same-length-2
     same-length-3
     returns-2

@@ -16,13 +16,17 @@ unfoldable pub first-field : List ℕ → List ℕ
 first-field [] = []
 first-field (byte ∷ rest) = cond (eqb byte 9) [] (byte ∷ first-field rest)
 
--- A field as it is read, with the place behind it.
-unfoldable pub field-read : List ℕ → ℕ → Field
-field-read field end = cond (is-number field) (Number (value field) end) Broken
+-- A field read by a test and for a value, with the place behind it.
+unfoldable pub field-read : (List ℕ → Bool) → (List ℕ → ℕ) → List ℕ → ℕ → Field
+field-read test says field end = cond (test field) (Number (says field) end) Broken
 
--- The field that begins at a place.
-unfoldable pub number-at : List ℕ → ℕ → Field
-number-at text at = field-read (first-field (drop at text)) (at + length (first-field (drop at text)))
+-- The field that begins at a place, read so.
+unfoldable pub field-at : (List ℕ → Bool) → (List ℕ → ℕ) → List ℕ → ℕ → Field
+field-at test says text at = field-read test says (first-field (drop at text)) (at + length (first-field (drop at text)))
+
+-- The same, read as a number.
+abbrev pub number-at : List ℕ → ℕ → Field
+number-at text at = field-at is-number value text at
 
 -- Another digit may follow so many digits of this value.
 unfoldable pub goes-on : ℕ → ℕ → Bool
@@ -32,14 +36,22 @@ goes-on count so-far = leb so-far 6553 && (ltb 0 so-far || eqb count 0)
 unfoldable pub ended-at : ℕ → ℕ → ℕ → Field
 ended-at count so-far end = cond (leb 1 count && leb so-far 65535) (Number so-far end) Broken
 
--- So many fields, all of them numbers.
-unfoldable pub numbers-good : ℕ → List (List ℕ) → Bool
-numbers-good count parts = eqb (length parts) count && every is-number parts
+-- So many fields, a test holding of each.
+unfoldable pub fields-good : (List ℕ → Bool) → ℕ → List (List ℕ) → Bool
+fields-good test count parts = eqb (length parts) count && every test parts
 
--- What is known when fields were to be read into so much room: whether they are as many numbers, and if so that their values stand there.
-pub record NumbersRead (parts : List (List ℕ)) (room : ℕ) (after : List ℕ) (r : Bool) : Type 0 where
-  pub good : r ≡ numbers-good room parts
-  pub values : r ≡ true → after ≡ map value parts
+-- So many fields, all of them numbers.
+abbrev pub numbers-good : ℕ → List (List ℕ) → Bool
+numbers-good count parts = fields-good is-number count parts
+
+-- What is known when fields were to be read into so much room: whether they are as many good ones, and if so that their values stand there.
+pub record FieldsRead (test : List ℕ → Bool) (says : List ℕ → ℕ) (parts : List (List ℕ)) (room : ℕ) (after : List ℕ) (r : Bool) : Type 0 where
+  pub good : r ≡ fields-good test room parts
+  pub values : r ≡ true → after ≡ map says parts
+
+-- The same of numbers.
+abbrev pub NumbersRead : List (List ℕ) → ℕ → List ℕ → Bool → Type 0
+NumbersRead parts room after r = FieldsRead is-number value parts room after r
 
 -- 1 for a tab, 0 for any other byte.
 unfoldable pub tab-in : ℕ → ℕ

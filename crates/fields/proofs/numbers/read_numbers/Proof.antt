@@ -4,12 +4,13 @@ use Prim.Native.Nat.{_-_}
 use native.Mathlib.Omega.{arith}
 use borrow.Author.Needs.{needs}
 use lib.ListN.{length, length-set}
-use Rattle.fields.proofs.NumbersAhead.{Reading, reading-starts, reading-breaks, reading-goes, reading-within, reading-ends, reading-full, none}
+use Rattle.fields.specs.Decimal.{is-number, value}
+use Rattle.fields.proofs.ReadingFields.{Reading, reading-starts, reading-breaks, reading-goes, reading-within, reading-ends, reading-full, none}
 use Rattle.fields.proofs.numbers.read_numbers.Statement.{statement}
 use Rattle.fields.proofs.numbers.read_numbers.Tie as tie
 
 abbrev Inv-loop : tie.InvT-loop
-Inv-loop text numbers₀ at₀ count₀ numbers at count = Reading text (length numbers₀) numbers count at
+Inv-loop text numbers₀ at₀ count₀ numbers at count = Reading is-number value text (length numbers₀) numbers count at
 
 abbrev μ-loop : tie.MeasureT-loop
 μ-loop text numbers₀ at₀ count₀ numbers at count = length numbers₀ - count
@@ -17,7 +18,7 @@ abbrev μ-loop : tie.MeasureT-loop
 loop-holds : tie.Need-loop-holds Inv-loop μ-loop
 loop-holds c =
     let args = c .before .before .args in
-    reading-starts (args .text .now) (args .numbers .now)
+    reading-starts is-number value (args .text .now) (args .numbers .now)
 
 read-number-requires : tie.Need-read-number-requires Inv-loop μ-loop
 read-number-requires c κs = search needs
@@ -36,8 +37,8 @@ returns c =
     let here = c .before .before .before .before in
     let args = here .before .before .before .args in
     let no-number = sym (c .before .before .read-number .ensures) ∙ c .enum-told .given .1 in
-    none
-    (reading-breaks (args .text .now) (length (args .numbers .now)) (here .loop .numbers) (here .loop .count) (here .loop .at) (here .loop .inv)
+    none is-number value
+    (reading-breaks is-number value (args .text .now) (length (args .numbers .now)) (here .loop .numbers) (here .loop .count) (here .loop .at) (here .loop .inv)
     (omega arith) no-number)
 
 mul-numbers : tie.Need-mul-numbers Inv-loop μ-loop
@@ -56,18 +57,18 @@ returns-2 : tie.Need-returns-2 Inv-loop μ-loop
 returns-2 c =
     let here = c .before .before .before .before .before .before in
     let args = here .before .before .before .args in
-    let is-number = sym (c .before .before .before .before .read-number .ensures) ∙ c .before .before .number .given .1 in
+    let good = sym (c .before .before .before .before .read-number .ensures) ∙ c .before .before .number .given .1 in
     rw (length-set (here .loop .numbers) (here .loop .count) (c .before .before .number .given .0 .0), here .loop .inv .size)
-    (reading-ends (args .text .now) (length (args .numbers .now)) (here .loop .numbers) (here .loop .count) (here .loop .at) (here .loop .inv)
-    (omega (arith, here .loop .inv .size)) (c .before .before .number .given .0 .0) (c .before .before .number .given .0 .1 .0) is-number (c .if1 .taken))
+    (reading-ends is-number value (args .text .now) (length (args .numbers .now)) (here .loop .numbers) (here .loop .count) (here .loop .at) (here .loop .inv)
+    (omega (arith, here .loop .inv .size)) (c .before .before .number .given .0 .0) (c .before .before .number .given .0 .1 .0) good (c .if1 .taken))
 
 add-at : tie.Need-add-at Inv-loop μ-loop
 add-at c =
     let here = c .before .before .before .before .before .before in
     let args = here .before .before .before .args in
-    let is-number = sym (c .before .before .before .before .read-number .ensures) ∙ c .before .before .number .given .1 in
-    let within = reading-within (args .text .now) (length (args .numbers .now)) (here .loop .numbers) (here .loop .count) (here .loop .at) (here .loop .inv)
-    (omega (arith, here .loop .inv .size)) (c .before .before .number .given .0 .0) (c .before .before .number .given .0 .1 .0) is-number in
+    let good = sym (c .before .before .before .before .read-number .ensures) ∙ c .before .before .number .given .1 in
+    let within = reading-within is-number value (args .text .now) (length (args .numbers .now)) (here .loop .numbers) (here .loop .count) (here .loop .at) (here .loop .inv)
+    (omega (arith, here .loop .inv .size)) (c .before .before .number .given .0 .0) (c .before .before .number .given .0 .1 .0) good in
     record { fits = omega arith }
 
 loop-less : tie.Need-loop-less Inv-loop μ-loop
@@ -77,9 +78,9 @@ loop-again : tie.Need-loop-again Inv-loop μ-loop
 loop-again c =
     let here = c .before .before .before .before .before .before in
     let args = here .before .before .before .args in
-    let is-number = sym (c .before .before .before .before .read-number .ensures) ∙ c .before .before .number .given .1 in
-    reading-goes (args .text .now) (length (args .numbers .now)) (here .loop .numbers) (here .loop .count) (here .loop .at) (here .loop .inv)
-    (omega (arith, here .loop .inv .size)) (c .before .before .number .given .0 .0) (c .before .before .number .given .0 .1 .0) is-number (c .if1 .left)
+    let good = sym (c .before .before .before .before .read-number .ensures) ∙ c .before .before .number .given .1 in
+    reading-goes is-number value (args .text .now) (length (args .numbers .now)) (here .loop .numbers) (here .loop .count) (here .loop .at) (here .loop .inv)
+    (omega (arith, here .loop .inv .size)) (c .before .before .number .given .0 .0) (c .before .before .number .given .0 .1 .0) good (c .if1 .left)
 
 same-length-3 : tie.Need-same-length-3 Inv-loop μ-loop
 same-length-3 c = search needs
@@ -88,8 +89,8 @@ returns-3 : tie.Need-returns-3 Inv-loop μ-loop
 returns-3 c =
     let here = c .before in
     let args = here .before .before .before .args in
-    none
-    (reading-full (args .text .now) (length (args .numbers .now)) (here .loop .numbers) (here .loop .count) (here .loop .at) (here .loop .inv)
+    none is-number value
+    (reading-full is-number value (args .text .now) (length (args .numbers .now)) (here .loop .numbers) (here .loop .count) (here .loop .at) (here .loop .inv)
     (omega (arith, here .loop .inv .size)))
 
 pub read-numbers-spec : {M : Type 1} → statement M

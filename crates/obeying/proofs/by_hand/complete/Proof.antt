@@ -4,8 +4,8 @@ use borrow.Author.Needs.{needs}
 use Rattle.merging.specs.code.State.{history-of}
 use Rattle.merging.proofs.Runs.{merges-within}
 use Rattle.merging.proofs.RowsAfter.{weight-in-most}
-use Rattle.obeying.proofs.merge_line.complete.Statement.{statement}
-use Rattle.obeying.proofs.merge_line.complete.Tie as tie
+use Rattle.obeying.proofs.by_hand.complete.Statement.{statement}
+use Rattle.obeying.proofs.by_hand.complete.Tie as tie
 
 merges-requires : tie.Need-merges-requires
 merges-requires c κs = search needs

@@ -1,7 +1,7 @@
 -- By hand or not, the line is read as it is meant.
 use borrow.Author.Needs.{needs}
-use Rattle.obeying.proofs.merge_line.read_said.Statement.{statement}
-use Rattle.obeying.proofs.merge_line.read_said.Tie as tie
+use Rattle.obeying.proofs.by_hand.read_said.Statement.{statement}
+use Rattle.obeying.proofs.by_hand.read_said.Tie as tie
 
 read-by-hand-requires : tie.Need-read-by-hand-requires
 read-by-hand-requires c κs = search needs

@@ -6,8 +6,8 @@ use Rattle.fields.proofs.Openings.{plain-read}
 use Rattle.merging.specs.code.State.{history-of}
 use Rattle.obeying.specs.declared.merge_line.Merge.the-variants.{Is as MergeIs}
 use Rattle.obeying.proofs.LineSaid.{hand-broken, hand-said}
-use Rattle.obeying.proofs.merge_line.read_by_hand.Statement.{statement}
-use Rattle.obeying.proofs.merge_line.read_by_hand.Tie as tie
+use Rattle.obeying.proofs.by_hand.read_by_hand.Statement.{statement}
+use Rattle.obeying.proofs.by_hand.read_by_hand.Tie as tie
 
 slice-aggregate-read-line : tie.Need-slice-aggregate-read-line
 slice-aggregate-read-line c = search needs

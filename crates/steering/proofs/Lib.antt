@@ -1,0 +1,6 @@
+-- The laws of steering and of refused lines.
+pub mod JobCounted
+pub mod JournalSteered
+pub mod ReasonTold
+pub mod SteeredObeyed
+pub mod SteerSuffices

@@ -1,0 +1,85 @@
+-- 5 is never printed where merges are steered by: a journal begins with its header's word, and the refusals have other numbers.
+use mathlib.Core.Path.{_≡_, refl, ap, sym, _∙_}
+use mathlib.Core.Bool.{Bool, true, false, cond}
+use mathlib.Core.List.{List}
+use Prim.Native.Nat.{ℕ}
+use native.Mathlib.Omega.{arith}
+use lib.Dec.{eqb}
+use lib.ListN.{length, getD}
+use Rattle.refusal.specs.declared.Refusal.the-variants.{LineForm, Room}
+use Rattle.refusal.specs.Numbers.{numberOf}
+use Rattle.entities.specs.declared.Triple.{Triple}
+use Rattle.entities.specs.Limits.{most-modes, most-terms}
+use Rattle.fields.specs.Lines.{kept-of}
+use Rattle.fields.specs.Fields.{tabbed}
+use Rattle.terms.specs.Job.{Job, job-of}
+use Rattle.terms.specs.declared.checking.Checked.{Checked}
+use Rattle.terms.specs.declared.checking.Checked.the-variants.{Good, Refused as BadTerms}
+use Rattle.obeying.specs.LineForms.{header-text}
+use Rattle.obeying.specs.Obeying.{line-after, Obeyed, went, refused, obeyed-by-hand}
+use Rattle.obeying.proofs.LineRefused.{by-hand-refusal}
+use Rattle.journal.specs.Writing.{journal-text}
+use Rattle.terms_text.specs.Input.{Said, given, malformed, said}
+use Rattle.text.specs.Running.{program-rooms}
+use Rattle.text.specs.Output.{line-of, refusal-text}
+use Rattle.text.proofs.RoomSuffices.{refusal-five}
+use Rattle.steering.specs.Steering.{
+  Steered,
+  writes,
+  refuses,
+  steered-as,
+  counted,
+  steered-with,
+  steered-by,
+  steered,
+  steer-printed,
+  steer-text,
+  SteerSuffices,
+}
+use Rattle.steering.proofs.JobCounted.{counted-refusal}
+use Rattle.steering.proofs.SteeredObeyed.{steered-is-obeyed}
+
+-- The number with which steering ends; none where a journal is printed.
+unfoldable number-in : Steered → ℕ
+number-in (writes journal) = 0
+number-in (refuses refusal) = numberOf refusal
+
+module _ (merges : List ℕ) where
+  as-never : (job : Job) (found : Obeyed) → obeyed-by-hand job merges ≡ found → number-in (steered-as job merges found) ≡ 5 → ⊥
+  unfolding number-in steered-as
+  as-never job (went history) e h = go (eqb (length (kept-of merges)) (length merges)) h
+    where
+      go : (b : Bool) → number-in (cond b (writes (journal-text job history)) (refuses (LineForm (line-after history)))) ≡ 5 → ⊥
+      go true h = omega arith
+      go false h = omega arith
+  as-never job (refused made why) e h = omega (arith, h, by-hand-refusal job merges made why e .1 .from)
+
+  with-never : (modes : ℕ) (numbers : List ℕ) (found : Checked) → counted most-modes modes numbers ≡ found
+      → number-in (steered-with modes numbers merges found) ≡ 5 → ⊥
+  unfolding number-in steered-with
+  with-never modes numbers (Good count) e h = as-never (job-of modes count numbers) (obeyed-by-hand (job-of modes count numbers) merges) refl h
+  with-never modes numbers (BadTerms why) e h = omega (arith, h, counted-refusal most-modes modes numbers why e)
+
+number-never : (bytes merges : List ℕ) → number-in (steered program-rooms bytes merges) ≡ 5 → ⊥
+unfolding number-in steered steered-by
+number-never bytes merges = go (said most-terms bytes)
+  where
+    go : (says : Said) → number-in (steered-by most-modes says merges) ≡ 5 → ⊥
+    go (given modes numbers) h = with-never merges modes numbers (counted most-modes modes numbers) refl h
+    go (malformed line) h = omega arith
+
+-- A journal begins with `h`, a refusal with `r`.
+journal-first : (job : Job) (history : List Triple) → journal-text job history ≡ refusal-text Room → ⊥
+unfolding journal-text header-text tabbed refusal-text line-of
+journal-first job history e = omega (arith, ap (λ text. getD text 0 0) e)
+
+-- The theorem: 5 is never printed.
+pub steer-suffices : SteerSuffices
+unfolding steer-text steer-printed number-in
+steer-suffices bytes merges e = go (steered program-rooms bytes merges) refl e
+  where
+    go : (end : Steered) → steered program-rooms bytes merges ≡ end → steer-printed end ≡ refusal-text Room → ⊥
+    go (writes journal) f g =
+        let known = steered-is-obeyed bytes merges journal f in
+        journal-first (known .job) (known .history) (sym (known .journal-is) ∙ g)
+    go (refuses refusal) f g = number-never bytes merges (rw f (refusal-five refusal g))

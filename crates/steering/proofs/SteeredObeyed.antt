@@ -1,0 +1,120 @@
+-- What steering prints is accepted by resuming and obeyed to the merges that were written by hand.
+use mathlib.Core.Path.{_≡_, refl, sym, _∙_}
+use mathlib.Core.Bool.{Bool, true, false, cond}
+use mathlib.Core.List.{List}
+use Prim.Native.Nat.{ℕ, _≤_}
+use native.Mathlib.Omega.{arith}
+use borrow.Author.Tests.{eqb-true, le-leb}
+use lib.Dec.{eqb}
+use lib.ListN.{length}
+use lib.Seq.{take-all}
+use Rattle.refusal.specs.declared.Refusal.{Refusal}
+use Rattle.refusal.specs.declared.Refusal.the-variants.{LineForm}
+use Rattle.entities.specs.declared.Triple.{Triple}
+use Rattle.entities.specs.Limits.{most-modes, most-terms}
+use Rattle.fields.specs.Lines.{lines, kept-of}
+use Rattle.fields.proofs.LinesJoined.{kept-front}
+use Rattle.terms.specs.Job.{Job, job-of}
+use Rattle.terms.specs.Good.{modes-good, checked}
+use Rattle.terms.specs.declared.checking.Checked.{Checked}
+use Rattle.terms.specs.declared.checking.Checked.the-variants.{Good, Refused as BadTerms}
+use Rattle.terms.proofs.RowSteps.{length-terms}
+use Rattle.terms.proofs.StaysGood.{accepted}
+use Rattle.obeying.specs.Obeying.{line-after, Obeyed, went, refused, obeyed-by-hand}
+use Rattle.obeying.proofs.LineRead.{hand-numbers}
+use Rattle.obeying.proofs.Obedience.{HandObedient, hand-obedient}
+use Rattle.journal.specs.Writing.{journal-text}
+use Rattle.journal.specs.Resuming.{done, ending, resumed}
+use Rattle.journal.proofs.CallDone.{rooms-fit, done-in}
+use Rattle.journal.proofs.JournalText.{journal-obeyed}
+use Rattle.terms_text.specs.Input.{Said, given, malformed, said}
+use Rattle.text.specs.Running.{program-rooms, ran-by, ran}
+use Rattle.steering.specs.Steering.{
+  Steered,
+  writes,
+  refuses,
+  steered-as,
+  counted,
+  steered-with,
+  steered-by,
+  steered,
+  AsWritten,
+  Steers,
+  SteeredIsObeyed,
+}
+use Rattle.steering.proofs.JobCounted.{counted-good}
+
+not-written : {A : Type 0} (refusal : Refusal) (journal : List ℕ) → refuses refusal ≡ writes journal → A
+not-written refusal journal e = let z : _≡_ {A = ℕ} 0 1 = cc in absurd (omega arith)
+
+-- Where all bytes are kept, they are the kept ones.
+all-kept : (bytes : List ℕ) → length (kept-of bytes) ≡ length bytes → kept-of bytes ≡ bytes
+all-kept bytes e = sym (kept-front bytes) ∙ rw e (take-all (length bytes) bytes (omega arith))
+
+-- What was obeyed is what was written.
+module _ (job : Job) (merges journal : List ℕ) where
+  record Written : Type 0 where
+    history : List Triple
+    obeys : obeyed-by-hand job merges ≡ went history
+    whole : kept-of merges ≡ merges
+    journal-is : journal ≡ journal-text job history
+
+  written-by : (found : Obeyed) → obeyed-by-hand job merges ≡ found → steered-as job merges found ≡ writes journal → Written
+  unfolding steered-as
+  written-by (went history) f e = go (eqb (length (kept-of merges)) (length merges)) refl e
+    where
+      go : (b : Bool) → eqb (length (kept-of merges)) (length merges) ≡ b
+          → cond b (writes (journal-text job history)) (refuses (LineForm (line-after history))) ≡ writes journal → Written
+      go true g h = record { history = history; obeys = f; whole = all-kept merges (eqb-true _ _ g); journal-is = cc }
+      go false g h = not-written _ journal h
+  written-by (refused made refusal) f e = not-written refusal journal e
+
+  as-written : (known : Written) → AsWritten merges (known .history)
+  as-written known =
+      let by-hand = hand-obedient job merges (known .history) (known .obeys) in
+      record {
+        a-line-each = by-hand .a-line-each;
+        says = λ i h. hand-numbers job _ _ _ (by-hand .says i h);
+        whole = known .whole;
+      }
+
+-- Resuming from it.
+module _ (bytes merges journal : List ℕ) (modes count : ℕ) (numbers : List ℕ) (says : said most-terms bytes ≡ given modes numbers)
+    (good : (1 ≤ modes) × (modes ≤ most-modes) × (checked modes numbers ≡ Good count)) where
+  abbrev job : Job
+  job = job-of modes count numbers
+
+  steers : Written job merges journal → Steers bytes merges journal
+  unfolding ran ran-by modes-good
+  steers known =
+      let terms = accepted modes numbers count (good .2) in
+      let by-hand = hand-obedient job merges (known .history) (known .obeys) in
+      let light : length (job .terms) ≤ most-terms = omega (arith, length-terms 8 count numbers, terms .at-most) in
+      let obeys = journal-obeyed job (omega (arith, good .1)) (omega (arith, light)) (known .history) (by-hand .lawful) (by-hand .within) in
+      let room = rooms-fit (program-rooms .run) modes count (omega (arith, terms .at-most)) (omega (arith, good .1)) (omega (arith, good .1)) in
+      record {
+        job = job;
+        history = known .history;
+        as-written = as-written job merges journal known;
+        journal-is = known .journal-is;
+        resumes =
+            rw says
+            (done-in (program-rooms .run) modes count numbers journal (known .history) (rw (le-leb 1 modes (good .0), le-leb modes most-modes (good .1))) (good .2)
+            room (rw (known .journal-is) obeys));
+      }
+
+pub steered-is-obeyed : SteeredIsObeyed
+unfolding steered steered-by steered-with
+steered-is-obeyed bytes merges journal e = go (said most-terms bytes) refl e
+  where
+    by-count : (modes : ℕ) (numbers : List ℕ) → said most-terms bytes ≡ given modes numbers → (found : Checked)
+        → counted most-modes modes numbers ≡ found → steered-with modes numbers merges found ≡ writes journal → Steers bytes merges journal
+    by-count modes numbers says (Good count) f g =
+        let job = job-of modes count numbers in
+        steers bytes merges journal modes count numbers says (counted-good most-modes modes numbers count f)
+        (written-by job merges journal (obeyed-by-hand job merges) refl g)
+    by-count modes numbers says (BadTerms refusal) f g = not-written refusal journal g
+
+    go : (says : Said) → said most-terms bytes ≡ says → steered-by most-modes says merges ≡ writes journal → Steers bytes merges journal
+    go (given modes numbers) f g = by-count modes numbers f (counted most-modes modes numbers) refl g
+    go (malformed line) f g = not-written _ journal g

@@ -1,0 +1,85 @@
+-- `steer`: a merge a line, `x` TAB `y` TAB `z`, made into "the journal of those merges, steps and true weights filled in, …; or the refusal of the first line that isn't lawful, by 6, 9, 10 or 12 at that line, lines counted as in the journal that it would make".
+use mathlib.Core.Path.{_≡_}
+use mathlib.Core.Bool.{cond, not}
+use mathlib.Core.List.{List, [], _∷_, map}
+use Prim.Native.Nat.{ℕ, _<_}
+use lib.Dec.{eqb}
+use lib.ListN.{length, getD}
+use Rattle.refusal.specs.declared.Refusal.{Refusal}
+use Rattle.refusal.specs.declared.Refusal.the-variants.{Modes, Room, LineForm, Malformed}
+use Rattle.entities.specs.declared.Triple.{Triple}
+use Rattle.fields.specs.Decimal.{value}
+use Rattle.fields.specs.Lines.{lines, kept-of}
+use Rattle.fields.specs.Fields.{fields}
+use Rattle.terms.specs.Job.{Job, job-of}
+use Rattle.terms.specs.Good.{modes-good, checked}
+use Rattle.terms.specs.declared.checking.Checked.{Checked}
+use Rattle.terms.specs.declared.checking.Checked.the-variants.{Good, Refused as BadTerms}
+use Rattle.merging.specs.History.{merge-of}
+use Rattle.obeying.specs.Obeying.{line-after, Obeyed, went, refused, obeyed-by-hand}
+use Rattle.journal.specs.Writing.{journal-text}
+use Rattle.journal.specs.Resuming.{done, ending}
+use Rattle.terms_text.specs.Input.{Said, given, malformed, said}
+use Rattle.text.specs.Running.{Rooms, program-rooms, ran}
+use Rattle.text.specs.Output.{refusal-text}
+
+-- What steering comes to: the journal, or a refusal.
+pub data Steered : Type 0 where
+  writes : List ℕ → Steered
+  refuses : Refusal → Steered
+
+-- The journal of the merges made. A last line without LF breaks the form: nothing that stands in the file is passed over.
+unfoldable pub steered-as : Job → List ℕ → Obeyed → Steered
+steered-as job merges (went history) =
+    cond (eqb (length (kept-of merges)) (length merges)) (writes (journal-text job history)) (refuses (LineForm (line-after history)))
+steered-as job merges (refused made refusal) = refuses refusal
+
+-- How many terms there are, or why they are no job: 1 of the modes, then 2, 3 and 4.
+unfoldable pub counted : ℕ → ℕ → List ℕ → Checked
+counted most modes numbers = cond (not (modes-good most modes)) (BadTerms Modes) (checked modes numbers)
+
+-- The refusals of the terms come first.
+unfoldable pub steered-with : ℕ → List ℕ → List ℕ → Checked → Steered
+steered-with modes numbers merges (Good count) =
+    steered-as (job-of modes count numbers) merges (obeyed-by-hand (job-of modes count numbers) merges)
+steered-with modes numbers merges (BadTerms refusal) = refuses refusal
+
+-- 18 is "before any other number".
+unfoldable pub steered-by : ℕ → Said → List ℕ → Steered
+steered-by most (given modes numbers) merges = steered-with modes numbers merges (counted most modes numbers)
+steered-by most (malformed line) merges = refuses (Malformed line)
+
+-- What a text's terms and a file of merges come to, in these rooms.
+unfoldable pub steered : Rooms → List ℕ → List ℕ → Steered
+steered rooms bytes merges = steered-by (rooms .run .modes) (said (rooms .terms) bytes) merges
+
+-- What is printed: the journal, or the refusal as `hatt` prints it.
+unfoldable pub steer-printed : Steered → List ℕ
+steer-printed (writes journal) = journal
+steer-printed (refuses refusal) = refusal-text refusal
+
+unfoldable pub steer-text : Rooms → List ℕ → List ℕ → List ℕ
+steer-text rooms bytes merges = steer-printed (steered rooms bytes merges)
+
+-- The merges of a history are those that the lines of a file say, in their order, and the file has nothing else.
+pub record AsWritten (merges : List ℕ) (history : List Triple) : Type 0 where
+  pub a-line-each : length history ≡ length (lines merges)
+  pub says : (i : ℕ) → i < length history
+      → map value (fields (getD (lines merges) i [])) ≡ merge-of history i .x ∷ (merge-of history i .y ∷ (merge-of history i .z ∷ []))
+  pub whole : kept-of merges ≡ merges
+
+-- Steering that is done: the journal is that of the merges that were written, and resuming from it accepts it, obeys it to those merges and
+-- goes on from there.
+pub record Steers (bytes merges journal : List ℕ) : Type 0 where
+  pub job : Job
+  pub history : List Triple
+  pub as-written : AsWritten merges history
+  pub journal-is : journal ≡ journal-text job history
+  pub resumes : ran program-rooms bytes journal ≡ done (ending job journal history)
+
+abbrev pub SteeredIsObeyed : Type 0
+SteeredIsObeyed = (bytes merges journal : List ℕ) → steered program-rooms bytes merges ≡ writes journal → Steers bytes merges journal
+
+-- 5 is never printed.
+abbrev pub SteerSuffices : Type 0
+SteerSuffices = (bytes merges : List ℕ) → steer-text program-rooms bytes merges ≡ refusal-text Room → ⊥

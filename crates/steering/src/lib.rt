@@ -1,0 +1,100 @@
+// What people need to write journals by hand and to mend them: merges made into a journal, and what a refused line lacks.
+ghost use mathlib.Core.Path.{_≡_};
+ghost use Prim.Native.Nat.{_*_, _≤_};
+ghost use lib.ListN.{length};
+ghost use Rattle.entities.specs.Limits.{«most-modes», «most-terms», «row-width»};
+ghost use Rattle.terms.specs.Job.{Job, «job-of»};
+ghost use Rattle.terms.specs.code.Held.{Held};
+ghost use Rattle.merging.specs.code.State.{«history-of»};
+ghost use Rattle.merging.specs.code.Runs.{Holds};
+ghost use Rattle.obeying.specs.Obeying.{went, «obeyed-by-hand»};
+ghost use Rattle.obeying.specs.code.Sized.{Sized};
+ghost use Rattle.terms_text.specs.Input.{given};
+ghost use Rattle.text.specs.Running.{«program-rooms», «printed-room»};
+ghost use Rattle.text.specs.Output.{Prints};
+ghost use Rattle.text.specs.code.Printing.{Puts};
+ghost use Rattle.steering.specs.Steering.{«steered-as», «steered-by», «steer-printed», «steer-text»};
+use fields::lines;
+use journal::new_lines;
+use merging::asked;
+use merging::run::Run;
+use obeying::Verdict;
+use refusal::Refusal;
+use terms::checking::Checked;
+use terms_text::Said;
+use text::Printed;
+use text::output;
+
+mod counting;
+pub mod reasons;
+
+// The journal of a run's merges printed over the front; a last line without LF breaks the form.
+fn put_journal(
+    run: Run,
+    modes: usize,
+    count: usize,
+    rows: &[u16],
+    merges: &[u8],
+    out: &mut [u8],
+) -> usize
+    requires { ⌜ ((job : Job) × (Holds job (now rows) run × Sized job modes count)) ⌝ }
+    requires { ⌜ length (now out) ≡ printed-room ⌝ }
+    ensures { λ r. ⌜ ((job : Job) → Holds job (now (rows .entry)) run → Sized job modes count → Puts (steer-printed (steered-as job (now (merges .entry)) (went (history-of run)))) (now (out .entry)) (now (out .exit)) r) ⌝ }
+{
+    if lines::kept_bytes(merges) != merges.len() {
+        return output::put_refusal(out, Refusal::LineForm(asked::merges(run) + 1));
+    }
+    new_lines::write_new(run, modes, count, 0, 0, out)
+}
+
+// Merges by hand obeyed on the rows of good terms, and their journal or the refusal printed over the front.
+fn steer_job(modes: usize, count: usize, rows: &mut [u16], merges: &[u8], out: &mut [u8]) -> usize
+    requires { ⌜ (1 ≤ modes) × (modes ≤ most-modes) × (count ≤ most-terms) × Held row-width count (now rows) ⌝ }
+    requires { ⌜ length (now out) ≡ printed-room ⌝ }
+    ensures { λ r. ⌜ Puts (steer-printed (steered-as (job-of modes count (now (rows .entry))) (now (merges .entry)) (obeyed-by-hand (job-of modes count (now (rows .entry))) (now (merges .entry))))) (now (out .entry)) (now (out .exit)) r ⌝ }
+{
+    let found = obeying::obey_by_hand(modes, count, rows, merges);
+    let verdict = found.verdict;
+    match verdict {
+        Verdict::Refused(why) => output::put_refusal(out, why),
+        Verdict::Fine => put_journal(found.run, modes, count, rows, merges, out),
+    }
+}
+
+// The same for the numbers of any terms.
+fn steer_given(modes: usize, numbers: &mut [u16], merges: &[u8], out: &mut [u8]) -> usize
+    requires { ⌜ length (now out) ≡ printed-room ⌝ }
+    ensures { λ r. ⌜ Puts (steer-printed (steered-by most-modes (given modes (now (numbers .entry))) (now (merges .entry)))) (now (out .entry)) (now (out .exit)) r ⌝ }
+{
+    match counting::count_terms(modes, numbers) {
+        Checked::Refused(why) => output::put_refusal(out, why),
+        Checked::Good(count) => steer_job(modes, count, numbers, merges, out),
+    }
+}
+
+// The same for a text's terms, in lent room for their numbers.
+fn print_steered(input: &[u8], merges: &[u8], numbers: &mut [u16], out: &mut [u8]) -> usize
+    requires { ⌜ (length (now numbers) ≡ row-width * most-terms) × (length (now out) ≡ printed-room) ⌝ }
+    ensures { λ r. ⌜ Puts (steer-text program-rooms (now (input .entry)) (now (merges .entry))) (now (out .entry)) (now (out .exit)) r ⌝ }
+{
+    match terms_text::read_input(input, numbers) {
+        Said::Malformed(line) => output::put_refusal(out, Refusal::Malformed(line)),
+        Said::Given(modes, count) => {
+            let end = 8 * count;
+            steer_given(modes, &mut numbers[..end], merges, out)
+        }
+    }
+}
+
+// The journal of merges by hand, for a text's terms.
+pub fn steer_answer(input: &[u8], merges: &[u8]) -> Printed
+    ensures { λ r. ⌜ Prints (steer-text program-rooms (now (input .entry)) (now (merges .entry))) r ⌝ }
+{
+    let mut numbers = [0u16; 16384];
+    let mut bytes = [0u8; 8192];
+    let count = print_steered(input, merges, &mut numbers, &mut bytes);
+    Printed {
+        bytes: bytes,
+        count: count,
+    }
+}

@@ -1,0 +1,111 @@
+-- What `check`, `weigh` and `assign` print for a tree of `node` lines: nothing, its weight, or its weight and the nodes as assigned; or the refusal, as `hatt` prints it.
+use mathlib.Core.Path.{_≡_}
+use mathlib.Core.Bool.{cond}
+use mathlib.Core.List.{List, [], _∷_, _++_, flatMap}
+use Prim.Native.Nat.{ℕ, _*_, _≤_, _<_}
+use lib.ListN.{length, getD}
+use Rattle.lists.specs.Members.{alike}
+use Rattle.refusal.specs.declared.Refusal.the-variants.{Room, Malformed}
+use Rattle.entities.specs.Codes.{absent}
+use Rattle.fields.specs.Texts.{spelt}
+use Rattle.fields.specs.Decimal.{decimal}
+use Rattle.terms.specs.Rows.{rows-of}
+use Rattle.tree.specs.Table.{child}
+use Rattle.tree.specs.Laying.{laid, modes-in}
+use Rattle.tree.specs.Check.{tree-checked}
+use Rattle.tree.specs.declared.TreeChecked.{TreeChecked}
+use Rattle.tree.specs.declared.TreeChecked.the-variants.{Accepted, Refused as BadTree}
+use Rattle.tree.specs.Weight.{tree-weighed}
+use Rattle.tree.specs.declared.TreeWeighed.{TreeWeighed}
+use Rattle.tree.specs.declared.TreeWeighed.the-variants.{Weight, Unweighed}
+use Rattle.topphatt.specs.Answer.{Outcome, done, refused, asked, outcome, Rooms as AssignRooms}
+use Rattle.terms_text.specs.Input.{Said, given, malformed as terms-malformed, said}
+use Rattle.text.specs.Running.{Rooms, program-rooms}
+use Rattle.text.specs.Output.{line-of, node-lines, refusal-text}
+use Rattle.tree_text.specs.TreeInput.{TreeSaid, nodes, malformed, tree-said}
+
+-- The table of a text's rows.
+abbrev pub table-of : List ℕ → List ℕ
+table-of rows = laid (modes-in rows) rows
+
+-- The check of what a text says: 18 before any other number.
+unfoldable pub checked-as : ℕ → TreeSaid → TreeChecked
+checked-as most (nodes rows) = tree-checked most (modes-in rows) (table-of rows)
+checked-as most (malformed line) = BadTree (Malformed line)
+
+-- `check` prints nothing, or the refusal.
+unfoldable pub check-printed : TreeChecked → List ℕ
+check-printed Accepted = []
+check-printed (BadTree refusal) = refusal-text refusal
+
+unfoldable pub check-text : ℕ → List ℕ → List ℕ
+check-text most tree = check-printed (checked-as most (tree-said most tree))
+
+-- The weight of a table for what the terms' text says: 18 of the terms, and then as `tree_weight` refuses; a tree of another number of
+-- nodes than the terms have modes is 13.
+unfoldable pub weighed-with : ℕ → List ℕ → Said → TreeWeighed
+weighed-with most table (given modes numbers) = tree-weighed most modes table numbers
+weighed-with most table (terms-malformed line) = Unweighed (Malformed line)
+
+-- 18 of the tree comes before all.
+unfoldable pub weighed-as : ℕ → TreeSaid → Said → TreeWeighed
+weighed-as most (nodes rows) terms = weighed-with most (table-of rows) terms
+weighed-as most (malformed line) terms = Unweighed (Malformed line)
+
+-- `weigh` prints `weight` and the tree weight, or the refusal.
+unfoldable pub weight-line : ℕ → List ℕ
+weight-line weight = line-of (spelt "weight" ∷ (decimal weight ∷ []))
+
+unfoldable pub weigh-printed : TreeWeighed → List ℕ
+weigh-printed (Weight weight) = weight-line weight
+weigh-printed (Unweighed refusal) = refusal-text refusal
+
+unfoldable pub weigh-text : Rooms → List ℕ → List ℕ → List ℕ
+weigh-text rooms tree bytes =
+    weigh-printed (weighed-as (rooms .run .modes) (tree-said (rooms .run .modes) tree) (said (rooms .terms) bytes))
+
+-- "heuristic not 0, 1, 2 (as listed above)": their names, in the order of the list; any other name is 3, which is refused by 17.
+unfoldable pub heuristic-of : List ℕ → ℕ
+heuristic-of name =
+    cond (alike name (spelt "min_weight")) 0 (cond (alike name (spelt "x_first")) 1 (cond (alike name (spelt "z_first")) 2 3))
+
+-- What an assignment has room for, where a run of the same rooms has it.
+abbrev pub assign-rooms : Rooms → AssignRooms
+assign-rooms rooms = record { modes = rooms .run .modes; work = rooms .run .work; table = 3 * rooms .run .modes }
+
+-- Assigning on a table, for what the terms' text says.
+unfoldable pub assigned-with : AssignRooms → ℕ → List ℕ → Said → Outcome
+assigned-with rooms heuristic table (given modes numbers) = outcome rooms (asked modes table heuristic numbers)
+assigned-with rooms heuristic table (terms-malformed line) = refused (Malformed line)
+
+-- The row of a node in a table: label, X, Y, Z.
+unfoldable pub row-in : List ℕ → ℕ → List ℕ
+row-in table label = label ∷ (child table label 0 ∷ (child table label 1 ∷ (child table label 2 ∷ [])))
+
+-- The rows of an assigned table, in the order in which the text has the nodes.
+unfoldable pub assigned-rows : List ℕ → List ℕ → List ℕ
+assigned-rows rows table = flatMap (λ row. row-in table (getD row 0 0)) (rows-of 4 (modes-in rows) rows)
+
+-- `assign` prints `weight`, the sum of chosen weights, and the nodes as assigned; or the refusal.
+unfoldable pub assign-printed : List ℕ → Outcome → List ℕ
+assign-printed rows (done count weight table) = weight-line weight ++ node-lines (assigned-rows rows table)
+assign-printed rows (refused refusal) = refusal-text refusal
+
+unfoldable pub assign-as : AssignRooms → ℕ → TreeSaid → Said → List ℕ
+assign-as rooms heuristic (nodes rows) terms = assign-printed rows (assigned-with rooms heuristic (table-of rows) terms)
+assign-as rooms heuristic (malformed line) terms = refusal-text (Malformed line)
+
+unfoldable pub assign-text : Rooms → List ℕ → List ℕ → List ℕ → List ℕ
+assign-text rooms tree name bytes =
+    assign-as (assign-rooms rooms) (heuristic-of name) (tree-said (rooms .run .modes) tree) (said (rooms .terms) bytes)
+
+-- 5 is never printed: whatever the texts, the program's own rooms suffice.
+abbrev pub AssignSuffices : Type 0
+AssignSuffices = (tree name bytes : List ℕ) → assign-text program-rooms tree name bytes ≡ refusal-text Room → ⊥
+
+-- What `hatt` and `assign` print of nodes is read back as those nodes.
+abbrev pub NodesRead : Type 0
+NodesRead =
+    (most modes : ℕ) (rows : List ℕ) → 1 ≤ modes → modes ≤ most → length rows ≡ 4 * modes
+    → ((place : ℕ) → place < length rows → getD rows place 0 ≤ absent) → ((node : ℕ) → node < modes → getD rows (4 * node) 0 < absent)
+    → tree-said most (node-lines rows) ≡ nodes rows
