@@ -17,6 +17,9 @@ use Rattle.topphatt.specs.Promises.{numbers-of as assign-numbers, returned as a
 use Rattle.newick.specs.Writing.{newick-text}
 use Rattle.text.specs.Running.{program-rooms}
 use Rattle.text.specs.Output.{answer-text}
+use Rattle.steering.specs.Steering.{steer-text}
+use Rattle.steering.specs.Reasons.{reason-text}
+use Rattle.tree_text.specs.Answers.{weigh-text, assign-text}
 use Rattle.newick_line.specs.NewickLine.{newick-answer-text}
 use Rattle.daemon.specs.Calls.{lent as bytes-lent, hatt-called}
 use Rattle.daemon.specs.Promises.{result-of, lent-then as bytes-left}
@@ -63,6 +66,10 @@ input3 = spelt "modes\t2\nterm\t0\t1\nterm\t2\t3\nterm\t0\t1\t2\t3\n"
 -- P3's tree: "(2,3,4; 0,5,-)".
 abbrev pub tree3 : List ℕ
 tree3 = 2 ∷ 3 ∷ 4 ∷ 0 ∷ 5 ∷ absent ∷ []
+
+-- The same as `node` lines.
+abbrev pub nodes3 : List ℕ
+nodes3 = spelt "node\t1\t0\t5\t-\nnode\t0\t2\t3\t4\n"
 
 -- What resuming means; the rooms for work and rows are as 01 asks for.
 unfoldable pub meant : ℕ → List ℕ → List ℕ → ℕ → Outcome
@@ -143,6 +150,13 @@ cases =
     ∷ shows (printed (answer-text program-rooms input3)) [] [] (spelt "weight\t4\ntrials\t14\nnode\t1\t0\t5\t-\nnode\t0\t2\t3\t4\n")
     ∷ shows (printed (newick-answer-text program-rooms input3)) [] [] (spelt "((m0,m1,m2)n0,m3,e)n1;\n")
     ∷ shows (printed (newick-text 2 tree3)) [] [] (spelt "((m0,m1,m2)n0,m3,e)n1;")
+    -- P5's journal as the command `steer` makes it of one merge; what `reason` tells of P6's line
+    ∷ shows (printed (steer-text program-rooms input3 (spelt "0\t1\t4\n"))) [] [] (spelt "hatt\t1\t2\t3\n0\t0\t1\t4\t2\n")
+    ∷ shows (printed (reason-text program-rooms input3 (spelt "hatt\t1\t2\t3\n0\t0\t1\t4\t1\n"))) [] [] (spelt "weight\t2\n")
+    -- P3's tree as `weigh` reads and prints it, and P8 as `assign` does
+    ∷ shows (printed (weigh-text program-rooms nodes3 input3)) [] [] (spelt "weight\t4\n")
+    ∷ shows (printed (assign-text program-rooms nodes3 (spelt "min_weight") (spelt "modes\t2\nterm\t1\n"))) [] []
+    (spelt "weight\t0\nnode\t1\t0\t3\t-\nnode\t0\t4\t5\t2\n")
     -- P1 called from C: 0, then weight 1, trials 2, nothing kept, 21 bytes new
     ∷ shows
     (calling

@@ -1,23 +1,27 @@
 -- What is printed, told by what the texts were read to say.
-use mathlib.Core.Path.{_≡_, refl, ap, sym}
+use mathlib.Core.Path.{_≡_, refl, ap, _∙_, sym}
 use mathlib.Core.List.{List, [], _∷_, _++_}
 use Prim.Native.Nat.{ℕ, _*_}
 use native.Mathlib.Omega.{arith}
-use lib.ListN.{take}
+use lib.ListN.{length, take, replicate, length-replicate}
+use Rattle.lists.specs.Written.{written-at}
 use Rattle.lists.proofs.Behind.{nothing-written}
 use Rattle.refusal.specs.declared.Refusal.the-variants.{Malformed as Badly}
-use Rattle.entities.specs.Limits.{most-modes, most-terms}
+use Rattle.entities.specs.Limits.{most-modes}
 use Rattle.fields.specs.Texts.{spelt}
 use Rattle.fields.specs.Decimal.{decimal}
 use Rattle.fields.specs.Fields.{tabbed}
 use Rattle.tree.specs.Check.{tree-checked}
+use Rattle.tree.specs.declared.TreeChecked.the-variants.{Refused as BadTree}
 use Rattle.tree.specs.Weight.{tree-weighed}
-use Rattle.terms_text.specs.Input.{Said, given, malformed as terms-malformed, said}
-use Rattle.text.specs.Running.{program-rooms}
-use Rattle.text.specs.Output.{line-of, refusal-text}
+use Rattle.tree.specs.declared.TreeWeighed.the-variants.{Unweighed}
+use Rattle.terms_text.specs.Input.{Said, given, malformed as terms-malformed}
+use Rattle.text.specs.declared.Printed.{Printed}
+use Rattle.text.specs.Running.{printed-room}
+use Rattle.text.specs.Output.{line-of, Prints}
 use Rattle.text.specs.code.Printing.{Puts}
-use Rattle.tree_text.specs.TreeInput.{malformed, tree-said}
-use Rattle.tree_text.specs.Answers.{checked-as, check-printed, check-text, weighed-with, weighed-as, weight-line, weigh-printed, weigh-text}
+use Rattle.nodes_text.specs.TreeInput.{malformed, tree-said}
+use Rattle.tree_text.specs.Answers.{checked-as, weighed-with, weighed-as, weight-line}
 use Rattle.tree_text.specs.code.Reading.{TreeRead}
 
 -- Nothing is printed.
@@ -29,34 +33,43 @@ pub weight-parts : (weight : ℕ) → spelt "weight\t" ++ (decimal weight ++ (10
 unfolding weight-line line-of tabbed
 weight-parts weight = refl
 
+-- What a text was read to say, checked and weighed.
 module _ (tree : List ℕ) where
   module _ (line : ℕ) (e : tree-said most-modes tree ≡ malformed line) where
-    pub check-malformed : check-text most-modes tree ≡ refusal-text (Badly line)
-    unfolding check-text checked-as check-printed
+    pub check-malformed : BadTree (Badly line) ≡ checked-as most-modes (tree-said most-modes tree)
+    unfolding checked-as
     check-malformed = rw e
 
-    pub weigh-malformed : (bytes : List ℕ) → weigh-text program-rooms tree bytes ≡ refusal-text (Badly line)
-    unfolding weigh-text weighed-as weigh-printed
-    weigh-malformed bytes = rw e
+    pub weigh-malformed : (terms : Said) → Unweighed (Badly line) ≡ weighed-as most-modes (tree-said most-modes tree) terms
+    unfolding weighed-as
+    weigh-malformed terms = rw e
 
   module _ {rows table : List ℕ} {count : ℕ} (read : TreeRead most-modes (tree-said most-modes tree) rows table count) where
-    pub check-read : check-printed (tree-checked most-modes count (take (3 * count) table)) ≡ check-text most-modes tree
-    unfolding check-text checked-as
+    pub check-read : tree-checked most-modes count (take (3 * count) table) ≡ checked-as most-modes (tree-said most-modes tree)
+    unfolding checked-as
     check-read = rw (read .says, read .laid, read .exact)
 
-    pub weigh-read : (bytes : List ℕ)
-        → weigh-printed (weighed-with most-modes (take (3 * count) table) (said most-terms bytes)) ≡ weigh-text program-rooms tree bytes
-    unfolding weigh-text weighed-as
-    weigh-read bytes = rw (read .says, read .laid)
+    pub weigh-read : (terms : Said) → weighed-with most-modes (take (3 * count) table) terms ≡ weighed-as most-modes (tree-said most-modes tree) terms
+    unfolding weighed-as
+    weigh-read terms = rw (read .says, read .laid)
 
 -- What the terms' text says is weighed.
 module _ (table : List ℕ) (meant : Said) where
   pub weighed-given : (modes : ℕ) (numbers : List ℕ) → given modes numbers ≡ meant
-      → weigh-printed (tree-weighed most-modes modes table numbers) ≡ weigh-printed (weighed-with most-modes table meant)
+      → tree-weighed most-modes modes table numbers ≡ weighed-with most-modes table meant
   unfolding weighed-with
-  weighed-given modes numbers e = ap (λ s. weigh-printed (weighed-with most-modes table s)) e
+  weighed-given modes numbers e = ap (weighed-with most-modes table) e
 
-  pub weighed-malformed : (line : ℕ) → terms-malformed line ≡ meant
-      → refusal-text (Badly line) ≡ weigh-printed (weighed-with most-modes table meant)
-  unfolding weighed-with weigh-printed
-  weighed-malformed line e = ap (λ s. weigh-printed (weighed-with most-modes table s)) e
+  pub weighed-malformed : (line : ℕ) → terms-malformed line ≡ meant → Unweighed (Badly line) ≡ weighed-with most-modes table meant
+  unfolding weighed-with
+  weighed-malformed line e = ap (weighed-with most-modes table) e
+
+-- What was put over zeros is printed.
+pub puts-prints : {answer meant : List ℕ} {r : Printed} → answer ≡ meant → Puts answer (replicate printed-room 0) (r .bytes) (r .count) → Prints meant r
+puts-prints {answer} {meant} {r} e puts =
+    let room = length-replicate {A = ℕ} printed-room 0 in
+    record {
+      count = puts .count ∙ ap length e;
+      fits = omega (arith, puts .fits, ap length e, room);
+      bytes = puts .bytes ∙ ap (λ l. written-at 0 l (replicate printed-room 0)) e;
+    }

@@ -2,31 +2,33 @@
 use mathlib.Core.Path.{_≡_, refl, ap}
 use mathlib.Core.Bool.{Bool, true, false, cond, not}
 use mathlib.Core.List.{List}
-use Prim.Native.Nat.{ℕ, _*_, _/_, _%_, _≤_}
+use Prim.Native.Nat.{ℕ, _*_, _≤_}
 use native.Mathlib.Omega.{arith}
-use borrow.Author.Tests.{le-leb, leb-true}
+use borrow.Author.Tests.{le-leb}
 use lib.Dec.{eqb, ltb, leb}
 use lib.ListN.{length, getD}
-use Rattle.refusal.specs.declared.Refusal.the-variants.{Modes, TermNumbers, TooManyTerms, BadRow, Room, TreeLength, ChildCode, NotOneTree, WrongPair, Heuristic, Malformed}
+use Rattle.refusal.specs.declared.Refusal.the-variants.{Modes, Room, TreeLength, ChildCode, NotOneTree, WrongPair, Heuristic, Malformed}
 use Rattle.refusal.specs.Numbers.{numberOf}
 use Rattle.entities.specs.Limits.{most-modes, most-terms, row-width}
 use Rattle.fields.specs.Fields.{tabbed}
 use Rattle.terms.specs.declared.checking.Checked.{Checked}
 use Rattle.terms.specs.declared.checking.Checked.the-variants.{Good, Refused as BadTerms}
-use Rattle.terms.specs.Good.{modes-good, good-rows, checked}
+use Rattle.terms.specs.Good.{modes-good, checked}
 use Rattle.terms.proofs.RowSteps.{length-terms}
+use Rattle.terms.proofs.StaysGood.{accepted}
 use Rattle.tree.specs.declared.TreeChecked.{TreeChecked}
 use Rattle.tree.specs.declared.TreeChecked.the-variants.{Accepted, Refused}
 use Rattle.tree.specs.OneTree.{one-tree}
 use Rattle.tree.specs.Pairs.{pairs-right}
 use Rattle.tree.specs.Check.{codes-good, tree-checked}
 use Rattle.tree.proofs.AcceptedParts.{accepted-parts}
-use Rattle.topphatt.specs.Answer.{Outcome, done, refused, Asked, task-of, done-by, with-room, with-terms, with-tree, outcome}
+use Rattle.topphatt.specs.Answer.{Outcome, done, refused, Asked, done-by, with-room, with-terms, with-tree, outcome}
 use Rattle.terms_text.specs.Input.{Said, given, malformed as terms-malformed, said}
 use Rattle.text.specs.Running.{program-rooms}
 use Rattle.text.specs.Output.{line-of, refusal-text}
+use Rattle.text.proofs.TermsRefused.{terms-refusal}
 use Rattle.text.proofs.RoomSuffices.{refusal-five}
-use Rattle.tree_text.specs.TreeInput.{TreeSaid, nodes, malformed, tree-said}
+use Rattle.nodes_text.specs.TreeInput.{TreeSaid, nodes, malformed, tree-said}
 use Rattle.tree_text.specs.Answers.{weight-line, heuristic-of, assign-rooms, assigned-with, assign-printed, assign-as, assign-text, table-of, AssignSuffices}
 
 -- The number with which an assignment ends, none where it isn't refused.
@@ -60,38 +62,22 @@ check-never modes table =
     go true true false true false h = omega arith
 
 module _ (call : Asked) where
-  abbrev count : ℕ
-  count = length (call .numbers) / row-width
-
   abbrev number-with : Checked → ℕ
   number-with found = number-in (with-terms (assign-rooms program-rooms) call found)
 
-  -- With room for all, an assignment is done.
-  room-never : call .modes ≤ most-modes → count ≤ most-terms → number-with (Good count) ≡ 5 → ⊥
+  -- Terms that are refused have other numbers, and with room for all an assignment is done.
+  terms-never : call .modes ≤ most-modes → (found : Checked) → checked (call .modes) (call .numbers) ≡ found → number-with found ≡ 5 → ⊥
   unfolding number-in with-terms with-room done-by
-  room-never few short h =
+  terms-never few (Good count) e h =
+      let short = accepted (call .modes) (call .numbers) count e .at-most in
       let z : _≡_ {A = ℕ} 0 5 =
       rw (
         length-terms 8 count (call .numbers),
-        le-leb (8 * count) (row-width * most-terms) (omega arith),
+        le-leb (8 * count) (row-width * most-terms) (omega (arith, short)),
         le-leb (3 * call .modes) (3 * most-modes) (omega arith),
       ) at h in
       omega arith
-
-  terms-never : call .modes ≤ most-modes → number-with (checked (call .modes) (call .numbers)) ≡ 5 → ⊥
-  unfolding number-in with-terms checked
-  terms-never few =
-      go (eqb (length (call .numbers) % row-width) 0) (leb count most-terms) refl (ltb (good-rows (2 * call .modes) count (call .numbers)) count)
-    where
-      go : (a b : Bool) → leb count most-terms ≡ b → (c : Bool)
-          → number-with (cond (not a) (BadTerms TermNumbers)
-          (cond (not b) (BadTerms TooManyTerms) (cond c (BadTerms (BadRow (good-rows (2 * call .modes) count (call .numbers)))) (Good count))))
-          ≡ 5
-          → ⊥
-      go false b e c h = omega arith
-      go true false e c h = omega arith
-      go true true e true h = omega arith
-      go true true e false h = room-never few (leb-true count most-terms e) h
+  terms-never few (BadTerms why) e h = omega (arith, h, terms-refusal (call .modes) (call .numbers) why e)
 
   assign-never : number-in (outcome (assign-rooms program-rooms) call) ≡ 5 → ⊥
   unfolding number-in number-checked outcome with-tree
@@ -100,7 +86,7 @@ module _ (call : Asked) where
       by-heuristic : (b : Bool) → call .modes ≤ most-modes
           → number-in (cond (not b) (refused Heuristic) (with-terms (assign-rooms program-rooms) call (checked (call .modes) (call .numbers)))) ≡ 5
           → ⊥
-      by-heuristic true few k = terms-never few k
+      by-heuristic true few k = terms-never few (checked (call .modes) (call .numbers)) refl k
       by-heuristic false few k = omega arith
 
       go : (found : TreeChecked) → tree-checked most-modes (call .modes) (call .tree) ≡ found → ⊥

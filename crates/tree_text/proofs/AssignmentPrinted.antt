@@ -16,14 +16,15 @@ use Rattle.topphatt.specs.declared.Assigned.the-variants.{Weight, Unassigned}
 use Rattle.topphatt.specs.Answer.{answer-table, Outcome, done, refused, Asked, asked, outcome}
 use Rattle.topphatt.specs.Promises.{returned, Lent, rooms-of, lent-then, Assigns}
 use Rattle.topphatt.proofs.AssignDone.{assign-done}
-use Rattle.terms_text.specs.Input.{Said, given, malformed as terms-malformed, said}
+use Rattle.terms_text.specs.Input.{given, malformed as terms-malformed, said}
 use Rattle.text.specs.Running.{program-rooms}
 use Rattle.text.specs.Output.{node-lines, refusal-text}
 use Rattle.text.specs.code.Printing.{Puts}
 use Rattle.text.proofs.PrintedLines.{wrote-puts}
-use Rattle.tree_text.specs.TreeInput.{malformed, tree-said}
+use Rattle.nodes_text.specs.TreeInput.{malformed, tree-said}
 use Rattle.tree_text.specs.Answers.{weight-line, assign-rooms, assigned-with, assigned-rows, assign-printed, assign-as, heuristic-of, assign-text}
 use Rattle.tree_text.specs.code.Reading.{TreeRead}
+use Rattle.tree_text.specs.code.Finding.{meant-text}
 use Rattle.tree_text.proofs.AnswersPrinted.{weight-parts}
 
 -- The table of an assignment that is done is as long as the given one.
@@ -34,56 +35,47 @@ table-length call count weight codes e =
     let known = assign-done (assign-rooms program-rooms) call count weight codes e in
     ap length (known .answer-is) ∙ length-map (call .tree) _
 
-module _ (call : Asked) (rows : List ℕ) (given after : Lent) (r : Assigned) (work : length (given .work) ≡ row-width * most-terms)
-    (table : length (given .table) ≡ 3 * most-modes) (assigns : Assigns (λ lent. outcome (rooms-of most-modes lent) call) given after r) where
+module _ (modes heuristic : ℕ) (tree numbers rows : List ℕ) (lends after : Lent) (r : Assigned) (work : length (lends .work) ≡ row-width * most-terms)
+    (table : length (lends .table) ≡ 3 * most-modes)
+    (assigns : Assigns (λ lent. outcome (rooms-of most-modes lent) (asked modes tree heuristic numbers)) lends after r) where
   abbrev meant : Outcome
-  meant = outcome (assign-rooms program-rooms) call
+  meant = outcome (assign-rooms program-rooms) (asked modes tree heuristic numbers)
 
-  same-rooms : rooms-of most-modes given ≡ assign-rooms program-rooms
+  same-rooms : rooms-of most-modes lends ≡ assign-rooms program-rooms
   same-rooms = rw (work, table)
 
   same-answer : r ≡ returned meant
   same-answer = rw (← same-rooms) (assigns .answer)
 
-  same-left : after ≡ lent-then meant given
+  same-left : after ≡ lent-then meant lends
   same-left = rw (← same-rooms) (assigns .leaves)
 
-  pub refused-printed : (refusal : Refusal) → r ≡ Unassigned refusal → refusal-text refusal ≡ assign-printed rows meant
-  unfolding returned assign-printed
+  pub refused-printed : (refusal : Refusal) → r ≡ Unassigned refusal → refusal-text refusal ≡ meant-text rows tree heuristic (given modes numbers)
+  unfolding meant-text assigned-with assign-printed returned
   refused-printed refusal e = go meant (sym e ∙ same-answer)
     where
       go : (means : Outcome) → Unassigned refusal ≡ returned means → refusal-text refusal ≡ assign-printed rows means
       go (done count weight codes) f = let z : _≡_ {A = ℕ} 0 1 = cc in absurd (omega arith)
       go (refused other) f = ap refusal-text (cc)
 
-  pub done-printed : (weight : ℕ) → r ≡ Weight weight → length (call .tree) ≤ 3 * most-modes
-      → weight-line weight ++ node-lines (assigned-rows rows (take (length (call .tree)) (after .table))) ≡ assign-printed rows meant
-  unfolding returned lent-then assign-printed
+  pub done-printed : (weight : ℕ) → r ≡ Weight weight → length tree ≤ 3 * most-modes
+      → weight-line weight ++ node-lines (assigned-rows rows (take (length tree) (after .table))) ≡ meant-text rows tree heuristic (given modes numbers)
+  unfolding meant-text assigned-with assign-printed returned lent-then
   done-printed weight e fits = go meant refl (sym e ∙ same-answer) same-left
     where
-      go : (means : Outcome) → meant ≡ means → Weight weight ≡ returned means → after ≡ lent-then means given
-          → weight-line weight ++ node-lines (assigned-rows rows (take (length (call .tree)) (after .table))) ≡ assign-printed rows means
+      go : (means : Outcome) → meant ≡ means → Weight weight ≡ returned means → after ≡ lent-then means lends
+          → weight-line weight ++ node-lines (assigned-rows rows (take (length tree) (after .table))) ≡ assign-printed rows means
       go (done count found codes) m f left =
           let same : weight ≡ found = cc in
-          let long = table-length call count found codes m in
-          let stands : take (length (call .tree)) (after .table) ≡ codes =
-          rw (left, ← long) (part-written 0 codes (given .table) (omega (arith, table))) in
+          let long = table-length (asked modes tree heuristic numbers) count found codes m in
+          let stands : take (length tree) (after .table) ≡ codes = rw (left, ← long) (part-written 0 codes (lends .table) (omega (arith, table))) in
           rw (same, stands)
       go (refused refusal) m f left = let z : _≡_ {A = ℕ} 0 1 = cc in absurd (omega arith)
 
--- What the terms' text says is assigned.
-module _ (heuristic : ℕ) (rows table : List ℕ) (meant : Said) where
-  abbrev printed-with : Said → List ℕ
-  printed-with terms = assign-printed rows (assigned-with (assign-rooms program-rooms) heuristic table terms)
-
-  pub assigned-given : (modes : ℕ) (numbers : List ℕ) → given modes numbers ≡ meant
-      → assign-printed rows (outcome (assign-rooms program-rooms) (asked modes table heuristic numbers)) ≡ printed-with meant
-  unfolding assigned-with
-  assigned-given modes numbers e = ap printed-with e
-
-  pub assigned-malformed : (line : ℕ) → terms-malformed line ≡ meant → refusal-text (Badly line) ≡ printed-with meant
-  unfolding assigned-with assign-printed
-  assigned-malformed line e = ap printed-with e
+-- Malformed terms are refused.
+pub terms-refused : (heuristic : ℕ) (rows table : List ℕ) (line : ℕ) → refusal-text (Badly line) ≡ meant-text rows table heuristic (terms-malformed line)
+unfolding meant-text assigned-with assign-printed
+terms-refused heuristic rows table line = refl
 
 -- What a tree's text was read to say is assigned on.
 module _ (tree name bytes : List ℕ) where
@@ -93,13 +85,12 @@ module _ (tree name bytes : List ℕ) where
 
   pub assign-read : {rows table : List ℕ} {count : ℕ} → TreeRead most-modes (tree-said most-modes tree) rows table count
       → (heuristic : ℕ) → heuristic ≡ heuristic-of name
-      → assign-printed (take (4 * count) rows) (assigned-with (assign-rooms program-rooms) heuristic (take (3 * count) table) (said most-terms bytes))
-      ≡ assign-text program-rooms tree name bytes
-  unfolding assign-text assign-as
+      → meant-text (take (4 * count) rows) (take (3 * count) table) heuristic (said most-terms bytes) ≡ assign-text program-rooms tree name bytes
+  unfolding meant-text assign-text assign-as
   assign-read read heuristic e = rw (e, read .says, read .laid)
 
--- A weight's line, and the lines of rows written anew, part by part.
-pub assigned-wrote : (weight : ℕ) (rows table anew before : List ℕ) → anew ≡ assigned-rows rows table → {s1 s2 : List ℕ} {e1 e2 : ℕ}
-    → Wrote 0 (spelt "weight\t" ++ (decimal weight ++ (10 ∷ []))) before s1 e1 → Wrote e1 (node-lines anew) s1 s2 e2
-    → e1 ≤ length before → e2 ≤ length before → Puts (weight-line weight ++ node-lines (assigned-rows rows table)) before s2 e2
-assigned-wrote weight rows table anew before e a b h k = rw (← e, ← weight-parts weight) (wrote-puts (then-wrote a b h) k)
+-- A weight's line and the lines of rows, part by part.
+pub found-wrote : (weight : ℕ) (rows before : List ℕ) → {s1 s2 : List ℕ} {e1 e2 : ℕ}
+    → Wrote 0 (spelt "weight\t" ++ (decimal weight ++ (10 ∷ []))) before s1 e1 → Wrote e1 (node-lines rows) s1 s2 e2
+    → e1 ≤ length before → e2 ≤ length before → Puts (weight-line weight ++ node-lines rows) before s2 e2
+found-wrote weight rows before a b h k = rw (← weight-parts weight) (wrote-puts (then-wrote a b h) k)

@@ -1,7 +1,4 @@
--- The laws of a tree's text and of what is printed for it.
-pub mod CodeFields
-pub mod NodeLines
-pub mod NodesAhead
+-- The laws of what is printed for a tree's text.
 pub mod TreeLaid
 pub mod AnswersPrinted
 pub mod AssignedRows

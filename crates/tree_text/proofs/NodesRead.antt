@@ -1,6 +1,6 @@
 -- What is printed of nodes is read back as those nodes.
 use mathlib.Core.Path.{_≡_, refl, ap, _∙_, sym}
-use mathlib.Core.Bool.{Bool, true, false, not, _&&_, true≢false}
+use mathlib.Core.Bool.{Bool, true, false, _&&_, true≢false}
 use mathlib.Core.List.{List, [], _∷_, _++_, map, flatMap}
 use mathlib.Core.Logic.{⊎-elim}
 use Prim.Native.Nat.{ℕ, zero, suc, _+_, _*_, _/_, _<_, _≤_, min}
@@ -17,7 +17,7 @@ use Rattle.lists.proofs.Alike.{alike-self, alike-same}
 use Rattle.lists.proofs.Leading.{leading-all}
 use Rattle.entities.specs.Codes.{absent}
 use Rattle.fields.specs.Texts.{spelt}
-use Rattle.fields.specs.Decimal.{is-digit, is-number, value, decimal}
+use Rattle.fields.specs.Decimal.{is-digit, is-number, decimal}
 use Rattle.fields.specs.Lines.{lines, kept-of, is-line}
 use Rattle.fields.specs.Fields.{fields, tabbed}
 use Rattle.fields.proofs.DecimalRead.{decimal-without, value-decimal, decimal-is-number}
@@ -28,7 +28,7 @@ use Rattle.terms.specs.Rows.{rows-of}
 use Rattle.terms.proofs.RowSteps.{length-rows, rows-at, row-length}
 use Rattle.text.specs.Output.{line-of, code-text, node-line, node-lines}
 use Rattle.text.proofs.PrintedLines.{code-absent, code-number}
-use Rattle.tree_text.specs.TreeInput.{is-code, code-said, says-node, node-row, nodes-formed, nodes, tree-whole, tree-said}
+use Rattle.nodes_text.specs.TreeInput.{is-code, code-said, says-node, node-row, nodes-formed, nodes, tree-whole, tree-said}
 use Rattle.tree_text.specs.Answers.{NodesRead}
 
 -- A number's text is no `-`.

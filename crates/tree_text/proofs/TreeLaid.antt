@@ -8,11 +8,12 @@ use lib.Seq.{take-at, length-take-le}
 use Rattle.entities.specs.Codes.{absent}
 use Rattle.tree.specs.Laying.{laid, laid-over, modes-in}
 use Rattle.tree.proofs.LaidTable.{laid-length}
-use Rattle.tree_text.specs.declared.nodes.Nodes.{Nodes}
-use Rattle.tree_text.specs.declared.nodes.Nodes.the-variants.{Are, Malformed}
-use Rattle.tree_text.specs.TreeInput.{TreeSaid, malformed}
+use Rattle.nodes_text.specs.declared.Nodes.{Nodes}
+use Rattle.nodes_text.specs.declared.Nodes.the-variants.{Are, Malformed}
+use Rattle.nodes_text.specs.TreeInput.{TreeSaid, malformed}
 use Rattle.tree_text.specs.Answers.{table-of}
-use Rattle.tree_text.specs.code.Reading.{NodesFound, Reads, TreeRead, ReadsTree, RowsFit}
+use Rattle.nodes_text.specs.code.Reading.{NodesFound, Reads}
+use Rattle.tree_text.specs.code.Reading.{TreeRead, ReadsTree, RowsFit}
 
 -- Rows laid over the front of a table of their size.
 pub laid-front : (rows before part : List ℕ) (end : ℕ) → end ≡ 3 * modes-in rows → end ≤ length before

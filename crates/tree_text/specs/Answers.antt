@@ -22,7 +22,7 @@ use Rattle.topphatt.specs.Answer.{Outcome, done, refused, asked, outcome, Rooms
 use Rattle.terms_text.specs.Input.{Said, given, malformed as terms-malformed, said}
 use Rattle.text.specs.Running.{Rooms, program-rooms}
 use Rattle.text.specs.Output.{line-of, node-lines, refusal-text}
-use Rattle.tree_text.specs.TreeInput.{TreeSaid, nodes, malformed, tree-said}
+use Rattle.nodes_text.specs.TreeInput.{TreeSaid, nodes, malformed, tree-said}
 
 -- The table of a text's rows.
 abbrev pub table-of : List ℕ → List ℕ

@@ -1,4 +1,3 @@
--- What the commands on trees read and print: a tree of `node` lines, and the answers of `check`, `weigh` and `assign`.
-pub mod TreeInput
+-- What the commands on trees print: the answers of `check`, `weigh` and `assign`.
 pub mod Answers
 pub mod code

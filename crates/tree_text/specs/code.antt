@@ -1,2 +1,3 @@
--- How the code reads a tree's text: no promise needs it.
+-- How the code goes about its answers: no promise needs it.
 pub mod Reading
+pub mod Finding

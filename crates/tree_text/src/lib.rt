@@ -8,9 +8,7 @@ use text::Printed;
 mod assigned;
 mod assigned_rows;
 mod checked;
-mod code_fields;
 mod heuristics;
-mod nodes;
 mod trees;
 mod weighed;
 
@@ -20,8 +18,9 @@ pub fn check_answer(tree: &[u8]) -> Printed
 {
     let mut rows = [0u16; 1024];
     let mut table = [0u16; 768];
+    let found = checked::check_said(tree, &mut rows, &mut table);
     let mut bytes = [0u8; 8192];
-    let count = checked::print_check(tree, &mut rows, &mut table, &mut bytes);
+    let count = checked::put_checked(&mut bytes, found);
     Printed {
         bytes: bytes,
         count: count,
@@ -34,8 +33,9 @@ pub fn weigh_answer(tree: &[u8], input: &[u8]) -> Printed
 {
     let mut rows = [0u16; 1024];
     let mut table = [0u16; 768];
+    let found = weighed::weigh_said(tree, input, &mut rows, &mut table);
     let mut bytes = [0u8; 8192];
-    let count = weighed::print_weigh(tree, input, &mut rows, &mut table, &mut bytes);
+    let count = weighed::put_weighed(&mut bytes, found);
     Printed {
         bytes: bytes,
         count: count,

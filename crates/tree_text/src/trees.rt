@@ -4,11 +4,10 @@ ghost use Prim.Native.Nat.{_*_, _≤_};
 ghost use lib.ListN.{length, take};
 ghost use Rattle.entities.specs.Limits.{«most-modes»};
 ghost use Rattle.tree.specs.Laying.{«modes-in»};
-ghost use Rattle.tree_text.specs.TreeInput.{«tree-said»};
+ghost use Rattle.nodes_text.specs.TreeInput.{«tree-said»};
 ghost use Rattle.tree_text.specs.Answers.{«table-of»};
 ghost use Rattle.tree_text.specs.code.Reading.{ReadsTree};
-use crate::nodes;
-use crate::nodes::Nodes;
+use nodes_text::Nodes;
 use tree::laying;
 
 // The table of rows, laid out in the front of a lent one.
@@ -25,7 +24,7 @@ pub fn read_tree(text: &[u8], rows: &mut [u16], table: &mut [u16]) -> Nodes
     requires { ⌜ (length (now rows) ≡ 4 * most-modes) × (length (now table) ≡ 3 * most-modes) ⌝ }
     ensures { λ r. ⌜ ReadsTree most-modes (tree-said most-modes (now (text .entry))) (now (rows .exit)) (now (table .exit)) r ⌝ }
 {
-    match nodes::read_nodes(text, rows) {
+    match nodes_text::read_nodes(text, rows) {
         Nodes::Malformed(line) => Nodes::Malformed(line),
         Nodes::Are(count) => {
             let end = 4 * count;

@@ -1,5 +1,4 @@
 -- Three stores behind the label make the row.
-use mathlib.Core.Path.{_∙_}
 use Prim.Native.Nat.{_*_}
 use native.Mathlib.Omega.{arith}
 use borrow.Author.Needs.{needs}

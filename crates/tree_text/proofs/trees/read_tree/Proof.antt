@@ -1,5 +1,5 @@
 -- The text is malformed, or its rows stand in front and their table is laid out.
-use mathlib.Core.Path.{sym, _∙_}
+use mathlib.Core.Path.{sym}
 use native.Mathlib.Omega.{arith}
 use borrow.Author.Needs.{needs}
 use lib.Seq.{length-take-le}

@@ -1,5 +1,4 @@
 -- The weight is printed behind its word, or the refusal.
-use mathlib.Core.Path.{sym, _∙_}
 use native.Mathlib.Omega.{arith}
 use borrow.Author.Needs.{needs}
 use Rattle.text.proofs.PrintedLines.{wrote-puts}
@@ -8,17 +7,14 @@ use Rattle.tree_text.proofs.AnswersPrinted.{weight-parts}
 use Rattle.tree_text.proofs.weighed.put_weighed.Statement.{statement}
 use Rattle.tree_text.proofs.weighed.put_weighed.Tie as tie
 
-tree-weight-requires : tie.Need-tree-weight-requires
-tree-weight-requires c κs = search needs
-
-enum-known-refusal : tie.Need-enum-known-refusal
-enum-known-refusal c = search needs
+enum-known-found : tie.Need-enum-known-found
+enum-known-found c = search needs
 
 put-refusal-requires : tie.Need-put-refusal-requires
 put-refusal-requires c κs = search needs
 
-enum-known-weight : tie.Need-enum-known-weight
-enum-known-weight c = search needs
+enum-known-found-2 : tie.Need-enum-known-found-2
+enum-known-found-2 c = search needs
 
 slice-aggregate-put-value : tie.Need-slice-aggregate-put-value
 slice-aggregate-put-value c = search needs
@@ -31,9 +27,7 @@ same-length c = search needs
 
 returns : tie.Need-returns
 unfolding weigh-printed
-returns c =
-    let told = sym (c .before .before .before .before .before .before .before .tree-weight .ensures .answer) ∙ c .before .before .before .before .before .refusal .given .1 in
-    rw told (c .before .before .put-refusal .ensures)
+returns c = rw (c .before .before .before .before .before .found .given .1) (c .before .before .put-refusal .ensures)
 
 same-length-2 : tie.Need-same-length-2
 same-length-2 c = search needs
@@ -41,18 +35,17 @@ same-length-2 c = search needs
 returns-2 : tie.Need-returns-2
 unfolding weigh-printed
 returns-2 c =
-    let told = sym (c .before .before .before .before .before .before .before .before .tree-weight .ensures .answer) ∙ c .before .before .before .before .before .before .weight .given .1 in
+    let told = c .before .before .before .before .before .before .found2 .given in
     let put = c .before .before .put-value .ensures in
-    rw (told, ← weight-parts (c .before .before .before .before .before .before .weight .given .0 .0)) (wrote-puts (record { behind = put .0 .0; written = put .1 }) (omega (arith, put .0 .1, c .before .before .before .before .before .before .before .before .before .before .before .before .pre)))
+    rw (told .1, ← weight-parts (told .0 .0)) (wrote-puts (record { behind = put .0 .0; written = put .1 }) (omega (arith, put .0 .1, c .before .before .before .before .before .before .before .before .before .pre)))
 
 pub put-weighed-spec : {M : Type 1} → statement M
 put-weighed-spec =
     tie.close
     (tie.spec
-    tree-weight-requires
-    enum-known-refusal
+    enum-known-found
     put-refusal-requires
-    enum-known-weight
+    enum-known-found-2
     slice-aggregate-put-value
     put-value-requires
     same-length

@@ -1,0 +1,4 @@
+-- The laws of reading a tree's text.
+pub mod CodeFields
+pub mod NodeLines
+pub mod NodesAhead
