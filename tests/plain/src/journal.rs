@@ -76,7 +76,7 @@ fn run(merging: &mut Merging, new: &mut Vec<u8>) -> u64 {
 }
 
 /// The state after the kept lines, or the refusal of the first bad one.
-fn obey(modes: usize, given: Vec<Row>, kept: &[u8]) -> Result<Merging, Refusal> {
+pub fn obey(modes: usize, given: Vec<Row>, kept: &[u8]) -> Result<Merging, Refusal> {
     let terms = given.len();
     let mut merging = Merging::new(modes, given);
     for (line, text) in complete_lines(kept).enumerate() {
@@ -105,23 +105,38 @@ fn obey_header(modes: usize, terms: usize, fields: &[&[u8]]) -> Result<(), Refus
 /// their numbers, "and 12 comes before 6 on its line".
 fn obey_merge(merging: &mut Merging, line: usize, fields: &[&[u8]]) -> Result<(), Refusal> {
     demand(!merging.is_finished(), 12, line)?;
-    let broken = Refusal {
+    let said = read_merge(fields).ok_or(Refusal {
         number: 6,
         place: line,
-    };
-    let numbers = read_numbers(fields).ok_or(broken)?;
-    let [step, x, y, z, weight] = numbers[..] else {
-        return Err(broken);
-    };
-    let triple = [x, y, z];
-    demand(usize::from(step) == merging.merges().len(), 8, line)?;
+    })?;
+    let triple = said.triple;
+    demand(said.step == merging.merges().len(), 8, line)?;
     let all_open = triple.iter().all(|&child| merging.is_open(child));
     demand(all_open, 9, line)?;
     demand(merging.is_lawful(triple), 10, line)?;
-    let weight = u64::from(weight);
+    let weight = said.weight;
     demand(weight == merging.weigh(triple), 11, line)?;
     merging.merge(Merge { triple, weight });
     Ok(())
+}
+
+/// What a merge line says.
+pub struct MergeLine {
+    pub step: usize,
+    pub triple: [u16; 3],
+    pub weight: u64,
+}
+
+/// A merge line's five numbers, or None if it breaks the form.
+pub fn read_merge(fields: &[&[u8]]) -> Option<MergeLine> {
+    let [step, x, y, z, weight] = read_numbers(fields)?[..] else {
+        return None;
+    };
+    Some(MergeLine {
+        step: usize::from(step),
+        triple: [x, y, z],
+        weight: u64::from(weight),
+    })
 }
 
 /// "Bytes after the last LF are dropped."
@@ -131,7 +146,7 @@ fn kept_part(read: &[u8]) -> &[u8] {
 }
 
 /// The lines that are "each ended by LF", with their LF.
-fn complete_lines(text: &[u8]) -> impl Iterator<Item = &[u8]> {
+pub fn complete_lines(text: &[u8]) -> impl Iterator<Item = &[u8]> {
     kept_part(text).split_inclusive(|&byte| byte == LINE_FEED)
 }
 
@@ -147,7 +162,7 @@ pub fn read_numbers(fields: &[&[u8]]) -> Option<Vec<u16>> {
 }
 
 /// "Numbers are decimal, 1 to 5 digits, at most 65535, no leading zero except 0 itself."
-fn read_number(field: &[u8]) -> Option<u16> {
+pub fn read_number(field: &[u8]) -> Option<u16> {
     let length_is_good = (1..=5).contains(&field.len());
     if !length_is_good || (field[0] == b'0' && field.len() > 1) {
         return None;
@@ -162,11 +177,11 @@ fn read_number(field: &[u8]) -> Option<u16> {
     u16::try_from(number).ok()
 }
 
-fn write_header(new: &mut Vec<u8>, modes: usize, terms: usize) {
+pub fn write_header(new: &mut Vec<u8>, modes: usize, terms: usize) {
     new.extend(format!("hatt\t1\t{modes}\t{terms}\n").bytes());
 }
 
-fn write_merge(new: &mut Vec<u8>, step: usize, merge: Merge) {
+pub fn write_merge(new: &mut Vec<u8>, step: usize, merge: Merge) {
     let [x, y, z] = merge.triple;
     let weight = merge.weight;
     new.extend(format!("{step}\t{x}\t{y}\t{z}\t{weight}\n").bytes());

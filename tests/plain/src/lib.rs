@@ -1,9 +1,10 @@
 //! The rules of docs/01-scope.md ("01" below), and of the requests of docs/02 that landed, written a second time, in ordinary Rust with ordinary vectors.
 //!
 //! It judges what the Rust original has no counterpart for: the journal, the refusals, the tree
-//! check, the trial count, the tree weight, the program's text and Newick texts. It is clear rather than fast.
+//! check, the trial count, the tree weight, the programs' text, their commands and Newick texts. It is clear rather than fast.
 
 pub mod assign;
+pub mod commands;
 pub mod journal;
 pub mod merging;
 pub mod newick;
@@ -13,6 +14,7 @@ pub mod text;
 pub mod tree;
 
 pub use assign::assign;
+pub use commands::command;
 pub use journal::{find_line, hatt, resume, Done};
 pub use newick::{read_newick, write_newick};
 pub use refusal::Refusal;

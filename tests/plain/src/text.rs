@@ -9,10 +9,14 @@ use crate::terms::{MAX_MAJORANAS, MOST_TERMS, ROW_NUMBERS};
 pub fn program(input: &[u8]) -> Vec<u8> {
     let printed = match answer(input) {
         Ok((done, rows)) => print_answer(done, &rows),
-        // "A refusal prints `refused`, number, place."
-        Err(Refusal { number, place }) => format!("refused\t{number}\t{place}\n"),
+        Err(refusal) => print_refusal(refusal),
     };
     printed.into_bytes()
+}
+
+/// "A refusal prints `refused`, number, place."
+pub fn print_refusal(Refusal { number, place }: Refusal) -> String {
+    format!("refused\t{number}\t{place}\n")
 }
 
 fn answer(input: &[u8]) -> Result<(Done, Vec<u16>), Refusal> {
@@ -26,7 +30,7 @@ fn answer(input: &[u8]) -> Result<(Done, Vec<u16>), Refusal> {
 }
 
 /// "first line `modes` TAB n, then `term` TAB indices".
-fn read_input(input: &[u8]) -> Result<(usize, Vec<u16>), Refusal> {
+pub fn read_input(input: &[u8]) -> Result<(usize, Vec<u16>), Refusal> {
     // "empty input is 18 at line 0"
     demand(!input.is_empty(), 18, 0)?;
     let mut modes = 0;
@@ -79,7 +83,7 @@ fn read_named(line: &[u8], word: &[u8]) -> Option<Vec<u16>> {
 }
 
 /// "Fields: greedy weight; trials; label, X, Y, Z codes."
-fn print_answer(done: Done, rows: &[u16]) -> String {
+pub fn print_answer(done: Done, rows: &[u16]) -> String {
     format!("weight\t{}\ntrials\t{}\n", done.weight, done.trials) + &node_lines(rows)
 }
 

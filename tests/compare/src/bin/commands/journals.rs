@@ -1,0 +1,83 @@
+//! `reason`, and the commands that it explains: journals steered, cut, damaged and of other terms.
+
+use crate::damage::{damage_bytes, damage_field, damage_lines, exchange_fields};
+use crate::inputs::Job;
+use crate::Question;
+use compare::cases::Random;
+
+type Damage = fn(&mut Random, &Job, Vec<u8>) -> Vec<u8>;
+
+/// What is done to the journal of a run that took any lawful triple.
+const DAMAGES: [(&str, Damage); 6] = [
+    ("journals, steered", |_, _, text| text),
+    ("journals cut", |random, _, mut text| {
+        text.truncate(random.between(0, text.len()));
+        text
+    }),
+    ("journals with a field replaced", |random, job, text| {
+        damage_field(random, text, 3 * job.modes)
+    }),
+    ("journals with fields exchanged", |random, _, text| {
+        exchange_fields(random, text)
+    }),
+    ("journals with lines damaged", |random, _, text| {
+        damage_lines(random, text)
+    }),
+    ("journals with bytes damaged", |random, _, text| {
+        damage_bytes(random, text)
+    }),
+];
+
+pub fn each(random: &mut Random, ask: &mut dyn FnMut(Question)) {
+    for (kind, damage) in DAMAGES {
+        for _ in 0..200 {
+            let job = Job::any(random);
+            let steps = random.between(0, job.modes);
+            let good = journal(random, &job, steps);
+            let file = damage(random, &job, good);
+            ask_all(kind, &file, &job.text(), ask);
+        }
+    }
+    for _ in 0..100 {
+        let job = Job::any(random);
+        let other = Job::of(random, job.modes, 14);
+        let steps = random.between(0, job.modes);
+        let mut file = journal(random, &job, steps);
+        ask_all(
+            "journals, terms damaged",
+            &file,
+            &job.damaged_text(random),
+            ask,
+        );
+        // the other job's header, so that its merges are looked at
+        let header = format!("hatt\t1\t{}\t{}\n", other.modes, other.rows.len());
+        let first = file
+            .iter()
+            .position(|&byte| byte == b'\n')
+            .expect("a header");
+        file.splice(..=first, header.into_bytes());
+        ask_all("journals of other terms", &file, &other.text(), ask);
+    }
+}
+
+/// The journal of so many merges, each any lawful one.
+fn journal(random: &mut Random, job: &Job, steps: usize) -> Vec<u8> {
+    let mut text = format!("hatt\t1\t{}\t{}\n", job.modes, job.rows.len());
+    for (step, merge) in job.wandered(random, steps).merges().iter().enumerate() {
+        let ([x, y, z], weight) = (merge.triple, merge.weight);
+        text += &format!("{step}\t{x}\t{y}\t{z}\t{weight}\n");
+    }
+    text.into_bytes()
+}
+
+fn ask_all(kind: &'static str, file: &[u8], terms: &[u8], ask: &mut dyn FnMut(Question)) {
+    for command in ["reason", "resume", "continue"] {
+        ask(Question {
+            kind,
+            command,
+            heuristic: "",
+            file: file.to_vec(),
+            terms: terms.to_vec(),
+        });
+    }
+}
