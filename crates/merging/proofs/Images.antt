@@ -6,8 +6,8 @@ use Prim.Native.Nat.{ℕ}
 use native.Mathlib.Omega.{arith}
 use Rattle.entities.specs.declared.Triple.{Triple}
 use Rattle.terms.specs.Job.{Job}
-use Rattle.terms.specs.Reduction.{sorted, rewriting}
-use Rattle.terms.proofs.ByPlace.{reduced-at}
+use Rattle.reduction.specs.Reduction.{sorted, rewriting}
+use Rattle.reduction.proofs.ByPlace.{reduced-at}
 use Rattle.merging.specs.History.{next-parent, rows-after}
 use Rattle.merging.specs.Images.{image, ImageOrGone}
 use Rattle.merging.proofs.RowsAfter.{length-rows-after}

@@ -6,8 +6,8 @@ use native.Mathlib.Omega.{arith}
 use lib.ListN.{length}
 use Rattle.entities.specs.declared.Triple.{Triple}
 use Rattle.terms.specs.Job.{Job}
-use Rattle.terms.proofs.ByPlace.{length-reduction}
 use Rattle.terms.proofs.WeightBound.{weight-at-most}
+use Rattle.reduction.proofs.ByPlace.{length-reduction}
 use Rattle.merging.specs.History.{rows-after}
 use Rattle.merging.specs.Choice.{weight-in}
 

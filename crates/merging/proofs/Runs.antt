@@ -7,8 +7,8 @@ use native.Mathlib.Omega.{arith}
 use lib.ListN.{length, take}
 use Rattle.entities.specs.declared.Triple.{Triple}
 use Rattle.terms.specs.Job.{Job}
+use Rattle.terms.proofs.RowSteps.{terms-front}
 use Rattle.terms.proofs.OwnRows.{front-held}
-use Rattle.terms.proofs.RowReduced.{terms-front}
 use Rattle.merging.specs.declared.run.Run.{Run}
 use Rattle.merging.specs.Lawful.{Lawful, LawfulHistory}
 use Rattle.merging.specs.Choice.{weight-in}

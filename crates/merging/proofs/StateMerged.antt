@@ -10,7 +10,7 @@ use lib.Seq.{getD-set-same, getD-set-other}
 use Rattle.entities.specs.declared.Triple.{Triple}
 use Rattle.terms.specs.Rows.{terms-of}
 use Rattle.terms.specs.Job.{Job}
-use Rattle.terms.specs.code.Promises.{Reduced}
+use Rattle.reduction.specs.code.Promises.{Reduced}
 use Rattle.merging.specs.declared.run.Run.{Run}
 use Rattle.merging.specs.History.{next-parent, rows-after}
 use Rattle.merging.specs.Choice.{weight-in}

@@ -9,11 +9,11 @@ use Rattle.entities.specs.declared.Triple.{Triple}
 use Rattle.terms.specs.Rows.{terms-of}
 use Rattle.terms.specs.Job.{Job}
 use Rattle.terms.specs.Weight.{weight-of}
-use Rattle.terms.specs.Reduction.{live}
-use Rattle.terms.specs.code.Promises.{LiveRows}
 use Rattle.terms.proofs.WeightBound.{weight-at-most}
 use Rattle.terms.proofs.RowSteps.{length-terms}
-use Rattle.terms.proofs.AsTold.{live-weight}
+use Rattle.reduction.specs.Reduction.{live}
+use Rattle.reduction.specs.code.Promises.{LiveRows}
+use Rattle.reduction.proofs.AsTold.{live-weight}
 use Rattle.merging.specs.declared.choice.Best.{Best}
 use Rattle.merging.specs.declared.run.Run.{Run}
 use Rattle.merging.specs.History.{next-parent, rows-after}

@@ -7,7 +7,7 @@ use lib.ListN.{length, drop}
 use Rattle.entities.specs.declared.Triple.{Triple}
 use Rattle.entities.specs.Parents.{parent-number}
 use Rattle.terms.specs.Job.{Job}
-use Rattle.terms.specs.Reduction.{reduction}
+use Rattle.reduction.specs.Reduction.{reduction}
 
 -- The merge of a step, counted from the oldest: the newest is that of as many steps as came before it.
 unfoldable pub merge-of : List Triple → ℕ → Triple

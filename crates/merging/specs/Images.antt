@@ -6,7 +6,7 @@ use Prim.Native.Nat.{ℕ, _<_}
 use lib.ListN.{length, getD}
 use Rattle.entities.specs.declared.Triple.{Triple}
 use Rattle.terms.specs.Job.{Job}
-use Rattle.terms.specs.Reduction.{rewriting}
+use Rattle.reduction.specs.Reduction.{rewriting}
 use Rattle.merging.specs.History.{next-parent, rows-after}
 
 -- "each of the three numbers becomes the parent, multiplicity kept, the row sorted", merge after merge.

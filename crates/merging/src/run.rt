@@ -15,8 +15,7 @@ ghost use Rattle.merging.specs.code.Runs.{Holds, Ready, Went};
 use crate::choice;
 use entities::Triple;
 use entities::parents;
-use terms::live_rows;
-use terms::reduction;
+use reduction::live_rows;
 
 // What a run holds: its modes and how many rows it has, a mark, a z-end and a holder for every entity, and x, y, z and the weight of
 // every merge.

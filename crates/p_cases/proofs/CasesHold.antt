@@ -15,7 +15,7 @@ use Rattle.fields.specs.Lines.{lines-after, lines, kept-of}
 use Rattle.terms.specs.Rows.{rows-of, term, terms-of}
 use Rattle.terms.specs.Good.{modes-good, good-indices, good-row, good-rows, checked}
 use Rattle.terms.specs.Weight.{weight-of, term-weight, odd-ones}
-use Rattle.terms.specs.Reduction.{reduction, rewriting, sorted, put-in, replacement, dropped, stays, settled, reduced-row}
+use Rattle.reduction.specs.Reduction.{reduction, rewriting, sorted, put-in, replacement, dropped, stays, settled, reduced-row}
 use Rattle.merging.specs.History.{merge-of, next-parent, among, is-open, z-end, rows-after}
 use Rattle.merging.specs.Lawful.{three-open, paired}
 use Rattle.merging.specs.Choice.{weight-in}

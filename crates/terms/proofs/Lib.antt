@@ -1,18 +1,7 @@
--- The laws of rows, their weight and their reduction.
+-- The laws of rows and their weight.
 pub mod RowSteps
 pub mod GoodSteps
 pub mod OwnRows
 pub mod Weighing
 pub mod WeightBound
-pub mod SortedRight
-pub mod Sorting
-pub mod RowRewritten
-pub mod Reducing
-pub mod RowReduced
-pub mod MarkedRows
-pub mod ReducedRows
-pub mod Unchanged
-pub mod ByPlace
-pub mod AsTold
-pub mod LiveRows
 pub mod StaysGood

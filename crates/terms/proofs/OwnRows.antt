@@ -8,8 +8,7 @@ use lib.ListN.{length, getD, take}
 use lib.Seq.{getD-take, take-all}
 use Rattle.terms.specs.Rows.{terms-of}
 use Rattle.terms.specs.code.Held.{Held}
-use Rattle.terms.proofs.RowSteps.{row-front}
-use Rattle.terms.proofs.RowReduced.{terms-front}
+use Rattle.terms.proofs.RowSteps.{row-front, terms-front}
 
 -- Numbers that begin alike hold the same rows.
 pub front-held : (w count : ℕ) (numbers own : List ℕ) → take (w * count) own ≡ take (w * count) numbers → w * count ≤ length own

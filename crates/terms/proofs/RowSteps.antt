@@ -1,6 +1,6 @@
 -- One step along rows that stand one after the other.
 use mathlib.Core.Path.{_≡_, refl, ap, _∙_, sym}
-use mathlib.Core.List.{List, [], _∷_, _++_}
+use mathlib.Core.List.{List, [], _∷_, _++_, map, map-append}
 use Prim.Native.Nat.{ℕ, zero, suc, _+_, _-_, _*_, _<_, _≤_}
 use native.Mathlib.Omega.{arith}
 use native.Mathlib.Nat.{mul-zero, sub-zero, add-zero}
@@ -41,6 +41,12 @@ module _ (w place : ℕ) (s : List ℕ) (room : w * place + w ≤ length s) wher
   pub row-first : 0 < w → getD (take w (drop (w * place) s)) 0 0 ≡ getD s (w * place) 0
   row-first h = rw (getD-take w (drop (w * place) s) 0 0 h, getD-drop (w * place) s 0 0, add-zero)
 
+-- The term of a row is as long as the row says.
+module _ (row : List ℕ) (within : getD row 0 0 < length row) where
+  pub length-term : length (term row) ≡ getD row 0 0
+  unfolding term
+  length-term = simp (length-take, length-drop) (omega arith)
+
 pub length-rows : (w count : ℕ) (s : List ℕ) → length (rows-of w count s) ≡ count
 unfolding rows-of
 length-rows w zero s = refl
@@ -71,6 +77,10 @@ rows-front w count s t e =
     let same : take (w * count + 0) s ≡ take (w * count + 0) t = rw (add-zero (w * count)) e in
     sym (rows-take w count 0 s) ∙ ap (rows-of w count) same ∙ rows-take w count 0 t
 
+pub terms-front : (w count : ℕ) (s t : List ℕ) → take (w * count) s ≡ take (w * count) t → terms-of w count s ≡ terms-of w count t
+unfolding terms-of
+terms-front w count s t e = ap (map term) (rows-front w count s t e)
+
 -- A row among the first is read from the first numbers alone.
 pub row-front : (w count : ℕ) (s t : List ℕ) → take (w * count) s ≡ take (w * count) t → (place : ℕ) → place < count
     → take w (drop (w * place) s) ≡ take w (drop (w * place) t)
@@ -85,6 +95,10 @@ rows-more w (suc count) s =
     let e : suc count + 1 ≡ suc (count + 1) = omega arith in
     let d : w + w * count ≡ w * suc count = omega arith in
     rw (e, rows-more w count (drop w s), drop-drop (w * count) w s, d)
+
+pub terms-more : (w count : ℕ) (s : List ℕ) → terms-of w (count + 1) s ≡ terms-of w count s ++ (term (take w (drop (w * count) s)) ∷ [])
+unfolding terms-of
+terms-more w count s = ap (map term) (rows-more w count s) ∙ map-append term (rows-of w count s) _
 
 -- Rows that are held are held without the last one too.
 pub held-fewer : (w count : ℕ) (s : List ℕ) → Held w (count + 1) s → Held w count s

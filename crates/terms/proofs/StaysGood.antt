@@ -1,27 +1,21 @@
--- Terms that the check accepted are good, and reduction to a parent below the bound leaves good terms good.
+-- Terms that the check accepted are good.
 use mathlib.Core.Path.{_≡_, refl, sym}
-use mathlib.Core.Bool.{Bool, true, false, _&&_, cond, not, and-eq-true-iff}
-use mathlib.Core.List.{List, [], map}
+use mathlib.Core.Bool.{Bool, true, false, _&&_, and-eq-true-iff}
+use mathlib.Core.List.{List, []}
 use Prim.Native.Nat.{ℕ, zero, suc, _*_, _/_, _%_, _<_, _≤_}
 use native.Mathlib.Omega.{arith}
-use borrow.Author.Tests.{eqb-true, ltb-false, leb-true, lt-ltb, le-leb}
+use borrow.Author.Tests.{eqb-true, ltb-false, leb-true, le-leb}
 use lib.Dec.{eqb, ltb, leb}
 use lib.ListN.{length, getD, take, drop, length-drop}
 use lib.Seq.{length-take-le}
-use Rattle.lists.specs.Members.{every, alike, firsts}
+use Rattle.lists.specs.Members.{every}
 use Rattle.lists.specs.Ranges.{ascends}
-use Rattle.lists.proofs.Every.{every-at, every-cons, every-uncons, every-kept, every-first, every-leading, every-mapped}
-use Rattle.entities.specs.declared.Triple.{Triple}
+use Rattle.lists.proofs.Every.{every-at, every-cons, every-uncons, every-leading}
 use Rattle.terms.specs.declared.checking.Checked.the-variants.{Good}
 use Rattle.terms.specs.Rows.{rows-of, term, terms-of}
 use Rattle.terms.specs.code.Held.{Held}
 use Rattle.terms.specs.Good.{good-indices, good-row, good-term, good-rows, checked}
-use Rattle.terms.specs.Reduction.{replacement, rewriting, dropped, reduction, live, told-reduction}
-use Rattle.terms.proofs.RowSteps.{row-first, length-rows, rows-at}
-use Rattle.terms.proofs.RowRewritten.{length-term}
-use Rattle.terms.proofs.Sorting.{length-rewriting}
-use Rattle.terms.proofs.SortedRight.{ascends-sorted, every-sorted}
-use Rattle.terms.proofs.AsTold.{as-told}
+use Rattle.terms.proofs.RowSteps.{row-first, length-term, length-rows, rows-at}
 
 -- The facts of a good term.
 pub record GoodTerm (bound : ℕ) (term : List ℕ) : Type 0 where
@@ -47,42 +41,6 @@ module _ (bound : ℕ) where
   pub good-term-from : (term : List ℕ) → GoodTerm bound term → good-term bound term ≡ true
   unfolding good-term good-indices
   good-term-from term g = rw (le-leb 1 (length term) (g .some), le-leb (length term) 7 (g .few), g .ascending) (g .below)
-
-  -- Reduction: the length stays, the numbers are sorted, and each is one that was there or the parent.
-  module _ (triple : Triple) (parent : ℕ) (below : parent < bound) where
-    chosen-below : (b : Bool) (other : ℕ) → ltb other bound ≡ true → ltb (cond b parent other) bound ≡ true
-    chosen-below true other e = lt-ltb parent bound below
-    chosen-below false other e = e
-
-    replacement-below : (number : ℕ) → ltb number bound ≡ true → ltb (replacement triple parent number) bound ≡ true
-    unfolding replacement
-    replacement-below number e =
-        chosen-below (eqb number (triple .x)) _
-        (chosen-below (eqb number (triple .y)) _ (chosen-below (eqb number (triple .z)) number e))
-
-    rewriting-good : (term : List ℕ) → good-term bound term ≡ true → good-term bound (rewriting triple parent term) ≡ true
-    unfolding rewriting
-    rewriting-good term e =
-        let g = good-term-says term e in
-        let same = length-rewriting triple parent term in
-        good-term-from (rewriting triple parent term)
-        (record {
-          some = rw same (g .some);
-          few = rw same (g .few);
-          ascending = ascends-sorted (map (replacement triple parent) term);
-          below =
-              every-sorted (λ index. ltb index bound) (map (replacement triple parent) term)
-              (every-mapped (λ index. ltb index bound) (λ index. ltb index bound) (replacement triple parent) replacement-below term (g .below));
-        })
-
-    pub reduction-good : (terms : List (List ℕ)) → every (good-term bound) (live terms) ≡ true
-        → every (good-term bound) (live (reduction triple parent terms)) ≡ true
-    unfolding told-reduction firsts
-    reduction-good terms e =
-        rw (as-told triple parent terms)
-        (every-first (good-term bound) alike [] _
-        (every-kept (good-term bound) (λ term. not (dropped parent term)) _
-        (every-mapped (good-term bound) (good-term bound) (rewriting triple parent) rewriting-good (live terms) e)))
 
   -- A good row's first number is within the row, and its term is good.
   module _ (row : List ℕ) (good : good-row bound row ≡ true) where

@@ -1,4 +1,2 @@
--- How the code marks terms and reduces rows: no public promise needs it.
+-- How rows stand in the numbers that the code is lent: no public promise needs it.
 pub mod Held
-pub mod Marks
-pub mod Promises

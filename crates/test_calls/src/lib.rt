@@ -11,7 +11,6 @@ use newick::writing;
 use newick::writing::NewickWritten;
 use terms::checking;
 use terms::checking::Checked;
-use terms::reduction;
 use terms::weight;
 use topphatt::Assigned;
 use tree::TreeChecked;

@@ -10,8 +10,8 @@ use lib.ListN.{length, replicate}
 use Rattle.lists.specs.Least.{best-of}
 use Rattle.terms.specs.Rows.{terms-of}
 use Rattle.terms.specs.Weight.{weight-of}
-use Rattle.terms.specs.Reduction.{reduction, live}
-use Rattle.terms.proofs.AsTold.{live-weight}
+use Rattle.reduction.specs.Reduction.{reduction, live}
+use Rattle.reduction.proofs.AsTold.{live-weight}
 use Rattle.choice.specs.Choices.{unassigned}
 use Rattle.choice.specs.Choice.{Choice, candidates}
 use Rattle.choice.specs.computed.Choosing.{better, chosen}

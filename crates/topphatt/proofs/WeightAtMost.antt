@@ -6,7 +6,7 @@ use native.Mathlib.Omega.{arith}
 use lib.Dec.{eqb}
 use lib.ListN.{length}
 use Rattle.terms.proofs.WeightBound.{weight-at-most}
-use Rattle.terms.proofs.ByPlace.{length-reduction}
+use Rattle.reduction.proofs.ByPlace.{length-reduction}
 use Rattle.choice.specs.Choices.{unassigned}
 use Rattle.choice.specs.Choice.{Choice}
 use Rattle.topphatt.specs.Rounds.{Rounds, Task, before, after}

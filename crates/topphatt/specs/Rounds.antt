@@ -6,7 +6,7 @@ use lib.ListN.{set, replicate}
 use Rattle.entities.specs.Parents.{parent-number}
 use Rattle.terms.specs.Job.{Job}
 use Rattle.terms.specs.Weight.{weight-of}
-use Rattle.terms.specs.Reduction.{reduction}
+use Rattle.reduction.specs.Reduction.{reduction}
 use Rattle.tree.specs.Table.{child}
 use Rattle.slots.specs.Slots.{pair-of, slot, unfixed}
 use Rattle.choice.specs.Choice.{Choice}

@@ -15,9 +15,8 @@ ghost use Rattle.topphatt.specs.computed.Rounding.{ended};
 ghost use Rattle.topphatt.specs.code.Going.{«task-with», Chose, Fixed, Going, RoundMade, Ended};
 use choice::Selection;
 use entities::parents;
+use reduction::live_rows;
 use slots::nodes;
-use terms::live_rows;
-use terms::reduction;
 use terms::weight;
 use tree::table;
 

@@ -5,8 +5,8 @@ use native.Mathlib.Omega.{arith}
 use borrow.Author.Needs.{needs}
 use Rattle.terms.specs.Rows.{terms-of}
 use Rattle.terms.specs.Weight.{weight-of}
-use Rattle.terms.specs.Reduction.{reduction}
-use Rattle.terms.proofs.AsTold.{live-weight}
+use Rattle.reduction.specs.Reduction.{reduction}
+use Rattle.reduction.proofs.AsTold.{live-weight}
 use Rattle.choice.specs.computed.Choosing.{chosen}
 use Rattle.choice.specs.code.Seeking.{choice-of}
 use Rattle.topphatt.specs.declared.rounds.Progress.{Progress}

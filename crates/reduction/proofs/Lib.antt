@@ -1,0 +1,13 @@
+-- The laws of reduction.
+pub mod SortedRight
+pub mod Sorting
+pub mod RowRewritten
+pub mod Reducing
+pub mod RowReduced
+pub mod MarkedRows
+pub mod ReducedRows
+pub mod Unchanged
+pub mod ByPlace
+pub mod AsTold
+pub mod LiveRows
+pub mod StaysGood

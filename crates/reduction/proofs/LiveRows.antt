@@ -1,0 +1,104 @@
+-- The rows that are there gathered one by one: those gathered and those ahead that are there are all of them.
+use mathlib.Core.Path.{_≡_, refl, ap, _∙_, sym}
+use mathlib.Core.List.{List, [], _∷_, _++_, append-nil, append-assoc}
+use mathlib.Core.Logic.{⊎-elim}
+use Prim.Native.Nat.{ℕ, _+_, _-_, _*_, _<_, _≤_}
+use native.Mathlib.Omega.{arith}
+use lib.ListN.{length, getD, take, drop}
+use Rattle.lists.specs.Members.{keep}
+use Rattle.lists.specs.Written.{written-at}
+use Rattle.lists.proofs.Tests.{same-or-not}
+use Rattle.terms.specs.Rows.{rows-of, term, terms-of}
+use Rattle.terms.specs.code.Held.{Held}
+use Rattle.terms.proofs.RowSteps.{terms-start, terms-step, terms-end, row-length, row-first, length-term}
+use Rattle.reduction.specs.Reduction.{is-there, live}
+use Rattle.reduction.specs.code.Promises.{RowGathered, LiveRows}
+use Rattle.reduction.proofs.RowReduced.{no-term, put-held, put-terms, put-length}
+use Rattle.reduction.proofs.AsTold.{is-there-so}
+
+-- While the rows are passed.
+pub record Gathering (count : ℕ) (rows before gathered : List ℕ) (kept place : ℕ) : Type 0 where
+  pub inside : place ≤ count
+  pub fewer : kept ≤ place
+  pub held : Held 8 kept gathered
+  pub same-length : length gathered ≡ length before
+  pub gives : live (terms-of 8 count rows) ≡ terms-of 8 kept gathered ++ live (terms-of 8 (count - place) (drop (8 * place) rows))
+
+module _ (count : ℕ) (rows before : List ℕ) (held : Held 8 count rows) (room : 8 * count ≤ length before) where
+  pub gathering-starts : Gathering count rows before before 0 0
+  unfolding terms-of rows-of
+  gathering-starts =
+      record {
+        inside = omega arith;
+        fewer = omega arith;
+        held = record { room = omega arith; within = λ place h. absurd (omega arith); zeros = λ place h. absurd (omega arith) };
+        same-length = refl;
+        gives = ap live (terms-start 8 count rows);
+      }
+
+  module _ (gathered : List ℕ) (kept place : ℕ) (g : Gathering count rows before gathered kept place) where
+    module _ (h : place < count) where
+      abbrev here : List ℕ
+      here = take 8 (drop (8 * place) rows)
+
+      pub here-room : 8 * place + 8 ≤ length rows
+      here-room = omega (arith, held .room)
+
+      pub live-room : 8 * kept + 8 ≤ length gathered
+      live-room = rw (g .same-length) (omega (arith, room, g .fewer))
+
+      here-first : getD here 0 0 ≡ getD rows (8 * place) 0
+      here-first = row-first 8 place rows here-room (omega arith)
+
+      -- A row that is gone is passed over.
+      pub passed-gone : getD rows (8 * place) 0 ≡ 0 → Gathering count rows before gathered kept (place + 1)
+      unfolding live is-there keep
+      passed-gone none =
+          record {
+            inside = omega arith;
+            fewer = omega (arith, g .fewer);
+            held = g .held;
+            same-length = g .same-length;
+            gives = g .gives ∙ rw (terms-step 8 count place rows h, no-term here (here-first ∙ none)) refl;
+          }
+
+      -- A row that is there is put behind those gathered.
+      pub passed-there : (getD rows (8 * place) 0 ≡ 0 → ⊥) → Gathering count rows before (written-at (8 * kept) here gathered) (kept + 1) (place + 1)
+      unfolding live keep
+      passed-there some =
+          let whole = row-length 8 place rows here-room in
+          let within = held .within place h in
+          let long : length (term here) ≡ getD here 0 0 = length-term here (rw (whole, here-first) within) in
+          record {
+            inside = omega arith;
+            fewer = omega (arith, g .fewer);
+            held =
+                put-held kept gathered here (g .held) live-room whole (rw here-first within)
+                (λ none. absurd (some (sym here-first ∙ none)));
+            same-length = put-length kept gathered here (g .held) live-room whole ∙ g .same-length;
+            gives =
+                g .gives
+                ∙ rw (
+                  terms-step 8 count place rows h,
+                  is-there-so (term here) (omega (arith, long, here-first, some)),
+                  put-terms kept gathered here (g .held) live-room whole,
+                )
+                (sym (append-assoc (terms-of 8 kept gathered) (term here ∷ []) _));
+          }
+
+      pub gathered-on : (after : List ℕ) (now-kept : ℕ) → RowGathered rows place kept gathered after now-kept
+          → Gathering count rows before after now-kept (place + 1)
+      gathered-on after now-kept r =
+          ⊎-elim
+          (λ none. rw (r .gone none .0, r .gone none .1) (passed-gone none))
+          (λ some. rw (r .there some .0, r .there some .1) (passed-there some))
+          (same-or-not (getD rows (8 * place) 0) 0)
+
+    pub gathering-ends : count ≤ place → LiveRows count rows gathered kept
+    unfolding live keep
+    gathering-ends h =
+        record {
+          terms = sym (g .gives ∙ rw (terms-end 8 count place rows h) (append-nil (terms-of 8 kept gathered)));
+          held = g .held;
+          at-most = omega (arith, g .fewer, g .inside);
+        }

@@ -1,0 +1,130 @@
+-- One row reduced: what it becomes, and what the rows are with it written over itself.
+use mathlib.Core.Path.{_≡_, refl, ap, _∙_, sym}
+use mathlib.Core.Bool.{true, false, true≢false}
+use mathlib.Core.List.{List, [], _∷_, _++_}
+use Prim.Native.Nat.{ℕ, _+_, _*_, _<_, _≤_}
+use native.Mathlib.Nat.{add-zero}
+use native.Mathlib.Omega.{arith}
+use borrow.Author.Count.{below-more}
+use lib.ListN.{length, getD, take, drop, replicate, length-take, length-drop, take-append-drop}
+use lib.Seq.{drop-drop}
+use Rattle.lists.specs.Members.{every}
+use Rattle.lists.specs.Written.{written-at}
+use Rattle.lists.proofs.Written.{length-written, take-written, part-written, drop-written, getD-before, getD-within}
+use Rattle.entities.specs.declared.Triple.{Triple}
+use Rattle.terms.specs.Rows.{term, terms-of}
+use Rattle.terms.specs.code.Held.{Held}
+use Rattle.terms.proofs.RowSteps.{row-length, row-first, row-front, terms-front, terms-more}
+use Rattle.reduction.specs.Reduction.{sorted, rewriting, dropped, stays, settled, reduced-row}
+use Rattle.reduction.specs.code.Promises.{Rewritten, RowSettled, RowReduced}
+
+-- What stands there written back leaves everything as it is.
+written-back : (place count : ℕ) (s : List ℕ) → place + count ≤ length s → written-at place (take count (drop place s)) s ≡ s
+unfolding written-at
+written-back place count s room =
+    let size : length (take count (drop place s)) ≡ count = simp (length-take, length-drop) (omega arith) in
+    rw (size, ← drop-drop count place s, take-append-drop count (drop place s)) (take-append-drop place s)
+
+pub no-term : (row : List ℕ) → getD row 0 0 ≡ 0 → term row ≡ []
+unfolding term
+no-term row none = rw none
+
+-- The empty term doesn't stay.
+pub empty-goes : (parent : ℕ) (before : List (List ℕ)) → stays parent before [] ≡ false
+unfolding stays dropped every
+empty-goes parent before = refl
+
+module _ (triple : Triple) (parent place : ℕ) (rows : List ℕ) where
+  pub row-stays : (aside : List ℕ) → length aside ≡ 8 → getD aside 0 0 < 8
+      → Rewritten triple parent (take 8 (drop (8 * place) rows)) aside
+      → stays parent (terms-of 8 place rows) (term aside) ≡ true → RowSettled triple parent place rows aside
+  unfolding reduced-row settled
+  row-stays aside whole within r e =
+      record {
+        whole = whole;
+        new-term = rw (← r .new-term, e);
+        within = within;
+        zeros = λ none. absurd (true≢false (sym e ∙ ap (stays parent (terms-of 8 place rows)) (no-term aside none) ∙ empty-goes parent (terms-of 8 place rows)));
+      }
+
+  pub row-goes : stays parent (terms-of 8 place rows) (rewriting triple parent (term (take 8 (drop (8 * place) rows)))) ≡ false
+      → RowSettled triple parent place rows (replicate 8 0)
+  unfolding reduced-row settled term
+  row-goes e = record { whole = refl; new-term = rw e; within = omega arith; zeros = λ none. refl }
+
+-- The rows after one was written behind so many others.
+module _ (place : ℕ) (before row : List ℕ) (held : Held 8 place before) (room : 8 * place + 8 ≤ length before) (whole : length row ≡ 8) where
+  fits : 8 * place + length row ≤ length before
+  fits = rw whole room
+
+  after : List ℕ
+  after = written-at (8 * place) row before
+
+  same-front : take (8 * place) after ≡ take (8 * place) before
+  unfolding after
+  same-front = take-written (8 * place) row before fits
+
+  row-there : take 8 (drop (8 * place) after) ≡ row
+  unfolding after
+  row-there = ap (λ n. take n (drop (8 * place) (written-at (8 * place) row before))) (sym whole) ∙ part-written (8 * place) row before fits
+
+  first-there : getD after (8 * place) 0 ≡ getD row 0 0
+  unfolding after
+  first-there =
+      ap (λ n. getD (written-at (8 * place) row before) n 0) (sym (add-zero (8 * place)))
+      ∙ getD-within (8 * place) row before fits 0 0 (rw whole (omega arith))
+
+  pub put-held : getD row 0 0 < 8 → (getD row 0 0 ≡ 0 → row ≡ replicate 8 0) → Held 8 (place + 1) (written-at (8 * place) row before)
+  unfolding after
+  put-held within zeros =
+      let same-first : (p : ℕ) → p < place → getD after (8 * p) 0 ≡ getD before (8 * p) 0 =
+      λ p h. getD-before (8 * place) row before fits (8 * p) 0 (omega arith) in
+      record {
+        room = rw (length-written (8 * place) row before fits) (omega (arith, room));
+        within = below-more (λ p. getD after (8 * p) 0 < 8) place (λ p h. rw (same-first p h) (held .within p h)) (rw first-there within);
+        zeros =
+            below-more (λ p. getD after (8 * p) 0 ≡ 0 → take 8 (drop (8 * p) after) ≡ replicate 8 0) place
+            (λ p h none. row-front 8 place after before same-front p h ∙ held .zeros p h (sym (same-first p h) ∙ none))
+            (λ none. row-there ∙ zeros (sym first-there ∙ none));
+      }
+
+  pub put-terms : terms-of 8 (place + 1) (written-at (8 * place) row before) ≡ terms-of 8 place before ++ (term row ∷ [])
+  unfolding after
+  put-terms =
+      terms-more 8 place after
+      ∙ rw (terms-front 8 place after before same-front) (ap (λ l. terms-of 8 place before ++ (term l ∷ [])) row-there)
+
+  pub put-rest : drop (8 * (place + 1)) (written-at (8 * place) row before) ≡ drop (8 * (place + 1)) before
+  put-rest = drop-written (8 * place) row before fits (8 * (place + 1)) (rw whole (omega arith))
+
+  pub put-length : length (written-at (8 * place) row before) ≡ length before
+  put-length = length-written (8 * place) row before fits
+
+-- A row that is gone already stays gone, as it is.
+module _ (triple : Triple) (parent place : ℕ) (rows : List ℕ) (held : Held 8 (place + 1) rows) (none : getD rows (8 * place) 0 ≡ 0) where
+  abbrev here : List ℕ
+  here = take 8 (drop (8 * place) rows)
+
+  room-here : 8 * place + 8 ≤ length rows
+  room-here = omega (arith, held .room)
+
+  pub gone-term : term here ≡ []
+  gone-term = no-term here (row-first 8 place rows room-here (omega arith) ∙ none)
+
+  gone-settled : RowSettled triple parent place rows here
+  unfolding reduced-row settled rewriting sorted
+  gone-settled =
+      record {
+        whole = row-length 8 place rows room-here;
+        new-term = gone-term ∙ sym (rw (gone-term, empty-goes parent (terms-of 8 place rows)));
+        within = rw (row-first 8 place rows room-here (omega arith), none) (omega arith);
+        zeros = λ e. held .zeros place (omega arith) none;
+      }
+
+  pub stays-gone : RowReduced triple parent place rows rows
+  stays-gone =
+      record {
+        row = here;
+        settled = gone-settled;
+        put = sym (written-back (8 * place) 8 rows room-here);
+      }

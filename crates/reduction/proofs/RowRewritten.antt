@@ -1,0 +1,34 @@
+-- A row whose term was rewritten where it stands.
+use mathlib.Core.Path.{_≡_, ap, _∙_}
+use mathlib.Core.List.{List, _++_}
+use Prim.Native.Nat.{ℕ, _<_}
+use native.Mathlib.Omega.{arith}
+use borrow.Rule.Slice.PartMut.{putMid, postOf}
+use lib.ListN.{length, getD, take, List·getD-append}
+use lib.Seq.{drop-at, take-at, getD-take, length-take-le}
+use Rattle.entities.specs.declared.Triple.{Triple}
+use Rattle.terms.specs.Rows.{term}
+use Rattle.terms.proofs.RowSteps.{length-term}
+use Rattle.reduction.specs.Reduction.{rewriting}
+use Rattle.reduction.specs.code.Promises.{Rewritten}
+use Rattle.reduction.proofs.Sorting.{length-rewriting}
+
+module _ (row : List ℕ) (within : getD row 0 0 < length row) where
+  module _ (triple : Triple) (parent : ℕ) (part : List ℕ) (e : part ≡ rewriting triple parent (term row)) where
+    first-kept : getD (putMid 1 (getD row 0 0) row part) 0 0 ≡ getD row 0 0
+    first-kept =
+        let one : length (take 1 row) ≡ 1 = length-take-le 1 row (omega arith) in
+        List·getD-append (take 1 row) (part ++ postOf 1 (getD row 0 0) row) 0 0 (omega arith) ∙ getD-take 1 row 0 0 (omega arith)
+
+    length-part : length part ≡ getD row 0 0
+    length-part = ap length e ∙ length-rewriting triple parent (term row) ∙ length-term row within
+
+    pub row-rewritten : Rewritten triple parent row (putMid 1 (getD row 0 0) row part)
+    unfolding term
+    row-rewritten =
+        record {
+          same-length = first-kept;
+          new-term =
+              rw (first-kept, drop-at (take 1 row) (part ++ postOf 1 (getD row 0 0) row) 1 (length-take-le 1 row (omega arith)))
+              (take-at part (postOf 1 (getD row 0 0) row) (getD row 0 0) length-part ∙ e);
+        }

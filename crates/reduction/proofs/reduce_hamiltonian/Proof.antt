@@ -1,0 +1,84 @@
+-- The rows passed and what those ahead become behind them are the whole reduction; at the end nothing is ahead.
+use mathlib.Core.Path.{_≡_, refl, _∙_}
+use Prim.Native.Nat.{_-_}
+use native.Mathlib.Omega.{arith}
+use borrow.Author.Needs.{needs}
+use lib.ListN.{length}
+use Rattle.lists.specs.Members.{every}
+use Rattle.terms.specs.Rows.{rows-of, terms-of}
+use Rattle.reduction.specs.code.Marks.{Marked}
+use Rattle.reduction.proofs.ReducedRows.{Passing, passing-starts, next-held, passing-on, passing-ends}
+use Rattle.reduction.proofs.reduce_hamiltonian.Statement.{statement}
+use Rattle.reduction.proofs.reduce_hamiltonian.Tie as tie
+
+abbrev Inv-loop : tie.InvT-loop
+Inv-loop rows₀ count parent selection marks₀ place₀ rows marks place =
+    Passing selection parent count rows₀ rows place × (length marks ≡ 16384) × Marked 16384 (terms-of 8 place rows) marks
+
+abbrev μ-loop : tie.MeasureT-loop
+μ-loop rows₀ count parent selection marks₀ place₀ rows marks place = count - place
+
+loop-holds : tie.Need-loop-holds Inv-loop μ-loop
+unfolding terms-of rows-of every
+loop-holds c =
+    let args = c .before .args in
+    (passing-starts (args .selection) (args .parent) (args .count) (args .rows .now), refl, refl)
+
+slice-aggregate-reduce-row : tie.Need-slice-aggregate-reduce-row Inv-loop μ-loop
+slice-aggregate-reduce-row c = search needs
+
+reduce-row-requires : tie.Need-reduce-row-requires Inv-loop μ-loop
+reduce-row-requires c κs =
+    let here = c .before .before .before in
+    let start = here .before .before in
+    let args = start .args in (
+      next-held (args .selection) (args .parent) (args .count) (args .rows .now) (start .pre) _ _ (here .loop .inv .0)
+          (c .before .before .loop-test .taken),
+      (here .loop .inv .1, here .loop .inv .2),
+    )
+
+add-place : tie.Need-add-place Inv-loop μ-loop
+add-place c = search needs
+
+loop-less : tie.Need-loop-less Inv-loop μ-loop
+loop-less c = search needs
+
+loop-again : tie.Need-loop-again Inv-loop μ-loop
+loop-again c =
+    let called = c .before .before .before in
+    let here = called .before .before .before .before in
+    let start = here .before .before in
+    let args = start .args in
+    let reduced = called .reduce-row in (
+      passing-on (args .selection) (args .parent) (args .count) (args .rows .now) (start .pre) _ _ (here .loop .inv .0)
+          (called .before .before .before .loop-test .taken) _ (reduced .ensures .0),
+      reduced .kept .1 .0 ∙ here .loop .inv .1,
+      reduced .ensures .1,
+    )
+
+same-length : tie.Need-same-length Inv-loop μ-loop
+same-length c = c .before .loop .inv .0 .same-length
+
+returns : tie.Need-returns Inv-loop μ-loop
+returns c =
+    let here = c .before in
+    let start = here .before .before in
+    let args = start .args in
+    let p = here .loop .inv .0 in
+    passing-ends (args .selection) (args .parent) (args .count) (args .rows .now) (start .pre) _ _ p
+    (omega (arith, p .inside, c .loop-test .left))
+
+pub reduce-hamiltonian-spec : {M : Type 1} → statement M
+reduce-hamiltonian-spec =
+    tie.close
+    (tie.spec
+    Inv-loop
+    μ-loop
+    loop-holds
+    slice-aggregate-reduce-row
+    reduce-row-requires
+    add-place
+    loop-less
+    loop-again
+    same-length
+    returns)

@@ -1,0 +1,79 @@
+// The rows passed: whether one of them has a term, and the next one written over itself. Marks tell most new terms from them without a search.
+ghost use mathlib.Core.Bool.{true};
+ghost use mathlib.Core.Path.{_≡_};
+ghost use Prim.Native.Nat.{_+_, _*_, _≤_, _<_};
+ghost use lib.ListN.{length, getD, set};
+ghost use Rattle.lists.specs.Members.{«some-of», alike};
+ghost use Rattle.lists.specs.Written.{«written-at»};
+ghost use Rattle.entities.specs.Limits.{«row-width»};
+ghost use Rattle.terms.specs.Rows.{term as «term-in», «terms-of»};
+ghost use Rattle.terms.specs.code.Held.{Held};
+ghost use Rattle.reduction.specs.code.Marks.{«mark-room», «mark-of», Marked};
+use terms::row;
+use terms::slices;
+
+// The term's mark, a number made from its indices: terms with different marks differ.
+fn mark_of(term: &[u16]) -> usize
+    ensures { λ r. ⌜ (r ≡ mark-of mark-room (now (term .entry))) × (r < mark-room) ⌝ }
+{
+    let mut mark: usize = 0;
+    let mut at = 0;
+    while at < term.len() {
+        mark = (773 * mark + entities::wide(term[at])) % 16384;
+        at += 1;
+    }
+    mark
+}
+
+// One of the first rows has this term.
+fn has_term(rows: &[u16], count: usize, term: &[u16]) -> bool
+    requires { ⌜ Held row-width count (now rows) ⌝ }
+    ensures { λ r. ⌜ r ≡ some-of (alike (now (term .entry))) (terms-of row-width count (now (rows .entry))) ⌝ }
+{
+    let mut place = 0;
+    while place < count {
+        if slices::same(term, row::term_at(rows, place)) {
+            return true;
+        }
+        place += 1;
+    }
+    false
+}
+
+// One of the first `count` rows has this term. Their marks are set, so a term whose mark is not is none of theirs, and they aren't searched.
+pub fn is_kept<'a>(rows: &'a [u16], count: usize, marks: &'a [bool], term: &[u16]) -> bool
+    requires { ⌜ Held row-width count (now rows) ⌝ }
+    requires { ⌜ length (now marks) ≡ mark-room ⌝ }
+    requires { ⌜ Marked mark-room (terms-of row-width count (now rows)) (now marks) ⌝ }
+    ensures { λ r. ⌜ r ≡ some-of (alike (now (term .entry))) (terms-of row-width count (now (rows .entry))) ⌝ }
+{
+    let mark = mark_of(term);
+    if !marks[mark] {
+        return false;
+    }
+    has_term(rows, count, term)
+}
+
+// The row written over the one at this place.
+pub fn put_row(rows: &mut [u16], place: usize, row: &[u16])
+    requires { ⌜ length (now row) ≡ row-width ⌝ }
+    requires { ⌜ row-width * place + row-width ≤ length (now rows) ⌝ }
+    ensures { λ r. ⌜ now (rows .exit) ≡ written-at (row-width * place) (now (row .entry)) (now (rows .entry)) ⌝ }
+{
+    let from = 8 * place;
+    let end = from + 8;
+    slices::copy(row, &mut rows[from..end]);
+}
+
+// The row written over the one at this place, and its term's mark set.
+pub fn keep_row(rows: &mut [u16], marks: &mut [bool], place: usize, row: &[u16])
+    requires { ⌜ (length (now row) ≡ row-width) × (getD (now row) 0 0 < row-width) ⌝ }
+    requires { ⌜ row-width * place + row-width ≤ length (now rows) ⌝ }
+    requires { ⌜ length (now marks) ≡ mark-room ⌝ }
+    ensures { λ r. ⌜ now (rows .exit) ≡ written-at (row-width * place) (now (row .entry)) (now (rows .entry)) ⌝ }
+    ensures { λ r. ⌜ now (marks .exit) ≡ set (now (marks .entry)) (mark-of mark-room (term-in (now (row .entry)))) true ⌝ }
+{
+    let mark = mark_of(row::term_of(row));
+    marks[mark] = true;
+    put_row(rows, place, row);
+}
