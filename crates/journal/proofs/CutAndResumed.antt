@@ -16,8 +16,8 @@ use Rattle.terms.specs.Good.{modes-good, checked}
 use Rattle.terms.specs.declared.checking.Checked.the-variants.{Good}
 use Rattle.terms.proofs.RowSteps.{length-terms}
 use Rattle.terms.proofs.StaysGood.{accepted}
-use Rattle.merging.specs.Run.{run-weight}
-use Rattle.merging.specs.Flatpack.{flatpack}
+use Rattle.history.specs.Run.{run-weight}
+use Rattle.history.specs.Flatpack.{flatpack}
 use Rattle.obeying.specs.Obeying.{went, obeyed, obeyed-texts}
 use Rattle.journal.specs.computed.NewText.{new-text, unbroken}
 use Rattle.journal.specs.Resuming.{Ending, done, ending, Rooms, resumed, hatt-run}

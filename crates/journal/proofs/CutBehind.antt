@@ -11,10 +11,10 @@ use Rattle.entities.specs.declared.Triple.{Triple}
 use Rattle.terms.specs.Job.{Job}
 use Rattle.fields.specs.Lines.{lines, kept-of}
 use Rattle.fields.proofs.LinesJoined.{lines-joined, lines-kept, kept-again, kept-some, whole-in, lines-cut, whole-within}
-use Rattle.merging.specs.Lawful.{LawfulHistory}
-use Rattle.merging.specs.computed.Greedy.{greedy, finished}
-use Rattle.merging.proofs.RunLawful.{greedy-length}
-use Rattle.merging.proofs.GreedySteps.{greedy-on}
+use Rattle.history.specs.Lawful.{LawfulHistory}
+use Rattle.history.specs.computed.Greedy.{greedy, finished}
+use Rattle.history.proofs.RunLawful.{greedy-length}
+use Rattle.history.proofs.GreedySteps.{greedy-on}
 use Rattle.obeying.specs.LineForms.{header-of}
 use Rattle.obeying.specs.Obeying.{went, obeyed-lines, obeyed-header, obeyed-texts, obeyed}
 use Rattle.journal.specs.computed.NewText.{greedy-lines, new-text}

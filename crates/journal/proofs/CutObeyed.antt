@@ -10,9 +10,9 @@ use Rattle.entities.specs.declared.Triple.{Triple}
 use Rattle.fields.specs.Lines.{lines, kept-of}
 use Rattle.fields.proofs.LinesJoined.{whole-in, lines-cut, kept-cut, whole-within}
 use Rattle.terms.specs.Job.{Job}
-use Rattle.merging.specs.computed.Greedy.{greedy, finished}
-use Rattle.merging.proofs.RunLawful.{greedy-length}
-use Rattle.merging.proofs.GreedySteps.{greedy-on}
+use Rattle.history.specs.computed.Greedy.{greedy, finished}
+use Rattle.history.proofs.RunLawful.{greedy-length}
+use Rattle.history.proofs.GreedySteps.{greedy-on}
 use Rattle.obeying.specs.Obeying.{went, obeyed, obeyed-texts, obeyed-header}
 use Rattle.journal.specs.computed.NewText.{new-text, unbroken}
 use Rattle.obeying.proofs.LineRead.{header-read}

@@ -13,10 +13,10 @@ use Rattle.lists.proofs.Joined.{flatMap-joined}
 use Rattle.entities.specs.declared.Triple.{Triple}
 use Rattle.terms.specs.Job.{Job}
 use Rattle.fields.specs.Lines.{is-line}
-use Rattle.merging.specs.Choice.{weight-in}
-use Rattle.merging.specs.computed.Choosing.{chosen}
-use Rattle.merging.specs.computed.Greedy.{greedy}
-use Rattle.merging.proofs.RunLawful.{greedy-length}
+use Rattle.history.specs.Choice.{weight-in}
+use Rattle.history.specs.computed.Choosing.{chosen}
+use Rattle.history.specs.computed.Greedy.{greedy}
+use Rattle.history.proofs.RunLawful.{greedy-length}
 use Rattle.obeying.specs.LineForms.{header-text}
 use Rattle.journal.specs.Writing.{line-of, header-behind}
 use Rattle.journal.specs.computed.NewText.{greedy-lines, new-text, unbroken}

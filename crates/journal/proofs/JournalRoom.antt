@@ -9,11 +9,11 @@ use Rattle.lists.proofs.Tests.{whichever}
 use Rattle.lists.proofs.Joined.{flatMap-joined}
 use Rattle.entities.specs.declared.Triple.{Triple}
 use Rattle.terms.specs.Job.{Job}
-use Rattle.merging.specs.Lawful.{Lawful, LawfulHistory}
-use Rattle.merging.specs.Choice.{weight-in}
-use Rattle.merging.specs.computed.Choosing.{chosen}
-use Rattle.merging.proofs.RowsAfter.{weight-in-most}
-use Rattle.merging.proofs.RunLawful.{chosen-lawful}
+use Rattle.history.specs.Lawful.{Lawful, LawfulHistory}
+use Rattle.history.specs.Choice.{weight-in}
+use Rattle.history.specs.computed.Choosing.{chosen}
+use Rattle.history.proofs.RowsAfter.{weight-in-most}
+use Rattle.history.proofs.RunLawful.{chosen-lawful}
 use Rattle.obeying.specs.LineForms.{header-text}
 use Rattle.journal.specs.Writing.{line-of, header-behind, lines-of, journal-text}
 use Rattle.journal.specs.computed.NewText.{greedy-lines, new-text}

@@ -15,10 +15,10 @@ use Rattle.entities.specs.declared.Triple.{Triple}
 use Rattle.fields.specs.Lines.{lines, is-line}
 use Rattle.fields.proofs.LinesJoined.{lines-read-back}
 use Rattle.terms.specs.Job.{Job}
-use Rattle.merging.specs.Lawful.{LawfulHistory}
-use Rattle.merging.specs.Choice.{weight-in}
-use Rattle.merging.proofs.Amounts.{newest-merge, older-merge}
-use Rattle.merging.proofs.RowsAfter.{weight-in-most}
+use Rattle.history.specs.Lawful.{LawfulHistory}
+use Rattle.history.specs.Choice.{weight-in}
+use Rattle.history.proofs.Amounts.{newest-merge, older-merge}
+use Rattle.history.proofs.RowsAfter.{weight-in-most}
 use Rattle.obeying.specs.LineForms.{header-text}
 use Rattle.obeying.specs.Obeying.{went, obeyed-header, obeyed-lines, obeyed-texts, obeyed}
 use Rattle.obeying.proofs.LineRead.{header-read}

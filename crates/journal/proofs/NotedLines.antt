@@ -10,15 +10,15 @@ use Rattle.lists.proofs.Joined.{flatMap-joined}
 use Rattle.lists.proofs.Listed.{listed-more}
 use Rattle.entities.specs.declared.Triple.{Triple}
 use Rattle.terms.specs.Job.{Job}
+use Rattle.history.specs.History.{merge-of, history-before}
+use Rattle.history.specs.Choice.{weight-in}
+use Rattle.history.specs.computed.Choosing.{chosen}
+use Rattle.history.specs.computed.Greedy.{greedy, finished}
+use Rattle.history.proofs.RunLawful.{greedy-length}
+use Rattle.history.proofs.GreedySteps.{before-step, step-chosen}
 use Rattle.merging.specs.declared.run.Run.{Run}
-use Rattle.merging.specs.History.{merge-of, history-before}
-use Rattle.merging.specs.Choice.{weight-in}
-use Rattle.merging.specs.computed.Choosing.{chosen}
-use Rattle.merging.specs.computed.Greedy.{greedy, finished}
 use Rattle.merging.specs.code.State.{history-of}
 use Rattle.merging.proofs.Runs.{merges-within}
-use Rattle.merging.proofs.RunLawful.{greedy-length}
-use Rattle.merging.proofs.GreedySteps.{before-step, step-chosen}
 use Rattle.obeying.specs.LineForms.{header-text, merge-text}
 use Rattle.journal.specs.Writing.{line-of, header-behind}
 use Rattle.journal.specs.computed.NewText.{greedy-lines, new-text}

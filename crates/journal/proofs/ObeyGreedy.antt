@@ -9,16 +9,16 @@ use lib.ListN.{length, take}
 use Rattle.lists.proofs.Tests.{both}
 use Rattle.entities.specs.declared.Triple.{Triple}
 use Rattle.terms.specs.Job.{Job}
-use Rattle.merging.specs.History.{next-parent, is-open}
-use Rattle.merging.specs.Lawful.{Lawful, LawfulHistory, three-open, paired}
-use Rattle.merging.specs.Choice.{weight-in}
-use Rattle.merging.specs.computed.Pairs.{is-lawful}
-use Rattle.merging.specs.computed.Choosing.{chosen}
-use Rattle.merging.specs.computed.Greedy.{greedy}
-use Rattle.merging.proofs.Holders.{open-below}
-use Rattle.merging.proofs.LawfulTest.{lawful-test}
-use Rattle.merging.proofs.RowsAfter.{weight-in-most}
-use Rattle.merging.proofs.RunLawful.{chosen-lawful}
+use Rattle.history.specs.History.{next-parent, is-open}
+use Rattle.history.specs.Lawful.{Lawful, LawfulHistory, three-open, paired}
+use Rattle.history.specs.Choice.{weight-in}
+use Rattle.history.specs.computed.Pairs.{is-lawful}
+use Rattle.history.specs.computed.Choosing.{chosen}
+use Rattle.history.specs.computed.Greedy.{greedy}
+use Rattle.history.proofs.Holders.{open-below}
+use Rattle.history.proofs.LawfulTest.{lawful-test}
+use Rattle.history.proofs.RowsAfter.{weight-in-most}
+use Rattle.history.proofs.RunLawful.{chosen-lawful}
 use Rattle.obeying.specs.declared.merge_line.MergeLine.{MergeLine}
 use Rattle.obeying.specs.declared.merge_line.Merge.the-variants.{Is as MergeIs}
 use Rattle.obeying.specs.LineForms.{merge-of-line}

@@ -9,8 +9,8 @@ use Rattle.entities.specs.declared.Triple.{Triple}
 use Rattle.fields.specs.Lines.{lines, is-line}
 use Rattle.fields.proofs.LinesJoined.{lines-are-lines, line-ends}
 use Rattle.terms.specs.Job.{Job}
-use Rattle.merging.specs.History.{merge-of, history-before}
-use Rattle.merging.specs.Choice.{weight-in}
+use Rattle.history.specs.History.{merge-of, history-before}
+use Rattle.history.specs.Choice.{weight-in}
 use Rattle.obeying.specs.LineForms.{header-text}
 use Rattle.obeying.specs.Obeying.{went, obeyed}
 use Rattle.journal.specs.Writing.{line-of}

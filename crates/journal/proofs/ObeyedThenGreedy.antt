@@ -13,11 +13,11 @@ use Rattle.fields.specs.Lines.{lines, kept-of}
 use Rattle.terms.specs.Job.{Job, job-of}
 use Rattle.terms.specs.Good.{modes-good, checked}
 use Rattle.terms.specs.declared.checking.Checked.the-variants.{Good}
-use Rattle.merging.specs.History.{merge-of, history-before}
-use Rattle.merging.specs.computed.Greedy.{finished}
-use Rattle.merging.proofs.RunLawful.{finished-length}
-use Rattle.merging.proofs.RunsOn.{runs-on}
-use Rattle.merging.proofs.TrialTotals.{trials-total}
+use Rattle.history.specs.History.{merge-of, history-before}
+use Rattle.history.specs.computed.Greedy.{finished}
+use Rattle.history.proofs.RunLawful.{finished-length}
+use Rattle.history.proofs.RunsOn.{runs-on}
+use Rattle.history.proofs.TrialTotals.{trials-total}
 use Rattle.obeying.specs.Obeying.{went, obeyed}
 use Rattle.journal.specs.Writing.{line-of, header-behind}
 use Rattle.journal.specs.computed.NewText.{new-text}

@@ -9,9 +9,9 @@ use lib.ListN.{length}
 use Rattle.lists.proofs.Tests.{both}
 use Rattle.terms.specs.Job.{job-of}
 use Rattle.terms.specs.Good.{modes-good}
-use Rattle.merging.specs.computed.Greedy.{finished}
-use Rattle.merging.proofs.RunLawful.{finished-lawful, finished-length}
-use Rattle.merging.proofs.FlatpackRows.{length-flatpack}
+use Rattle.history.specs.computed.Greedy.{finished}
+use Rattle.history.proofs.RunLawful.{finished-lawful, finished-length}
+use Rattle.history.proofs.FlatpackRows.{length-flatpack}
 use Rattle.journal.specs.Resuming.{Ending, done, ending, Rooms, resumed}
 use Rattle.obeying.proofs.Obedience.{obedient}
 use Rattle.journal.proofs.CallDone.{rooms-say, call-done}

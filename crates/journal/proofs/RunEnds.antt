@@ -9,16 +9,16 @@ use Rattle.lists.proofs.Written.{written-front}
 use Rattle.fields.specs.Lines.{kept-of}
 use Rattle.entities.specs.Limits.{most-modes, most-terms}
 use Rattle.terms.specs.Job.{Job}
+use Rattle.history.specs.Run.{run-weight}
+use Rattle.history.specs.computed.Greedy.{finished, trials}
+use Rattle.history.specs.Flatpack.{flatpack}
+use Rattle.history.specs.Trials.{trial-total}
+use Rattle.history.proofs.RunLawful.{finished-length}
+use Rattle.history.proofs.TrialTotals.{trials-total}
 use Rattle.merging.specs.declared.run.Run.{Run}
-use Rattle.merging.specs.Run.{run-weight}
-use Rattle.merging.specs.computed.Greedy.{finished, trials}
-use Rattle.merging.specs.Flatpack.{flatpack}
 use Rattle.merging.specs.code.State.{history-of}
 use Rattle.merging.specs.code.Runs.{Holds, Went}
-use Rattle.merging.specs.Trials.{trial-total}
 use Rattle.merging.proofs.Runs.{merges-within, merges-lawful}
-use Rattle.merging.proofs.RunLawful.{finished-length}
-use Rattle.merging.proofs.TrialTotals.{trials-total}
 use Rattle.journal.specs.declared.resuming.Answer.the-variants.{Done}
 use Rattle.journal.specs.computed.NewText.{new-text}
 use Rattle.journal.specs.Resuming.{done, ending}

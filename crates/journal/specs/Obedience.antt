@@ -9,10 +9,10 @@ use Rattle.fields.specs.Lines.{lines, kept-of}
 use Rattle.terms.specs.Job.{job-of}
 use Rattle.terms.specs.Good.{checked}
 use Rattle.terms.specs.declared.checking.Checked.the-variants.{Good}
-use Rattle.merging.specs.History.{merge-of, history-before}
-use Rattle.merging.specs.Run.{run-weight, RunsFrom}
-use Rattle.merging.specs.Flatpack.{flatpack}
-use Rattle.merging.specs.Trials.{trial-total}
+use Rattle.history.specs.History.{merge-of, history-before}
+use Rattle.history.specs.Run.{run-weight, RunsFrom}
+use Rattle.history.specs.Flatpack.{flatpack}
+use Rattle.history.specs.Trials.{trial-total}
 use Rattle.obeying.specs.Obedience.{Obedient}
 use Rattle.journal.specs.Writing.{line-of, header-behind}
 use Rattle.journal.specs.Resuming.{Ending, done, Rooms, resumed}

@@ -13,9 +13,9 @@ use Rattle.terms.specs.Job.{Job, job-of}
 use Rattle.terms.specs.Good.{modes-good, checked}
 use Rattle.terms.specs.declared.checking.Checked.{Checked}
 use Rattle.terms.specs.declared.checking.Checked.the-variants.{Good, Refused as BadTerms}
-use Rattle.merging.specs.Run.{run-weight}
-use Rattle.merging.specs.computed.Greedy.{finished, trials}
-use Rattle.merging.specs.Flatpack.{flatpack}
+use Rattle.history.specs.Run.{run-weight}
+use Rattle.history.specs.computed.Greedy.{finished, trials}
+use Rattle.history.specs.Flatpack.{flatpack}
 use Rattle.obeying.specs.Obeying.{Obeyed, went, refused, obeyed}
 use Rattle.journal.specs.computed.NewText.{new-text}
 

@@ -6,7 +6,7 @@ use lib.Dec.{eqb}
 use lib.ListN.{length}
 use Rattle.entities.specs.declared.Triple.{Triple}
 use Rattle.terms.specs.Job.{Job}
-use Rattle.merging.specs.Choice.{weight-in}
+use Rattle.history.specs.Choice.{weight-in}
 use Rattle.obeying.specs.LineForms.{header-text, merge-text}
 
 -- The line of a merge made after a history.

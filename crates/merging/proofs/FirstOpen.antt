@@ -11,7 +11,7 @@ use lib.Seq.{drop-drop, drop-set-lt}
 use Rattle.lists.specs.Ranges.{listed}
 use Rattle.lists.proofs.Writes.{written-next}
 use Rattle.lists.proofs.Listed.{listed-more, listed-joined, listed-same}
-use Rattle.merging.specs.History.{is-open}
+use Rattle.history.specs.History.{is-open}
 
 module _ (modes leaf : ℕ) (opens : List Bool) where
   pub opened-next : leaf ≤ 2 * modes → leaf < length opens → take leaf opens ≡ listed (is-open modes []) 0 leaf

@@ -1,31 +1,9 @@
--- The laws of merging.
-pub mod LawfulTest
-pub mod Holders
-pub mod Couples
-pub mod Candidates
-pub mod Seeking
-pub mod Names
-pub mod ChosenRight
-pub mod ChosenOne
+-- The laws of the state of a run.
 pub mod FirstOpen
 pub mod Tables
 pub mod Recording
-pub mod RowsAfter
-pub mod Images
 pub mod StateFresh
 pub mod StateMerged
 pub mod StateStepped
 pub mod StateAsked
 pub mod Runs
-pub mod OpenSums
-pub mod AbsentLeaf
-pub mod Partners
-pub mod PairCount
-pub mod RunLawful
-pub mod GreedySteps
-pub mod RunsOn
-pub mod TrialTotals
-pub mod Amounts
-pub mod Walk
-pub mod FlatpackRows
-pub mod Walking

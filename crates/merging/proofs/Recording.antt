@@ -9,9 +9,9 @@ use lib.ListN.{length, set}
 use lib.Seq.{getD-set-same, getD-set-other}
 use Rattle.lists.proofs.Tests.{same-or-not}
 use Rattle.entities.specs.declared.Triple.{Triple}
-use Rattle.merging.specs.History.{merge-of, history-before}
+use Rattle.history.specs.History.{merge-of, history-before}
+use Rattle.history.proofs.Amounts.{newest-merge, older-merge}
 use Rattle.merging.specs.code.Recorded.{merge-at, recorded}
-use Rattle.merging.proofs.Amounts.{newest-merge, older-merge}
 
 pub length-recorded : (xs ys zs : List ℕ) (step : ℕ) → length (recorded xs ys zs step) ≡ step
 unfolding recorded

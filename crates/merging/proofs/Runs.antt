@@ -9,11 +9,11 @@ use Rattle.entities.specs.declared.Triple.{Triple}
 use Rattle.terms.specs.Job.{Job}
 use Rattle.terms.proofs.RowSteps.{terms-front}
 use Rattle.terms.proofs.OwnRows.{front-held}
+use Rattle.history.specs.Lawful.{Lawful, LawfulHistory}
+use Rattle.history.specs.Choice.{weight-in}
+use Rattle.history.specs.computed.Choosing.{chosen}
+use Rattle.history.specs.computed.Greedy.{greedy, finished}
 use Rattle.merging.specs.declared.run.Run.{Run}
-use Rattle.merging.specs.Lawful.{Lawful, LawfulHistory}
-use Rattle.merging.specs.Choice.{weight-in}
-use Rattle.merging.specs.computed.Choosing.{chosen}
-use Rattle.merging.specs.computed.Greedy.{greedy, finished}
 use Rattle.merging.specs.code.State.{history-of}
 use Rattle.merging.specs.code.Runs.{Holds, Ready, Went}
 use Rattle.merging.proofs.Recording.{length-recorded}

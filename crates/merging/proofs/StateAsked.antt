@@ -6,12 +6,12 @@ use Prim.Native.Nat.{ℕ, _<_, _≤_}
 use native.Mathlib.Omega.{arith}
 use lib.ListN.{length, getD}
 use Rattle.terms.specs.Job.{Job}
+use Rattle.history.specs.History.{merge-of, history-before, is-open}
+use Rattle.history.specs.Choice.{weight-in}
+use Rattle.history.proofs.Holders.{open-below}
 use Rattle.merging.specs.declared.run.Run.{Run}
-use Rattle.merging.specs.History.{merge-of, history-before, is-open}
-use Rattle.merging.specs.Choice.{weight-in}
 use Rattle.merging.specs.code.Recorded.{merge-at}
 use Rattle.merging.specs.code.State.{history-of, HoldsIn}
-use Rattle.merging.proofs.Holders.{open-below}
 use Rattle.merging.proofs.Recording.{length-recorded, recorded-merge, recorded-earlier}
 
 module _ (entities steps : ℕ) (job : Job) (rows : List ℕ) (run : Run) (holds : HoldsIn entities steps job rows run) where

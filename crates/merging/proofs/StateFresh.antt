@@ -7,10 +7,10 @@ use Rattle.lists.specs.Ranges.{listed}
 use Rattle.terms.specs.code.Held.{Held}
 use Rattle.terms.specs.Job.{job-of}
 use Rattle.terms.proofs.RowSteps.{length-terms}
+use Rattle.history.specs.History.{is-open, rows-after}
+use Rattle.history.specs.Run.{run-weight}
 use Rattle.merging.specs.declared.run.Run.{Run}
-use Rattle.merging.specs.History.{is-open, rows-after}
 use Rattle.merging.specs.code.Recorded.{recorded}
-use Rattle.merging.specs.Run.{run-weight}
 use Rattle.merging.specs.code.State.{Whole, HoldsIn}
 use Rattle.merging.proofs.Tables.{tied-start}
 

@@ -11,16 +11,16 @@ use Rattle.entities.specs.declared.Triple.{Triple}
 use Rattle.terms.specs.Rows.{terms-of}
 use Rattle.terms.specs.Job.{Job}
 use Rattle.reduction.specs.code.Promises.{Reduced}
+use Rattle.history.specs.History.{next-parent, rows-after}
+use Rattle.history.specs.Choice.{weight-in}
+use Rattle.history.specs.Run.{run-weight}
+use Rattle.history.proofs.Holders.{open-below, end-within}
+use Rattle.history.proofs.RowsAfter.{weight-in-most}
+use Rattle.choosing.specs.code.Couples.{Tied}
 use Rattle.merging.specs.declared.run.Run.{Run}
-use Rattle.merging.specs.History.{next-parent, rows-after}
-use Rattle.merging.specs.Choice.{weight-in}
-use Rattle.merging.specs.code.Couples.{Tied}
 use Rattle.merging.specs.code.Recorded.{merge-at, recorded}
-use Rattle.merging.specs.Run.{run-weight}
 use Rattle.merging.specs.code.State.{history-of, Whole, HoldsIn, EntitiesMerged, Noted, ReadyIn, WentIn}
-use Rattle.merging.proofs.Holders.{open-below, end-within}
 use Rattle.merging.proofs.Recording.{length-recorded, merge-before, merge-here, recorded-before, recorded-next}
-use Rattle.merging.proofs.RowsAfter.{weight-in-most}
 use Rattle.merging.proofs.Tables.{tied-merged}
 
 -- The state that a merge makes.

@@ -14,20 +14,20 @@ use Rattle.terms.proofs.RowSteps.{length-terms}
 use Rattle.reduction.specs.Reduction.{live}
 use Rattle.reduction.specs.code.Promises.{LiveRows}
 use Rattle.reduction.proofs.AsTold.{live-weight}
-use Rattle.merging.specs.declared.choice.Best.{Best}
+use Rattle.history.specs.History.{next-parent, rows-after}
+use Rattle.history.specs.Choice.{weight-in}
+use Rattle.history.specs.computed.Pairs.{named, lawful-pairs}
+use Rattle.history.specs.computed.Choosing.{candidates, chosen}
+use Rattle.history.proofs.Holders.{end-within}
+use Rattle.history.proofs.PairCount.{some-pair}
+use Rattle.history.proofs.RunLawful.{chosen-lawful}
+use Rattle.choosing.specs.declared.choice.Best.{Best}
+use Rattle.choosing.specs.code.Couples.{weight-here, nothing, weighed, seek}
+use Rattle.choosing.proofs.Seeking.{sought}
 use Rattle.merging.specs.declared.run.Run.{Run}
-use Rattle.merging.specs.History.{next-parent, rows-after}
-use Rattle.merging.specs.Choice.{weight-in}
-use Rattle.merging.specs.computed.Pairs.{named, lawful-pairs}
-use Rattle.merging.specs.computed.Choosing.{candidates, chosen}
-use Rattle.merging.specs.code.Couples.{weight-here, nothing, weighed, seek}
 use Rattle.merging.specs.code.State.{history-of, HoldsIn, ReadyIn}
 use Rattle.merging.proofs.StateMerged.{parent-is}
-use Rattle.merging.proofs.Holders.{end-within}
-use Rattle.merging.proofs.PairCount.{some-pair}
 use Rattle.merging.proofs.Recording.{length-recorded}
-use Rattle.merging.proofs.RunLawful.{chosen-lawful}
-use Rattle.merging.proofs.Seeking.{sought}
 
 module _ (entities steps : ℕ) (job : Job) (rows : List ℕ) (run : Run) (holds : HoldsIn entities steps job rows run) where
   -- The z-ends in the table are leaves.

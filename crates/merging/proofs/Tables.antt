@@ -12,9 +12,9 @@ use Rattle.lists.proofs.Listed.{listed-at}
 use Rattle.lists.proofs.Tests.{eqb-either}
 use Rattle.lists.proofs.Writes.{after-write}
 use Rattle.entities.specs.declared.Triple.{Triple}
-use Rattle.merging.specs.History.{next-parent, among, is-open, z-end}
-use Rattle.merging.specs.computed.Pairs.{holder}
-use Rattle.merging.specs.code.Couples.{OpensAre, EndsAre, HoldersAre, Tied}
+use Rattle.history.specs.History.{next-parent, among, is-open, z-end}
+use Rattle.history.specs.computed.Pairs.{holder}
+use Rattle.choosing.specs.code.Couples.{OpensAre, EndsAre, HoldersAre, Tied}
 
 -- At the start the leaves are open, and everything is its own z-end and its own holder.
 pub tied-start : (room modes : ℕ) → 2 * modes + 1 ≤ room

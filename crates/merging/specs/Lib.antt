@@ -1,10 +1,2 @@
--- What document 01 says of merges: open entities, lawful triples, the choice of a step, the run, its rows and its trials.
-pub mod History
-pub mod Images
-pub mod Lawful
-pub mod Choice
-pub mod Run
-pub mod Flatpack
-pub mod Trials
-pub mod computed
+-- How the code keeps a run; what document 01 says of a run stands in `history`.
 pub mod code

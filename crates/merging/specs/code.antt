@@ -1,5 +1,4 @@
--- How the code keeps a run and goes through the lawful pairs: no promise needs it.
-pub mod Couples
+-- How the code keeps a run: no promise needs it.
 pub mod Recorded
 pub mod State
 pub mod Runs

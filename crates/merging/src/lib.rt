@@ -1,7 +1,3 @@
-// Merging: lawful triples, the choice of a step, the merge, the run to the end, the flatpack and the trial totals.
+// Merging: the state of a run, the merge, the steps to the end, and what is asked of a run.
 pub mod asked;
-mod choice;
-pub mod flatpack;
-mod lawful;
 pub mod run;
-pub mod trials;

@@ -18,10 +18,10 @@ use Rattle.refusal.specs.declared.Refusal.the-variants.{
 }
 use Rattle.entities.specs.declared.Triple.{Triple}
 use Rattle.terms.specs.Job.{Job}
-use Rattle.merging.specs.Lawful.{Lawful, three-open, paired}
-use Rattle.merging.specs.computed.Pairs.{is-lawful}
-use Rattle.merging.specs.Choice.{weight-in}
-use Rattle.merging.proofs.LawfulTest.{test-lawful}
+use Rattle.history.specs.Lawful.{Lawful, three-open, paired}
+use Rattle.history.specs.computed.Pairs.{is-lawful}
+use Rattle.history.specs.Choice.{weight-in}
+use Rattle.history.proofs.LawfulTest.{test-lawful}
 use Rattle.obeying.specs.declared.judging.Judged.{Judged}
 use Rattle.obeying.specs.declared.judging.Judged.the-variants.{Obey, Refused}
 use Rattle.obeying.specs.declared.merge_line.Merge.{Merge}

@@ -13,8 +13,8 @@ use Rattle.refusal.specs.Numbers.{numberOf, placeOf}
 use Rattle.entities.specs.declared.Triple.{Triple}
 use Rattle.fields.specs.Lines.{lines}
 use Rattle.terms.specs.Job.{Job}
-use Rattle.merging.specs.Lawful.{three-open, paired}
-use Rattle.merging.specs.Choice.{weight-in}
+use Rattle.history.specs.Lawful.{three-open, paired}
+use Rattle.history.specs.Choice.{weight-in}
 use Rattle.obeying.specs.declared.header.Header.{Header}
 use Rattle.obeying.specs.declared.header.Header.the-variants.{Is as HeaderIs, Broken as HeaderBroken}
 use Rattle.obeying.specs.declared.judging.Judged.{Judged}

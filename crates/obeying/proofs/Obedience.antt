@@ -15,10 +15,10 @@ use Rattle.refusal.specs.declared.Refusal.the-variants.{LineForm, Header as Oth
 use Rattle.entities.specs.declared.Triple.{Triple}
 use Rattle.fields.specs.Lines.{lines}
 use Rattle.terms.specs.Job.{Job}
-use Rattle.merging.specs.History.{merge-of, history-before}
-use Rattle.merging.specs.Lawful.{Lawful, LawfulHistory}
-use Rattle.merging.specs.Choice.{weight-in}
-use Rattle.merging.proofs.Amounts.{merge-getD}
+use Rattle.history.specs.History.{merge-of, history-before}
+use Rattle.history.specs.Lawful.{Lawful, LawfulHistory}
+use Rattle.history.specs.Choice.{weight-in}
+use Rattle.history.proofs.Amounts.{merge-getD}
 use Rattle.obeying.specs.declared.header.Header.{Header}
 use Rattle.obeying.specs.declared.header.Header.the-variants.{Is as HeaderIs, Broken as HeaderBroken}
 use Rattle.obeying.specs.declared.merge_line.Merge.{Merge}

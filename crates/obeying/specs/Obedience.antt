@@ -5,9 +5,9 @@ use Prim.Native.Nat.{ℕ, suc, _-_, _<_, _≤_}
 use lib.ListN.{length, getD}
 use Rattle.entities.specs.declared.Triple.{Triple}
 use Rattle.terms.specs.Job.{Job}
-use Rattle.merging.specs.History.{merge-of, history-before}
-use Rattle.merging.specs.Lawful.{LawfulHistory}
-use Rattle.merging.specs.Choice.{weight-in}
+use Rattle.history.specs.History.{merge-of, history-before}
+use Rattle.history.specs.Lawful.{LawfulHistory}
+use Rattle.history.specs.Choice.{weight-in}
 use Rattle.obeying.specs.declared.header.Header.the-variants.{Is as HeaderIs}
 use Rattle.obeying.specs.declared.merge_line.Merge.the-variants.{Is as MergeIs}
 use Rattle.obeying.specs.LineForms.{header-of, merge-of-line}

@@ -16,15 +16,15 @@ use Rattle.terms.specs.Rows.{rows-of, term, terms-of}
 use Rattle.terms.specs.Good.{modes-good, good-indices, good-row, good-rows, checked}
 use Rattle.terms.specs.Weight.{weight-of, term-weight, odd-ones}
 use Rattle.reduction.specs.Reduction.{reduction, rewriting, sorted, put-in, replacement, dropped, stays, settled, reduced-row}
-use Rattle.merging.specs.History.{merge-of, next-parent, among, is-open, z-end, rows-after}
-use Rattle.merging.specs.Lawful.{three-open, paired}
-use Rattle.merging.specs.Choice.{weight-in}
-use Rattle.merging.specs.Run.{run-weight}
-use Rattle.merging.specs.computed.Pairs.{holder, is-lawful, named, entities, pairs-with, lawful-pairs}
-use Rattle.merging.specs.computed.Choosing.{candidates, chosen}
-use Rattle.merging.specs.computed.Greedy.{greedy, finished, trials}
-use Rattle.merging.specs.Flatpack.{absent-leaf, children, walk, rows-for, flatpack}
-use Rattle.merging.specs.Trials.{trial-total}
+use Rattle.history.specs.History.{merge-of, next-parent, among, is-open, z-end, rows-after}
+use Rattle.history.specs.Lawful.{three-open, paired}
+use Rattle.history.specs.Choice.{weight-in}
+use Rattle.history.specs.Run.{run-weight}
+use Rattle.history.specs.computed.Pairs.{holder, is-lawful, named, entities, pairs-with, lawful-pairs}
+use Rattle.history.specs.computed.Choosing.{candidates, chosen}
+use Rattle.history.specs.computed.Greedy.{greedy, finished, trials}
+use Rattle.history.specs.Flatpack.{absent-leaf, children, walk, rows-for, flatpack}
+use Rattle.history.specs.Trials.{trial-total}
 use Rattle.obeying.specs.LineForms.{header-good, header-of, merge-good, merge-of-line, header-text, merge-text}
 use Rattle.obeying.specs.Obeying.{
   merge-by-hand,

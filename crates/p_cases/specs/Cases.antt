@@ -8,7 +8,7 @@ use Rattle.lists.specs.Members.{every, alike}
 use Rattle.entities.specs.Codes.{absent}
 use Rattle.entities.specs.Limits.{most-modes}
 use Rattle.fields.specs.Texts.{spelt}
-use Rattle.merging.specs.Trials.{trial-total}
+use Rattle.history.specs.Trials.{trial-total}
 use Rattle.journal.specs.Resuming.{Outcome, resumed}
 use Rattle.journal.specs.Promises.{numbers-of, returned, lent, lent-then}
 use Rattle.tree.specs.Weight.{tree-weighed, weight-numbers}

@@ -13,7 +13,7 @@ use Rattle.fields.specs.Texts.{spelt}
 use Rattle.fields.specs.Decimal.{decimal}
 use Rattle.fields.specs.Fields.{tabbed}
 use Rattle.terms.specs.Job.{Job}
-use Rattle.merging.specs.Choice.{weight-in}
+use Rattle.history.specs.Choice.{weight-in}
 use Rattle.merging.specs.declared.run.Run.{Run}
 use Rattle.merging.specs.code.State.{history-of}
 use Rattle.obeying.specs.declared.Verdict.{Verdict}

@@ -12,8 +12,8 @@ use Rattle.fields.specs.Lines.{lines}
 use Rattle.terms.specs.Job.{Job, job-of}
 use Rattle.terms.specs.declared.checking.Checked.{Checked}
 use Rattle.terms.specs.declared.checking.Checked.the-variants.{Good, Refused as BadTerms}
-use Rattle.merging.specs.History.{is-open}
-use Rattle.merging.specs.Choice.{weight-in}
+use Rattle.history.specs.History.{is-open}
+use Rattle.history.specs.Choice.{weight-in}
 use Rattle.obeying.specs.declared.merge_line.Merge.{Merge}
 use Rattle.obeying.specs.declared.merge_line.Merge.the-variants.{Is as MergeIs, Broken as MergeBroken}
 use Rattle.obeying.specs.LineForms.{merge-of-line}

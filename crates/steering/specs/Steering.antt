@@ -15,7 +15,7 @@ use Rattle.terms.specs.Job.{Job, job-of}
 use Rattle.terms.specs.Good.{modes-good, checked}
 use Rattle.terms.specs.declared.checking.Checked.{Checked}
 use Rattle.terms.specs.declared.checking.Checked.the-variants.{Good, Refused as BadTerms}
-use Rattle.merging.specs.History.{merge-of}
+use Rattle.history.specs.History.{merge-of}
 use Rattle.obeying.specs.Obeying.{line-after, Obeyed, went, refused, obeyed-by-hand}
 use Rattle.journal.specs.Writing.{journal-text}
 use Rattle.journal.specs.Resuming.{done, ending}

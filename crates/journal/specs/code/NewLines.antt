@@ -6,9 +6,9 @@ use lib.ListN.{length}
 use Rattle.lists.specs.Ranges.{listed}
 use Rattle.entities.specs.declared.Triple.{Triple}
 use Rattle.terms.specs.Job.{Job}
+use Rattle.history.specs.History.{merge-of, history-before}
+use Rattle.history.specs.computed.Greedy.{finished}
 use Rattle.merging.specs.declared.run.Run.{Run}
-use Rattle.merging.specs.History.{merge-of, history-before}
-use Rattle.merging.specs.computed.Greedy.{finished}
 use Rattle.merging.specs.code.State.{history-of}
 use Rattle.merging.specs.code.Runs.{Holds}
 use Rattle.journal.specs.Writing.{line-of, header-behind}

@@ -4,7 +4,7 @@ use Prim.Native.Nat.{ℕ, zero, suc, _-_}
 use lib.ListN.{length}
 use Rattle.entities.specs.declared.Triple.{Triple}
 use Rattle.terms.specs.Job.{Job}
-use Rattle.merging.specs.computed.Choosing.{chosen}
+use Rattle.history.specs.computed.Choosing.{chosen}
 use Rattle.journal.specs.Writing.{line-of, header-behind}
 
 -- The lines of so many greedy steps from a history.

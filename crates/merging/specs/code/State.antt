@@ -9,13 +9,13 @@ use Rattle.entities.specs.Limits.{most-terms, row-width}
 use Rattle.terms.specs.Rows.{terms-of}
 use Rattle.terms.specs.code.Held.{Held}
 use Rattle.terms.specs.Job.{Job}
+use Rattle.history.specs.History.{rows-after}
+use Rattle.history.specs.Lawful.{Lawful, LawfulHistory}
+use Rattle.history.specs.Choice.{weight-in}
+use Rattle.history.specs.Run.{run-weight}
+use Rattle.choosing.specs.code.Couples.{Tied}
 use Rattle.merging.specs.declared.run.Run.{Run}
-use Rattle.merging.specs.History.{rows-after}
-use Rattle.merging.specs.Lawful.{Lawful, LawfulHistory}
-use Rattle.merging.specs.Choice.{weight-in}
-use Rattle.merging.specs.code.Couples.{Tied}
 use Rattle.merging.specs.code.Recorded.{merge-at, recorded}
-use Rattle.merging.specs.Run.{run-weight}
 
 -- The merges that the state has written down, newest first.
 abbrev pub history-of : Run → List Triple

@@ -1,7 +1,7 @@
 -- Open entities stand in the table of z-ends, which says what the history says.
 use native.Mathlib.Omega.{arith}
+use Rattle.history.proofs.LawfulTest.{opens-test}
 use Rattle.merging.specs.code.State.{history-of}
-use Rattle.merging.proofs.LawfulTest.{opens-test}
 use Rattle.merging.proofs.StateAsked.{open-in}
 use Rattle.merging.proofs.asked.are_paired.Statement.{statement}
 use Rattle.merging.proofs.asked.are_paired.Tie as tie

@@ -1,6 +1,6 @@
 -- The rows are those after the history.
 use borrow.Author.Needs.{needs}
-use Rattle.merging.specs.Choice.{weight-in}
+use Rattle.history.specs.Choice.{weight-in}
 use Rattle.merging.proofs.asked.weight_of.Statement.{statement}
 use Rattle.merging.proofs.asked.weight_of.Tie as tie
 

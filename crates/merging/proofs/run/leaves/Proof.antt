@@ -7,7 +7,7 @@ use native.Mathlib.Omega.{arith}
 use borrow.Author.Needs.{needs}
 use lib.ListN.{length, take, drop, replicate, length-set}
 use Rattle.lists.specs.Ranges.{listed}
-use Rattle.merging.specs.History.{is-open}
+use Rattle.history.specs.History.{is-open}
 use Rattle.merging.proofs.FirstOpen.{opened-next, closed-next, leaves-open}
 use Rattle.merging.proofs.run.leaves.Statement.{statement}
 use Rattle.merging.proofs.run.leaves.Tie as tie

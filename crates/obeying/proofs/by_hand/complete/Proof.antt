@@ -1,9 +1,9 @@
 -- Step and weight fit 16 bits: there are no more merges than modes, and no weight is above the count of the terms.
 use native.Mathlib.Omega.{arith}
 use borrow.Author.Needs.{needs}
+use Rattle.history.proofs.RowsAfter.{weight-in-most}
 use Rattle.merging.specs.code.State.{history-of}
 use Rattle.merging.proofs.Runs.{merges-within}
-use Rattle.merging.proofs.RowsAfter.{weight-in-most}
 use Rattle.obeying.proofs.by_hand.complete.Statement.{statement}
 use Rattle.obeying.proofs.by_hand.complete.Tie as tie
 

@@ -5,7 +5,7 @@ use borrow.Author.Needs.{needs}
 use borrow.Author.Tests.{not-true, not-false}
 use lib.ListN.{length}
 use Rattle.terms.specs.Job.{Job}
-use Rattle.merging.specs.Lawful.{three-open, paired}
+use Rattle.history.specs.Lawful.{three-open, paired}
 use Rattle.merging.specs.code.State.{history-of}
 use Rattle.merging.specs.code.Runs.{Holds}
 use Rattle.obeying.proofs.LineJudged.{not-next, not-open, not-paired, not-weighed, all-passed}

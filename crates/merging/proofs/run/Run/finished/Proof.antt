@@ -4,8 +4,8 @@ use Prim.Native.Nat.{_-_, _<_, _≤_}
 use native.Mathlib.Omega.{arith}
 use lib.ListN.{length}
 use Rattle.terms.specs.Job.{Job}
+use Rattle.history.specs.computed.Greedy.{finished}
 use Rattle.merging.specs.declared.run.Run.{Run}
-use Rattle.merging.specs.computed.Greedy.{finished}
 use Rattle.merging.specs.code.State.{history-of}
 use Rattle.merging.specs.code.Runs.{Holds, Went}
 use Rattle.merging.proofs.Recording.{length-recorded}

@@ -5,9 +5,9 @@ use Prim.Native.Nat.{ℕ, _<_}
 use native.Mathlib.Omega.{arith}
 use borrow.Author.Needs.{needs}
 use Rattle.terms.specs.Job.{Job}
+use Rattle.history.specs.computed.Choosing.{candidates, chosen}
+use Rattle.choosing.specs.code.Couples.{weight-here, nothing, weighed, seek}
 use Rattle.merging.specs.declared.run.Run.{Run}
-use Rattle.merging.specs.computed.Choosing.{candidates, chosen}
-use Rattle.merging.specs.code.Couples.{weight-here, nothing, weighed, seek}
 use Rattle.merging.specs.code.State.{history-of}
 use Rattle.merging.specs.code.Runs.{Holds, Ready}
 use Rattle.merging.proofs.StateMerged.{parent-is}

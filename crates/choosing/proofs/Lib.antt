@@ -1,0 +1,4 @@
+-- The laws of the choice of a step.
+pub mod Couples
+pub mod Candidates
+pub mod Seeking

@@ -1,0 +1,2 @@
+-- How the code goes through the lawful pairs: no promise needs it.
+pub mod Couples

@@ -1,0 +1,2 @@
+-- The laws of the rows of a finished run while they are written.
+pub mod Walking

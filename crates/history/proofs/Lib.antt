@@ -1,0 +1,19 @@
+-- The laws of histories of merges.
+pub mod LawfulTest
+pub mod Holders
+pub mod Names
+pub mod ChosenRight
+pub mod ChosenOne
+pub mod RowsAfter
+pub mod Images
+pub mod OpenSums
+pub mod AbsentLeaf
+pub mod Partners
+pub mod PairCount
+pub mod RunLawful
+pub mod Amounts
+pub mod GreedySteps
+pub mod RunsOn
+pub mod TrialTotals
+pub mod Walk
+pub mod FlatpackRows
