@@ -11,13 +11,14 @@ use Rattle.lists.specs.Members.{every, keep, some-of, alike, firsts, firsts-aft
 use Rattle.lists.specs.Renewed.{renewed-after, renewed}
 use Rattle.lists.proofs.Kept.{keep-joined}
 use Rattle.entities.specs.declared.Triple.{Triple}
-use Rattle.terms.specs.Weight.{odd-ones, term-weight, weight-of}
+use Rattle.terms.specs.Letters.{letter-of, counted-letter}
+use Rattle.terms.specs.Weight.{term-letter, term-weight, weight-of}
 use Rattle.reduction.specs.Reduction.{sorted, rewriting, dropped, stays, settled, reduced-row, reduction, is-there, live, told-reduction}
 use Rattle.reduction.proofs.Sorting.{length-rewriting}
 
 -- A row that is gone weighs nothing.
 pub live-weight : (triple : Triple) (terms : List (List ℕ)) → weight-of triple (live terms) ≡ weight-of triple terms
-unfolding live is-there keep weight-of sum term-weight odd-ones occurrences
+unfolding live is-there keep weight-of sum term-weight term-letter counted-letter letter-of occurrences
 live-weight triple [] = refl
 live-weight triple ([] ∷ terms) = live-weight triple terms ∙ sym (zero-add (weight-of triple terms))
 live-weight triple ((index ∷ term) ∷ terms) = ap (λ n. term-weight triple (index ∷ term) + n) (live-weight triple terms)

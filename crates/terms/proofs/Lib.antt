@@ -2,6 +2,7 @@
 pub mod RowSteps
 pub mod GoodSteps
 pub mod OwnRows
+pub mod LetterLaws
 pub mod Weighing
 pub mod WeightBound
 pub mod StaysGood

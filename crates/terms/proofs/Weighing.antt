@@ -9,7 +9,8 @@ use lib.ListN.{take, drop}
 use Rattle.lists.specs.Counting.{sum, occurrences}
 use Rattle.entities.specs.declared.Triple.{Triple}
 use Rattle.terms.specs.Rows.{term, terms-of}
-use Rattle.terms.specs.Weight.{odd-ones, term-weight, weight-of}
+use Rattle.terms.specs.Weight.{term-letter, term-weight, weight-of, odd-ones, NoWeightChanges}
+use Rattle.terms.proofs.LetterLaws.{not-none-counts}
 use Rattle.terms.proofs.RowSteps.{terms-step, terms-end}
 
 -- 0, 1, 2, 3 to 0, 1, 1, 0.
@@ -24,11 +25,10 @@ odd-few : (triple : Triple) (term : List ℕ) → odd-ones triple term ≤ 3
 unfolding odd-ones
 odd-few triple term = omega arith
 
-pub weighs : (triple : Triple) (term : List ℕ) (xs ys zs : ℕ)
-    → xs ≡ occurrences (triple .x) term → ys ≡ occurrences (triple .y) term → zs ≡ occurrences (triple .z) term
-    → (xs % 2 + ys % 2 + zs % 2 + 1) / 2 % 2 ≡ term-weight triple term
-unfolding term-weight odd-ones
-weighs triple term xs ys zs ex ey ez = rw (← ex, ← ey, ← ez) (one-or-two (xs % 2 + ys % 2 + zs % 2) (omega arith))
+-- "No weight … changes."
+pub no-weight-changes : NoWeightChanges
+unfolding term-weight term-letter odd-ones
+no-weight-changes triple term = not-none-counts (occurrences (triple .x) term) (occurrences (triple .y) term) (occurrences (triple .z) term)
 
 -- Along the rows: the weight of those passed and of those ahead is the weight of all.
 module _ (triple : Triple) (count place : ℕ) (rows : List ℕ) where
@@ -45,5 +45,4 @@ module _ (triple : Triple) (count place : ℕ) (rows : List ℕ) where
 
 -- The weight from how many of the three are odd.
 pub weighs-odd : (triple : Triple) (term : List ℕ) (odd : ℕ) → odd ≡ odd-ones triple term → (odd + 1) / 2 % 2 ≡ term-weight triple term
-unfolding term-weight
-weighs-odd triple term odd e = rw (← e) (one-or-two odd (rw e (odd-few triple term)))
+weighs-odd triple term odd e = rw (no-weight-changes triple term, ← e) (one-or-two odd (rw e (odd-few triple term)))

@@ -2,5 +2,6 @@
 pub mod Rows
 pub mod Job
 pub mod Good
+pub mod Letters
 pub mod Weight
 pub mod code

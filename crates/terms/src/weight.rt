@@ -1,4 +1,4 @@
-// The weight of a triple: in one term, and in all rows.
+// The letter that a triple gives a term, and its weight in all rows.
 ghost use mathlib.Core.Path.{_≡_};
 ghost use Prim.Native.Nat.{_%_, _≤_};
 ghost use lib.ListN.{length};
@@ -6,7 +6,9 @@ ghost use Rattle.lists.specs.Counting.{same as «one-if-same», occurrences};
 ghost use Rattle.entities.specs.Limits.{«row-width»};
 ghost use Rattle.terms.specs.Rows.{«terms-of»};
 ghost use Rattle.terms.specs.code.Held.{Held, OddOf};
-ghost use Rattle.terms.specs.Weight.{«term-weight», «weight-of»};
+ghost use Rattle.terms.specs.Weight.{«term-letter», «weight-of»};
+use crate::letters;
+use crate::letters::Letter;
 use crate::row;
 use entities::Triple;
 
@@ -17,9 +19,9 @@ fn same(number: u16, other: u16) -> usize
     if number == other { 1 } else { 0 }
 }
 
-// 1 where one or two of the triple's numbers occur an odd number of times, else 0.
-pub fn qubit_term_weight(term: &[u16], triple: Triple) -> usize
-    ensures { λ r. ⌜ (r ≡ term-weight triple (now (term .entry))) × (r ≤ 1) ⌝ }
+// The letter that the triple gives the term.
+pub fn qubit_term_weight(term: &[u16], triple: Triple) -> Letter
+    ensures { λ r. ⌜ r ≡ term-letter triple (now (term .entry)) ⌝ }
 {
     let mut xs: usize = 0;
     let mut ys: usize = 0;
@@ -32,9 +34,7 @@ pub fn qubit_term_weight(term: &[u16], triple: Triple) -> usize
         zs += same(index, triple.z);
         at += 1;
     }
-    let odd = xs % 2 + ys % 2 + zs % 2;
-    // 0, 1, 2, 3 to 0, 1, 1, 0
-    (odd + 1) / 2 % 2
+    letters::counted_letter(xs, ys, zs)
 }
 
 // The sum of the triple's weights in the first `count` rows.
@@ -45,7 +45,7 @@ pub fn weight(rows: &[u16], count: usize, triple: Triple) -> usize
     let mut sum: usize = 0;
     let mut place = 0;
     while place < count {
-        sum += qubit_term_weight(row::term_at(rows, place), triple);
+        sum += letters::not_none(qubit_term_weight(row::term_at(rows, place), triple));
         place += 1;
     }
     sum

@@ -1,10 +1,9 @@
 -- The tree weight step by step: along a term's indices, the nodes and the rows.
 use mathlib.Core.Path.{_≡_, ap, _∙_}
-use mathlib.Core.Bool.{true, cond, _&&_}
+use mathlib.Core.Bool.{true}
 use mathlib.Core.List.{List, [], map}
-use Prim.Native.Nat.{ℕ, suc, _+_, _-_, _*_, _%_, _<_, _≤_}
-use borrow.Author.Tests.{eq-eqb, ne-eqb}
-use lib.Dec.{eqb, ltb}
+use Prim.Native.Nat.{ℕ, suc, _+_, _-_, _*_, _<_, _≤_}
+use lib.Dec.{ltb}
 use lib.ListN.{length, getD, take, drop, drop-of-length-le, List·getD-map}
 use Rattle.lists.specs.Counting.{sum, same, occurrences}
 use Rattle.lists.specs.Members.{every}
@@ -14,8 +13,9 @@ use Rattle.lists.proofs.Steps.{drop-step}
 use Rattle.terms.specs.Rows.{rows-of, term, terms-of}
 use Rattle.terms.specs.Good.{good-term}
 use Rattle.terms.proofs.RowSteps.{terms-step, terms-end, length-terms, rows-at}
+use Rattle.terms.proofs.LetterLaws.{not-none-apart}
 use Rattle.terms.proofs.StaysGood.{good-term-says}
-use Rattle.tree.specs.Weight.{edge-under, edges, node-weight, row-weight, tree-weight}
+use Rattle.tree.specs.Weight.{edge-under, edges, node-letter, node-weight, row-weight, tree-weight, NoNodeWeightChanges}
 use Rattle.tree.specs.code.Promises.{GoodRows}
 use Rattle.tree.proofs.TableSteps.{nodes-start}
 
@@ -31,26 +31,12 @@ module _ (modes : ℕ) (table : List ℕ) (node : ℕ) (s : List ℕ) (at edge :
   unfolding edges occurrences
   edges-end h = rw (drop-of-length-le s h)
 
--- How many of a term's indices stand under X, Y and Z of a node.
-pub record Counted (modes : ℕ) (table s : List ℕ) (node xs ys zs : ℕ) : Type 0 where
-  pub under-x : xs ≡ occurrences 0 (edges modes table node s)
-  pub under-y : ys ≡ occurrences 1 (edges modes table node s)
-  pub under-z : zs ≡ occurrences 2 (edges modes table node s)
-
--- The weight at a node from the three counts.
-module _ {modes : ℕ} {table s : List ℕ} {node xs ys zs : ℕ} (counts : Counted modes table s node xs ys zs) where
-  by-counts : node-weight modes table s node ≡ cond (eqb (xs % 2) (ys % 2) && eqb (ys % 2) (zs % 2)) 0 1
-  unfolding node-weight
-  by-counts = rw (← counts .under-x, ← counts .under-y, ← counts .under-z)
-
-  pub x-apart : (xs % 2 ≡ ys % 2 → ⊥) → node-weight modes table s node ≡ 1
-  x-apart h = rw by-counts (rw (ne-eqb (xs % 2) (ys % 2) h))
-
-  pub z-apart : xs % 2 ≡ ys % 2 → (ys % 2 ≡ zs % 2 → ⊥) → node-weight modes table s node ≡ 1
-  z-apart e h = rw by-counts (rw (eq-eqb (xs % 2) (ys % 2) e, ne-eqb (ys % 2) (zs % 2) h))
-
-  pub none-apart : xs % 2 ≡ ys % 2 → ys % 2 ≡ zs % 2 → node-weight modes table s node ≡ 0
-  none-apart e f = rw by-counts (rw (eq-eqb (xs % 2) (ys % 2) e, eq-eqb (ys % 2) (zs % 2) f))
+-- "1 where the parities … aren't all equal".
+pub no-node-weight-changes : NoNodeWeightChanges
+unfolding node-weight node-letter
+no-node-weight-changes modes table term node =
+    let under = edges modes table node term in
+    not-none-apart (occurrences 0 under) (occurrences 1 under) (occurrences 2 under)
 
 pub row-start : (modes : ℕ) (table s : List ℕ) → row-weight modes table s ≡ sum (map (node-weight modes table s) (listed (λ node. node) 0 (modes - 0)))
 unfolding row-weight

@@ -1,4 +1,5 @@
 -- "For an accepted tree: over every listed row and every node, 1 where the parities of the row's indices under X, Y, Z aren't all equal."
+use mathlib.Core.Path.{_≡_}
 use mathlib.Core.Bool.{cond, _&&_}
 use mathlib.Core.List.{List, [], _∷_, map}
 use Prim.Native.Nat.{ℕ, zero, suc, _+_, _%_, _/_}
@@ -9,6 +10,8 @@ use Rattle.refusal.specs.Numbers.{refused-numbers, done-numbers}
 use Rattle.entities.specs.Limits.{row-width}
 use Rattle.terms.specs.Rows.{terms-of}
 use Rattle.terms.specs.Good.{checked}
+use Rattle.terms.specs.Letters.{counted-letter, not-none}
+use Rattle.terms.specs.declared.letters.Letter.{Letter}
 use Rattle.terms.specs.declared.checking.Checked.{Checked}
 use Rattle.terms.specs.declared.checking.Checked.the-variants.{Good, Refused as BadTerms}
 use Rattle.tree.specs.declared.TreeChecked.{TreeChecked}
@@ -30,11 +33,22 @@ edge-under table (suc steps) node code =
 unfoldable pub edges : ℕ → List ℕ → ℕ → List ℕ → List ℕ
 edges modes table node term = map (λ index. edge-under table (suc modes) node (modes + index)) term
 
--- The weight of one row at one node: 1 where the parities under X, Y, Z aren't all equal.
-unfoldable pub node-weight : ℕ → List ℕ → List ℕ → ℕ → ℕ
-node-weight modes table term node =
+-- The letter of one row at one node: that of how many of its indices stand under X, Y and Z.
+unfoldable pub node-letter : ℕ → List ℕ → List ℕ → ℕ → Letter
+node-letter modes table term node =
     let under = edges modes table node term in
-    cond (eqb (occurrences 0 under % 2) (occurrences 1 under % 2) && eqb (occurrences 1 under % 2) (occurrences 2 under % 2)) 0 1
+    counted-letter (occurrences 0 under) (occurrences 1 under) (occurrences 2 under)
+
+-- The weight of one row at one node.
+unfoldable pub node-weight : ℕ → List ℕ → List ℕ → ℕ → ℕ
+node-weight modes table term node = not-none (node-letter modes table term node)
+
+-- No weight of a node changes: it is, as document 01 has it, "1 where the parities of the row's indices under X, Y, Z aren't all equal".
+abbrev pub NoNodeWeightChanges : Type 0
+NoNodeWeightChanges =
+    (modes : ℕ) (table term : List ℕ) (node : ℕ)
+    → let parity : ℕ → ℕ = λ edge. occurrences edge (edges modes table node term) % 2 in
+    node-weight modes table term node ≡ cond (eqb (parity 0) (parity 1) && eqb (parity 1) (parity 2)) 0 1
 
 -- "over … every node".
 unfoldable pub row-weight : ℕ → List ℕ → List ℕ → ℕ

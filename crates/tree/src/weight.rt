@@ -9,12 +9,14 @@ ghost use Rattle.refusal.specs.Numbers.{Tells};
 ghost use Rattle.entities.specs.Limits.{«most-modes», «row-width»};
 ghost use Rattle.terms.specs.Rows.{«terms-of»};
 ghost use Rattle.tree.specs.code.Promises.{Places, GoodRows};
-ghost use Rattle.tree.specs.Weight.{«edge-under», «node-weight», «row-weight», «tree-weight», «tree-weighed», «weight-numbers»};
+ghost use Rattle.tree.specs.Weight.{«edge-under», «node-letter», «row-weight», «tree-weight», «tree-weighed», «weight-numbers»};
 use crate::TreeChecked;
 use crate::TreeWeighed;
 use crate::table;
 use terms::checking;
 use terms::checking::Checked;
+use terms::letters;
+use terms::letters::Letter;
 use terms::row;
 
 // The place of each code below the table's length, so that the way up takes no search.
@@ -51,12 +53,12 @@ fn edge_under(tree: &[u16], places: &[usize], steps: usize, node: usize, code: u
     3
 }
 
-// 1 where the parities of the term's indices under X, Y and Z of the node aren't all equal, else 0.
-fn node_weight(modes: usize, tree: &[u16], places: &[usize], term: &[u16], node: usize) -> u64
+// The letter of the term at the node: that of how many of its indices stand under X, Y and Z.
+fn node_letter(modes: usize, tree: &[u16], places: &[usize], term: &[u16], node: usize) -> Letter
     requires { ⌜ Places (now tree) (now places) ⌝ }
     requires { ⌜ length (now tree) ≡ 3 * modes ⌝ }
     requires { ⌜ every (λ index. ltb index (2 * modes)) (now term) ≡ true ⌝ }
-    ensures { λ r. ⌜ (r ≡ node-weight modes (now (tree .entry)) (now (term .entry)) node) × (r ≤ 1) ⌝ }
+    ensures { λ r. ⌜ r ≡ node-letter modes (now (tree .entry)) (now (term .entry)) node ⌝ }
 {
     let mut xs: usize = 0;
     let mut ys: usize = 0;
@@ -75,13 +77,7 @@ fn node_weight(modes: usize, tree: &[u16], places: &[usize], term: &[u16], node:
         zs += table::same(edge, 2);
         at += 1;
     }
-    if xs % 2 != ys % 2 {
-        return 1;
-    }
-    if ys % 2 != zs % 2 {
-        return 1;
-    }
-    0
+    letters::counted_letter(xs, ys, zs)
 }
 
 // The term's weight over every node.
@@ -94,7 +90,7 @@ fn row_weight(modes: usize, tree: &[u16], places: &[usize], term: &[u16]) -> u64
     let mut sum: u64 = 0;
     let mut node = 0;
     while node < modes {
-        sum += node_weight(modes, tree, places, term, node);
+        sum += letters::not_none(node_letter(modes, tree, places, term, node)) as u64;
         node += 1;
     }
     sum

@@ -1,12 +1,13 @@
--- Each count and what is ahead of it make all the occurrences; at the end the three counts decide the weight.
-use mathlib.Core.Path.{_≡_}
+-- Each count and what is ahead of it make all the occurrences; at the end the three counts decide the letter.
+use mathlib.Core.Path.{_≡_, _∙_}
 use Prim.Native.Nat.{_<_, _≤_, _-_, _+_}
 use native.Mathlib.Omega.{arith}
 use borrow.Author.Needs.{needs}
 use lib.ListN.{length, drop}
 use Rattle.lists.specs.Counting.{occurrences}
 use Rattle.lists.proofs.Steps.{occurrences-step, occurrences-end}
-use Rattle.terms.proofs.Weighing.{weighs}
+use Rattle.terms.specs.Letters.{counted-letter}
+use Rattle.terms.specs.Weight.{term-letter}
 use Rattle.terms.proofs.weight.qubit_term_weight.Statement.{statement}
 use Rattle.terms.proofs.weight.qubit_term_weight.Tie as tie
 
@@ -68,18 +69,13 @@ loop-again c =
     let z = occurrences-step (args .triple .z) s at h in
     omega arith
 
-add-odd : tie.Need-add-odd Inv-loop μ-loop
-add-odd c = search needs
-
-add-odd-2 : tie.Need-add-odd-2 Inv-loop μ-loop
-add-odd-2 c = search needs
-
-add-result : tie.Need-add-result Inv-loop μ-loop
-add-result c = search needs
+counted-letter-requires : tie.Need-counted-letter-requires Inv-loop μ-loop
+counted-letter-requires c κs = search needs
 
 returns : tie.Need-returns Inv-loop μ-loop
+unfolding term-letter
 returns c =
-    let here = c .before in
+    let here = c .before .before in
     let args = here .before .before .args in
     let s = args .term .now in
     let at = here .loop .at in
@@ -88,7 +84,10 @@ returns c =
     let x = occurrences-end (t .x) s at h in
     let y = occurrences-end (t .y) s at h in
     let z = occurrences-end (t .z) s at h in
-    (weighs t s (here .loop .xs) (here .loop .ys) (here .loop .zs) (omega arith) (omega arith) (omega arith), omega arith)
+    let ex : here .loop .xs ≡ occurrences (t .x) s = omega arith in
+    let ey : here .loop .ys ≡ occurrences (t .y) s = omega arith in
+    let ez : here .loop .zs ≡ occurrences (t .z) s = omega arith in
+    rw (← ex, ← ey, ← ez) (c .counted-letter .ensures)
 
 pub qubit-term-weight-spec : {M : Type 1} → statement M
 qubit-term-weight-spec =
@@ -108,7 +107,5 @@ qubit-term-weight-spec =
     add-at
     loop-less
     loop-again
-    add-odd
-    add-odd-2
-    add-result
+    counted-letter-requires
     returns)

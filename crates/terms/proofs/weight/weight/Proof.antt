@@ -6,7 +6,8 @@ use native.Mathlib.Omega.{arith}
 use borrow.Author.Needs.{needs}
 use lib.ListN.{drop}
 use Rattle.terms.specs.Rows.{terms-of}
-use Rattle.terms.specs.Weight.{term-weight, weight-of}
+use Rattle.terms.specs.Letters.{not-none}
+use Rattle.terms.specs.Weight.{term-letter, term-weight, weight-of}
 use Rattle.terms.proofs.RowSteps.{terms-start}
 use Rattle.terms.proofs.Weighing.{weight-step, weight-end}
 use Rattle.terms.proofs.weight.weight.Statement.{statement}
@@ -32,6 +33,9 @@ term-at-requires c κs =
 qubit-term-weight-requires : tie.Need-qubit-term-weight-requires Inv-loop μ-loop
 qubit-term-weight-requires c κs = search needs
 
+not-none-requires : tie.Need-not-none-requires Inv-loop μ-loop
+not-none-requires c κs = search needs
+
 add-sum : tie.Need-add-sum Inv-loop μ-loop
 add-sum c = search needs
 
@@ -42,11 +46,13 @@ loop-less : tie.Need-loop-less Inv-loop μ-loop
 loop-less c = search needs
 
 loop-again : tie.Need-loop-again Inv-loop μ-loop
+unfolding term-weight
 loop-again c =
-    let here = c .before .before .before in
+    let here = c .before .before .before .before in
     let args = here .before .before .args in
     let step = weight-step (args .triple) (args .count) (here .loop .place) (args .rows .now) (omega arith) in
-    let e = c .qubit-term-weight .ensures .0 ∙ ap (term-weight (args .triple)) (c .before .term-at .ensures) in
+    let letter = c .before .qubit-term-weight .ensures ∙ ap (term-letter (args .triple)) (c .before .before .term-at .ensures) in
+    let e : c .not-none .result ≡ term-weight (args .triple) _ = c .not-none .ensures .0 ∙ ap not-none letter in
     omega arith
 
 returns : tie.Need-returns Inv-loop μ-loop
@@ -65,6 +71,7 @@ weight-spec =
     loop-holds
     term-at-requires
     qubit-term-weight-requires
+    not-none-requires
     add-sum
     add-place
     loop-less

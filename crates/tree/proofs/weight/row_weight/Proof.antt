@@ -1,5 +1,5 @@
 -- The weight at the nodes passed and at those ahead is the weight at all.
-use mathlib.Core.Path.{_≡_, _∙_, sym}
+use mathlib.Core.Path.{_≡_, _∙_, sym, ap}
 use mathlib.Core.List.{map}
 use Prim.Native.Nat.{_≤_, _-_, _+_}
 use native.Mathlib.Nat.{zero-add}
@@ -8,6 +8,7 @@ use borrow.Author.Needs.{needs}
 use Rattle.lists.specs.Counting.{sum as total}
 use Rattle.lists.specs.Ranges.{listed}
 use Rattle.lists.proofs.Ranges.{sum-on, sum-done}
+use Rattle.terms.specs.Letters.{not-none}
 use Rattle.tree.specs.Weight.{node-weight, row-weight}
 use Rattle.tree.proofs.TreeWeighing.{row-start}
 use Rattle.tree.proofs.weight.row_weight.Statement.{statement}
@@ -27,10 +28,13 @@ loop-holds c =
     let args = c .before .before .before .args in
     (omega arith, omega arith, zero-add _ ∙ sym (row-start (args .modes) (args .tree .now) (args .term .now)))
 
-node-weight-requires : tie.Need-node-weight-requires Inv-loop μ-loop
-node-weight-requires c κs =
+node-letter-requires : tie.Need-node-letter-requires Inv-loop μ-loop
+node-letter-requires c κs =
     let start = c .before .before .before .before .before in
     start .pre
+
+not-none-requires : tie.Need-not-none-requires Inv-loop μ-loop
+not-none-requires c κs = search needs
 
 add-sum : tie.Need-add-sum Inv-loop μ-loop
 add-sum c = search needs
@@ -42,9 +46,12 @@ loop-less : tie.Need-loop-less Inv-loop μ-loop
 loop-less c = search needs
 
 loop-again : tie.Need-loop-again Inv-loop μ-loop
+unfolding node-weight
 loop-again c =
-    let here = c .before .before in
+    let here = c .before .before .before in
     let args = here .before .before .before .before .args in
+    let e : c .not-none .result ≡ node-weight (args .modes) (args .tree .now) (args .term .now) (here .loop .node) =
+    c .not-none .ensures .0 ∙ ap not-none (c .before .node-letter .ensures) in
     let step = sum-on (node-weight (args .modes) (args .tree .now) (args .term .now)) (λ v. v) (args .modes) (here .loop .node) (omega arith) in
     omega arith
 
@@ -62,7 +69,8 @@ row-weight-spec =
     Inv-loop
     μ-loop
     loop-holds
-    node-weight-requires
+    node-letter-requires
+    not-none-requires
     add-sum
     add-node
     loop-less

@@ -1,4 +1,4 @@
--- Each count and what is ahead of it make all the edges of its kind; at the end the three counts decide the weight.
+-- Each count and what is ahead of it make all the edges of its kind; at the end the three counts decide the letter.
 use mathlib.Core.Path.{_≡_, _∙_, sym, ap}
 use Prim.Native.Nat.{_<_, _≤_, _-_, _+_, _*_}
 use native.Mathlib.Numerals.{add-one}
@@ -7,10 +7,10 @@ use borrow.Author.Needs.{needs}
 use lib.ListN.{length, drop}
 use Rattle.lists.specs.Counting.{same, occurrences}
 use Rattle.lists.proofs.Every.{below-at}
-use Rattle.tree.specs.Weight.{edge-under, edges}
-use Rattle.tree.proofs.TreeWeighing.{edges-step, edges-end, Counted, x-apart, z-apart, none-apart}
-use Rattle.tree.proofs.weight.node_weight.Statement.{statement}
-use Rattle.tree.proofs.weight.node_weight.Tie as tie
+use Rattle.tree.specs.Weight.{edge-under, edges, node-letter}
+use Rattle.tree.proofs.TreeWeighing.{edges-step, edges-end}
+use Rattle.tree.proofs.weight.node_letter.Statement.{statement}
+use Rattle.tree.proofs.weight.node_letter.Tie as tie
 
 abbrev Inv-loop : tie.InvT-loop
 Inv-loop modes tree places term node xs₀ ys₀ zs₀ at₀ xs ys zs at = (at ≤ length term)
@@ -96,13 +96,13 @@ loop-again c =
     let ez = c .same3 .ensures .0 ∙ ap (λ v. same v 2) found in
     omega arith
 
--- At the end nothing is ahead, so each count is all of its kind.
-counted : (c : tie.After-loop Inv-loop μ-loop)
-    → Counted (c .before .before .before .before .before .args .modes) (c .before .before .before .before .before .args .tree .now)
-    (c .before .before .before .before .before .args .term .now) (c .before .before .before .before .before .args .node) (c .before .loop .xs)
-    (c .before .loop .ys) (c .before .loop .zs)
-counted c =
-    let here = c .before in
+counted-letter-requires : tie.Need-counted-letter-requires Inv-loop μ-loop
+counted-letter-requires c κs = search needs
+
+returns : tie.Need-returns Inv-loop μ-loop
+unfolding node-letter
+returns c =
+    let here = c .before .before in
     let args = here .before .before .before .before .args in
     let term = args .term .now in
     let at = here .loop .at in
@@ -110,19 +110,13 @@ counted c =
     let x = edges-end (args .modes) (args .tree .now) (args .node) term at 0 h in
     let y = edges-end (args .modes) (args .tree .now) (args .node) term at 1 h in
     let z = edges-end (args .modes) (args .tree .now) (args .node) term at 2 h in
-    record { under-x = omega arith; under-y = omega arith; under-z = omega arith }
+    let ex : here .loop .xs ≡ occurrences 0 (edges (args .modes) (args .tree .now) (args .node) term) = omega arith in
+    let ey : here .loop .ys ≡ occurrences 1 (edges (args .modes) (args .tree .now) (args .node) term) = omega arith in
+    let ez : here .loop .zs ≡ occurrences 2 (edges (args .modes) (args .tree .now) (args .node) term) = omega arith in
+    rw (← ex, ← ey, ← ez) (c .counted-letter .ensures)
 
-returns : tie.Need-returns Inv-loop μ-loop
-returns c = (sym (x-apart (counted (c .before)) (c .if1 .taken)), omega arith)
-
-returns-2 : tie.Need-returns-2 Inv-loop μ-loop
-returns-2 c = (sym (z-apart (counted (c .before .before)) (c .before .if1 .left) (c .if2 .taken)), omega arith)
-
-returns-3 : tie.Need-returns-3 Inv-loop μ-loop
-returns-3 c = (sym (none-apart (counted (c .before .before)) (c .before .if1 .left) (c .if2 .left)), omega arith)
-
-pub node-weight-spec : {M : Type 1} → statement M
-node-weight-spec =
+pub node-letter-spec : {M : Type 1} → statement M
+node-letter-spec =
     tie.close
     (tie.spec
     Inv-loop
@@ -143,6 +137,5 @@ node-weight-spec =
     add-at
     loop-less
     loop-again
-    returns
-    returns-2
-    returns-3)
+    counted-letter-requires
+    returns)
