@@ -26,7 +26,7 @@ use Rattle.topphatt.specs.Answer.{Outcome, done, refused, Asked, done-by, with-
 use Rattle.terms_text.specs.Input.{Said, given, malformed as terms-malformed, said}
 use Rattle.text.specs.Running.{program-rooms}
 use Rattle.text.specs.Output.{line-of, refusal-text}
-use Rattle.text.proofs.TermsRefused.{terms-refusal}
+use Rattle.terms_text.proofs.TermsRefused.{terms-refusal}
 use Rattle.text.proofs.RoomSuffices.{refusal-five}
 use Rattle.nodes_text.specs.TreeInput.{TreeSaid, nodes, malformed, tree-said}
 use Rattle.tree_text.specs.Answers.{weight-line, table-of}

@@ -150,7 +150,7 @@ pub fn assign_answer(tree: &[u8], heuristic: &[u8], input: &[u8]) -> Printed
 {
     let mut rows = [0u16; 1024];
     let mut table = [0u16; 768];
-    let mut bytes = [0u8; 8192];
+    let mut bytes = [0u8; 16384];
     let count = print_assign(tree, heuristic, input, &mut rows, &mut table, &mut bytes);
     Printed {
         bytes: bytes,

@@ -86,7 +86,7 @@ pub fn answer_newick(input: &[u8]) -> Printed
     let mut rows = [0u16; 1024];
     let mut journal = [0u8; 5392];
     let mut table = [0u16; 768];
-    let mut bytes = [0u8; 8192];
+    let mut bytes = [0u8; 16384];
     let count = print_newick(input, &mut rows, &mut journal, &mut table, &mut bytes);
     Printed {
         bytes: bytes,

@@ -1,5 +1,4 @@
 -- The laws of steering and of refused lines.
-pub mod JobCounted
 pub mod JournalSteered
 pub mod ReasonTold
 pub mod SteeredObeyed

@@ -20,6 +20,7 @@ use Rattle.obeying.specs.Obeying.{line-after, Obeyed, went, refused, obeyed-by-
 use Rattle.obeying.proofs.LineRefused.{by-hand-refusal}
 use Rattle.journal.specs.Writing.{journal-text}
 use Rattle.terms_text.specs.Input.{Said, given, malformed, said}
+use Rattle.terms_text.specs.Counting.{counted}
 use Rattle.text.specs.Running.{program-rooms}
 use Rattle.text.specs.Output.{line-of, refusal-text}
 use Rattle.text.proofs.RoomSuffices.{refusal-five}
@@ -28,7 +29,6 @@ use Rattle.steering.specs.Steering.{
   writes,
   refuses,
   steered-as,
-  counted,
   steered-with,
   steered-by,
   steered,
@@ -36,7 +36,7 @@ use Rattle.steering.specs.Steering.{
   steer-text,
   SteerSuffices,
 }
-use Rattle.steering.proofs.JobCounted.{counted-refusal}
+use Rattle.terms_text.proofs.JobCounted.{counted-refusal}
 use Rattle.steering.proofs.SteeredObeyed.{steered-is-obeyed}
 
 -- The number with which steering ends; none where a journal is printed.

@@ -27,9 +27,10 @@ use Rattle.journal.specs.Writing.{journal-text}
 use Rattle.journal.proofs.CallDone.{rooms-fit, done-in}
 use Rattle.journal.proofs.JournalText.{journal-obeyed}
 use Rattle.terms_text.specs.Input.{Said, given, malformed, said}
+use Rattle.terms_text.specs.Counting.{counted}
 use Rattle.text.specs.Running.{program-rooms, ran-by, ran}
-use Rattle.steering.specs.Steering.{writes, refuses, steered-as, counted, steered-with, steered-by, steered, AsWritten, Steers, SteeredIsObeyed}
-use Rattle.steering.proofs.JobCounted.{counted-good}
+use Rattle.steering.specs.Steering.{writes, refuses, steered-as, steered-with, steered-by, steered, AsWritten, Steers, SteeredIsObeyed}
+use Rattle.terms_text.proofs.JobCounted.{counted-good}
 
 not-written : {A : Type 0} (refusal : Refusal) (journal : List ℕ) → refuses refusal ≡ writes journal → A
 not-written refusal journal e = let z : _≡_ {A = ℕ} 0 1 = cc in absurd (omega arith)

@@ -19,9 +19,9 @@ use Rattle.obeying.specs.declared.merge_line.Merge.the-variants.{Is as MergeIs,
 use Rattle.obeying.specs.LineForms.{merge-of-line}
 use Rattle.obeying.specs.Obeying.{Obeyed, went, refused, obeyed}
 use Rattle.terms_text.specs.Input.{Said, given, malformed, said}
+use Rattle.terms_text.specs.Counting.{counted}
 use Rattle.text.specs.Running.{Rooms}
 use Rattle.text.specs.Output.{line-of}
-use Rattle.steering.specs.Steering.{counted}
 
 -- The first of x, y and z that isn't open.
 unfoldable pub first-closed : ℕ → List Triple → Triple → ℕ

@@ -1,18 +1,17 @@
 -- `steer`: a merge a line, `x` TAB `y` TAB `z`, made into "the journal of those merges, steps and true weights filled in, …; or the refusal of the first line that isn't lawful, by 6, 9, 10 or 12 at that line, lines counted as in the journal that it would make".
 use mathlib.Core.Path.{_≡_}
-use mathlib.Core.Bool.{cond, not}
+use mathlib.Core.Bool.{cond}
 use mathlib.Core.List.{List, [], _∷_, map}
 use Prim.Native.Nat.{ℕ, _<_}
 use lib.Dec.{eqb}
 use lib.ListN.{length, getD}
 use Rattle.refusal.specs.declared.Refusal.{Refusal}
-use Rattle.refusal.specs.declared.Refusal.the-variants.{Modes, Room, LineForm, Malformed}
+use Rattle.refusal.specs.declared.Refusal.the-variants.{Room, LineForm, Malformed}
 use Rattle.entities.specs.declared.Triple.{Triple}
 use Rattle.fields.specs.Decimal.{value}
 use Rattle.fields.specs.Lines.{lines, kept-of}
 use Rattle.fields.specs.Fields.{fields}
 use Rattle.terms.specs.Job.{Job, job-of}
-use Rattle.terms.specs.Good.{modes-good, checked}
 use Rattle.terms.specs.declared.checking.Checked.{Checked}
 use Rattle.terms.specs.declared.checking.Checked.the-variants.{Good, Refused as BadTerms}
 use Rattle.history.specs.History.{merge-of}
@@ -20,6 +19,7 @@ use Rattle.obeying.specs.Obeying.{line-after, Obeyed, went, refused, obeyed-by-
 use Rattle.journal.specs.Writing.{journal-text}
 use Rattle.journal.specs.Resuming.{done, ending}
 use Rattle.terms_text.specs.Input.{Said, given, malformed, said}
+use Rattle.terms_text.specs.Counting.{counted}
 use Rattle.text.specs.Running.{Rooms, program-rooms, ran}
 use Rattle.text.specs.Output.{refusal-text}
 
@@ -33,10 +33,6 @@ unfoldable pub steered-as : Job → List ℕ → Obeyed → Steered
 steered-as job merges (went history) =
     cond (eqb (length (kept-of merges)) (length merges)) (writes (journal-text job history)) (refuses (LineForm (line-after history)))
 steered-as job merges (refused made refusal) = refuses refusal
-
--- How many terms there are, or why they are no job: 1 of the modes, then 2, 3 and 4.
-unfoldable pub counted : ℕ → ℕ → List ℕ → Checked
-counted most modes numbers = cond (not (modes-good most modes)) (BadTerms Modes) (checked modes numbers)
 
 -- The refusals of the terms come first.
 unfoldable pub steered-with : ℕ → List ℕ → List ℕ → Checked → Steered

@@ -22,10 +22,10 @@ use obeying::Verdict;
 use refusal::Refusal;
 use terms::checking::Checked;
 use terms_text::Said;
+use terms_text::counting;
 use text::Printed;
 use text::output;
 
-mod counting;
 pub mod reasons;
 
 // The journal of a run's merges printed over the front; a last line without LF breaks the form.
@@ -91,7 +91,7 @@ pub fn steer_answer(input: &[u8], merges: &[u8]) -> Printed
     ensures { λ r. ⌜ Prints (steer-text program-rooms (now (input .entry)) (now (merges .entry))) r ⌝ }
 {
     let mut numbers = [0u16; 16384];
-    let mut bytes = [0u8; 8192];
+    let mut bytes = [0u8; 16384];
     let count = print_steered(input, merges, &mut numbers, &mut bytes);
     Printed {
         bytes: bytes,

@@ -14,7 +14,6 @@ ghost use Rattle.text.specs.Running.{«program-rooms», «printed-room»};
 ghost use Rattle.text.specs.Output.{Prints};
 ghost use Rattle.text.specs.code.Printing.{Puts};
 ghost use Rattle.steering.specs.Reasons.{«first-closed», «reason-of», «reason-in», «reason-by», «reason-text»};
-use crate::counting;
 use entities::Triple;
 use fields::lines;
 use merging::asked;
@@ -25,6 +24,7 @@ use obeying::merge_line::Merge;
 use refusal::Refusal;
 use terms::checking::Checked;
 use terms_text::Said;
+use terms_text::counting;
 use text::Printed;
 use text::output;
 
@@ -121,7 +121,7 @@ pub fn reason_answer(input: &[u8], read: &[u8]) -> Printed
     ensures { λ r. ⌜ Prints (reason-text program-rooms (now (input .entry)) (now (read .entry))) r ⌝ }
 {
     let mut numbers = [0u16; 16384];
-    let mut bytes = [0u8; 8192];
+    let mut bytes = [0u8; 16384];
     let count = print_reason(input, read, &mut numbers, &mut bytes);
     Printed {
         bytes: bytes,

@@ -3,3 +3,5 @@ pub mod LineWords
 pub mod TermsAhead
 pub mod InputSaid
 pub mod LongInput
+pub mod TermsRefused
+pub mod JobCounted

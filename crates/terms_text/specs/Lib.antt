@@ -1,3 +1,4 @@
 -- What document 01 says of the text that a program reads.
 pub mod Input
+pub mod Counting
 pub mod code

@@ -10,6 +10,8 @@ use fields::lines;
 use fields::numbers;
 use terms::slices;
 
+pub mod counting;
+
 // What a text says: modes and so many terms, or the line at which it is malformed.
 pub enum Said {
     Given(usize, usize),

@@ -3,7 +3,6 @@ pub mod PrintedLines
 pub mod InputRan
 pub mod RunEnds
 pub mod LongInput
-pub mod TermsRefused
 pub mod RoomSuffices
 pub mod NewLinesSuffice
 pub mod ContinuesWhole

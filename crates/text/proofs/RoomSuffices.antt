@@ -31,7 +31,7 @@ use Rattle.terms_text.specs.Input.{Said, given, malformed, said}
 use Rattle.text.specs.Running.{program-rooms, ran-by, ran}
 use Rattle.text.specs.Output.{line-of, refusal-text, done-text, printed, resume-text, RoomSuffices}
 use Rattle.obeying.proofs.LineRefused.{journal-refusal}
-use Rattle.text.proofs.TermsRefused.{terms-refusal}
+use Rattle.terms_text.proofs.TermsRefused.{terms-refusal}
 
 -- The text of a refusal tells its number.
 second-field : (refusal : Refusal) → getD (fields (refusal-text refusal)) 1 [] ≡ decimal (numberOf refusal)

@@ -18,7 +18,7 @@ program-rooms =
 
 -- The bytes that a program has room to print: more than the longest answer has.
 abbrev pub printed-room : ℕ
-printed-room = 8192
+printed-room = 16384
 
 -- 18 is "before any other number".
 unfoldable pub ran-by : Rooms → Said → List ℕ → Outcome

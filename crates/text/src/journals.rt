@@ -38,7 +38,7 @@ pub fn resume_answer(input: &[u8], read: &[u8]) -> Printed
 {
     let mut rows = [0u16; 1024];
     let mut journal = [0u8; 5392];
-    let mut bytes = [0u8; 8192];
+    let mut bytes = [0u8; 16384];
     let count = print_resumed(input, read, &mut rows, &mut journal, &mut bytes);
     Printed {
         bytes: bytes,
@@ -71,7 +71,7 @@ pub fn continue_answer(input: &[u8], read: &[u8]) -> Printed
     ensures { λ r. ⌜ Prints (continue-text program-rooms (now (input .entry)) (now (read .entry))) r ⌝ }
 {
     let mut rows = [0u16; 1024];
-    let mut bytes = [0u8; 8192];
+    let mut bytes = [0u8; 16384];
     let count = print_new(input, read, &mut rows, &mut bytes);
     Printed {
         bytes: bytes,

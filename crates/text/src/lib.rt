@@ -8,7 +8,7 @@ pub mod running;
 
 // What a program prints: so many bytes of these.
 pub struct Printed {
-    pub bytes: [u8; 8192],
+    pub bytes: [u8; 16384],
     pub count: usize,
 }
 

@@ -16,7 +16,7 @@ pub fn check_answer(tree: &[u8]) -> Printed
     let mut rows = [0u16; 1024];
     let mut table = [0u16; 768];
     let found = checked::check_said(tree, &mut rows, &mut table);
-    let mut bytes = [0u8; 8192];
+    let mut bytes = [0u8; 16384];
     let count = checked::put_checked(&mut bytes, found);
     Printed {
         bytes: bytes,
@@ -31,7 +31,7 @@ pub fn weigh_answer(tree: &[u8], input: &[u8]) -> Printed
     let mut rows = [0u16; 1024];
     let mut table = [0u16; 768];
     let found = weighed::weigh_said(tree, input, &mut rows, &mut table);
-    let mut bytes = [0u8; 8192];
+    let mut bytes = [0u8; 16384];
     let count = weighed::put_weighed(&mut bytes, found);
     Printed {
         bytes: bytes,

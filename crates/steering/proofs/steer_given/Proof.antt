@@ -3,7 +3,7 @@ use mathlib.Core.Path.{sym, _∙_}
 use borrow.Author.Needs.{needs}
 use Rattle.terms.proofs.StaysGood.{accepted}
 use Rattle.steering.specs.Steering.{steered-with, steered-by, steer-printed}
-use Rattle.steering.proofs.JobCounted.{counted-good}
+use Rattle.terms_text.proofs.JobCounted.{counted-good}
 use Rattle.steering.proofs.steer_given.Statement.{statement}
 use Rattle.steering.proofs.steer_given.Tie as tie
 

@@ -3,7 +3,7 @@ use mathlib.Core.Path.{sym, _∙_}
 use borrow.Author.Needs.{needs}
 use Rattle.terms.proofs.StaysGood.{accepted}
 use Rattle.steering.specs.Reasons.{reason-with, reason-by}
-use Rattle.steering.proofs.JobCounted.{counted-good}
+use Rattle.terms_text.proofs.JobCounted.{counted-good}
 use Rattle.text.proofs.PrintedLines.{puts-none}
 use Rattle.steering.proofs.reasons.reason_given.Statement.{statement}
 use Rattle.steering.proofs.reasons.reason_given.Tie as tie

@@ -1,7 +1,7 @@
 // The terms of a job counted: the modes, then the terms themselves.
 ghost use mathlib.Core.Path.{_≡_};
 ghost use Rattle.entities.specs.Limits.{«most-modes»};
-ghost use Rattle.steering.specs.Steering.{counted};
+ghost use Rattle.terms_text.specs.Counting.{counted};
 use refusal::Refusal;
 use terms::checking;
 use terms::checking::Checked;
