@@ -14,7 +14,7 @@ use Rattle.terms.specs.Good.{modes-good, checked}
 use Rattle.terms.specs.declared.checking.Checked.{Checked}
 use Rattle.terms.specs.declared.checking.Checked.the-variants.{Good, Refused as BadTerms}
 use Rattle.terms.proofs.RowSteps.{length-terms}
-use Rattle.terms.proofs.StaysGood.{accepted}
+use Rattle.terms.proofs.GoodTerms.{accepted}
 use Rattle.tree.specs.Check.{tree-checked}
 use Rattle.tree.specs.declared.TreeChecked.{TreeChecked}
 use Rattle.tree.specs.declared.TreeChecked.the-variants.{Accepted, Refused as BadTree}

@@ -11,7 +11,7 @@ use Rattle.entities.specs.Limits.{most-terms, row-width}
 use Rattle.terms.specs.Good.{modes-good, checked}
 use Rattle.terms.specs.declared.checking.Checked.{Checked}
 use Rattle.terms.specs.declared.checking.Checked.the-variants.{Good, Refused as BadTerms}
-use Rattle.terms.proofs.StaysGood.{accepted}
+use Rattle.terms.proofs.GoodTerms.{accepted}
 use Rattle.journal.specs.Resuming.{Rooms, roomy as rooms-suffice, with-terms as with-rooms, resumed}
 use Rattle.call_bytes.specs.Bytes.{words}
 use Rattle.call_bytes.specs.code.Handing.{term-numbers}

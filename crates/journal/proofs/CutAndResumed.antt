@@ -15,7 +15,7 @@ use Rattle.terms.specs.Job.{Job, job-of}
 use Rattle.terms.specs.Good.{modes-good, checked}
 use Rattle.terms.specs.declared.checking.Checked.the-variants.{Good}
 use Rattle.terms.proofs.RowSteps.{length-terms}
-use Rattle.terms.proofs.StaysGood.{accepted}
+use Rattle.terms.proofs.GoodTerms.{accepted}
 use Rattle.history.specs.Run.{run-weight}
 use Rattle.history.specs.Flatpack.{flatpack}
 use Rattle.obeying.specs.Obeying.{went, obeyed, obeyed-texts}

@@ -9,7 +9,7 @@ use Rattle.lists.specs.Members.{every, alike, firsts}
 use Rattle.lists.proofs.Every.{every-kept, every-first, every-mapped}
 use Rattle.entities.specs.declared.Triple.{Triple}
 use Rattle.terms.specs.Good.{good-term}
-use Rattle.terms.proofs.StaysGood.{good-term-says, good-term-from}
+use Rattle.terms.proofs.GoodTerms.{good-term-says, good-term-from}
 use Rattle.reduction.specs.Reduction.{replacement, rewriting, dropped, reduction, live, told-reduction}
 use Rattle.reduction.proofs.Sorting.{length-rewriting}
 use Rattle.reduction.proofs.SortedRight.{ascends-sorted, every-sorted}

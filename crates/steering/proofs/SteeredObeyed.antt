@@ -19,7 +19,7 @@ use Rattle.terms.specs.Good.{modes-good, checked}
 use Rattle.terms.specs.declared.checking.Checked.{Checked}
 use Rattle.terms.specs.declared.checking.Checked.the-variants.{Good, Refused as BadTerms}
 use Rattle.terms.proofs.RowSteps.{length-terms}
-use Rattle.terms.proofs.StaysGood.{accepted}
+use Rattle.terms.proofs.GoodTerms.{accepted}
 use Rattle.obeying.specs.Obeying.{line-after, Obeyed, went, refused, obeyed-by-hand}
 use Rattle.obeying.proofs.LineRead.{hand-numbers}
 use Rattle.obeying.proofs.Obedience.{hand-obedient}

@@ -5,4 +5,4 @@ pub mod OwnRows
 pub mod LetterLaws
 pub mod Weighing
 pub mod WeightBound
-pub mod StaysGood
+pub mod GoodTerms

@@ -23,7 +23,7 @@ use Rattle.terms.specs.declared.checking.Checked.{Checked}
 use Rattle.terms.specs.declared.checking.Checked.the-variants.{Good, Refused}
 use Rattle.terms.specs.Good.{modes-good, checked}
 use Rattle.terms.specs.Job.{Job, job-of}
-use Rattle.terms.proofs.StaysGood.{accepted}
+use Rattle.terms.proofs.GoodTerms.{accepted}
 use Rattle.obeying.specs.Obeying.{Obeyed, went, refused, obeyed}
 use Rattle.journal.specs.Resuming.{Outcome, done, refuses, with-journal, with-terms, resumed}
 use Rattle.journal.proofs.CallDone.{rooms-fit, with-room}

@@ -14,7 +14,7 @@ use Rattle.terms.specs.Rows.{rows-of, term, terms-of}
 use Rattle.terms.specs.Good.{good-term}
 use Rattle.terms.proofs.RowSteps.{terms-step, terms-end, length-terms, rows-at}
 use Rattle.terms.proofs.LetterLaws.{not-none-apart}
-use Rattle.terms.proofs.StaysGood.{good-term-says}
+use Rattle.terms.proofs.GoodTerms.{good-term-says}
 use Rattle.tree.specs.Weight.{edge-under, edges, node-letter, node-weight, row-weight, tree-weight, NoNodeWeightChanges}
 use Rattle.tree.specs.code.Promises.{GoodRows}
 use Rattle.tree.proofs.TableSteps.{nodes-start}

@@ -1,7 +1,7 @@
 -- The terms are refused, or steered by.
 use mathlib.Core.Path.{sym, _∙_}
 use borrow.Author.Needs.{needs}
-use Rattle.terms.proofs.StaysGood.{accepted}
+use Rattle.terms.proofs.GoodTerms.{accepted}
 use Rattle.steering.specs.Steering.{steered-with, steered-by, steer-printed}
 use Rattle.terms_text.proofs.JobCounted.{counted-good}
 use Rattle.steering.proofs.steer_given.Statement.{statement}

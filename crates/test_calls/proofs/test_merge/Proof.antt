@@ -1,7 +1,7 @@
 -- Rows that the check accepts are held, so that they can be weighed and reduced.
 use mathlib.Core.Path.{sym, _∙_}
 use borrow.Author.Needs.{needs}
-use Rattle.terms.proofs.StaysGood.{accepted}
+use Rattle.terms.proofs.GoodTerms.{accepted}
 use Rattle.test_calls.proofs.test_merge.Statement.{statement}
 use Rattle.test_calls.proofs.test_merge.Tie as tie
 

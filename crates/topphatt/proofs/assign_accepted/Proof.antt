@@ -1,7 +1,7 @@
 -- By what the check of the terms answered.
 use mathlib.Core.Path.{refl, sym, _∙_}
 use borrow.Author.Needs.{needs}
-use Rattle.terms.proofs.StaysGood.{accepted}
+use Rattle.terms.proofs.GoodTerms.{accepted}
 use Rattle.topphatt.specs.Answer.{with-terms}
 use Rattle.topphatt.proofs.Answers.{refused-so}
 use Rattle.topphatt.proofs.assign_accepted.Statement.{statement}

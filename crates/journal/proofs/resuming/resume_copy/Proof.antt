@@ -4,7 +4,7 @@ use Prim.Native.Nat.{_≤_}
 use native.Mathlib.Omega.{arith}
 use borrow.Author.Needs.{needs}
 use lib.ListN.{length}
-use Rattle.terms.proofs.StaysGood.{accepted}
+use Rattle.terms.proofs.GoodTerms.{accepted}
 use Rattle.terms.proofs.OwnRows.{own-terms, own-held}
 use Rattle.obeying.specs.Obeying.{obeyed}
 use Rattle.journal.specs.Resuming.{with-journal}

@@ -4,7 +4,7 @@ use mathlib.Core.Bool.{true}
 use native.Mathlib.Omega.{arith}
 use borrow.Author.Tests.{le-leb, lt-leb}
 use borrow.Author.Needs.{needs}
-use Rattle.terms.proofs.StaysGood.{accepted}
+use Rattle.terms.proofs.GoodTerms.{accepted}
 use Rattle.refusal.specs.declared.Refusal.the-variants.{Room}
 use Rattle.journal.specs.Resuming.{with-terms, roomy}
 use Rattle.journal.specs.Promises.{lent, rooms-of}

@@ -1,7 +1,7 @@
 -- Terms that are no job tell nothing.
 use mathlib.Core.Path.{sym, _∙_}
 use borrow.Author.Needs.{needs}
-use Rattle.terms.proofs.StaysGood.{accepted}
+use Rattle.terms.proofs.GoodTerms.{accepted}
 use Rattle.steering.specs.Reasons.{reason-with, reason-by}
 use Rattle.terms_text.proofs.JobCounted.{counted-good}
 use Rattle.text.proofs.PrintedLines.{puts-none}
