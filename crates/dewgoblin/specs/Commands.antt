@@ -9,6 +9,7 @@ use Rattle.text.specs.Running.{program-rooms}
 use Rattle.text.specs.Output.{resume-text, continue-text}
 use Rattle.steering.specs.Steering.{steer-text}
 use Rattle.steering.specs.Reasons.{reason-text}
+use Rattle.letters_text.specs.Lettering.{letters-text}
 use Rattle.tree_text.specs.Answers.{check-text, weigh-text}
 use Rattle.assign_text.specs.Assigning.{assign-text}
 
@@ -21,10 +22,11 @@ journal-command name bytes file =
     (cond (alike name (spelt "reason")) (reason-text program-rooms bytes file)
     (continue-text program-rooms bytes file)))
 
--- Those whose file is a tree; `assign` has one more word, the heuristic's.
+-- Those whose file is a tree. `assign` has one more word, the heuristic's, and so has `letters`, whose file is a journal: the step's.
 unfoldable pub command-text : List ℕ → List ℕ → List ℕ → List ℕ → List ℕ
 command-text name word bytes file =
     cond (alike name (spelt "check")) (check-text most-modes file)
     (cond (alike name (spelt "weigh")) (weigh-text program-rooms file bytes)
     (cond (alike name (spelt "assign")) (assign-text program-rooms file word bytes)
-    (journal-command name bytes file)))
+    (cond (alike name (spelt "letters")) (letters-text program-rooms bytes file word)
+    (journal-command name bytes file))))

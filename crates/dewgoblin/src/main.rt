@@ -55,6 +55,9 @@ fn answer(name: &[u8], word: &[u8], input: &[u8], file: &[u8]) -> Printed
     if parts::same_bytes(name, b"assign") {
         return assign_text::assign_answer(file, word, input);
     }
+    if parts::same_bytes(name, b"letters") {
+        return letters_text::letters_answer(input, file, word);
+    }
     journal_answer(name, input, file)
 }
 

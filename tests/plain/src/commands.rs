@@ -3,6 +3,7 @@
 use crate::assign::assign;
 use crate::journal::{complete_lines, fields, obey, read_merge, resume, LINE_FEED};
 use crate::journal::{read_number, read_numbers, write_header, write_merge};
+use crate::letters::letter_lines;
 use crate::merging::{Merge, Merging, ABSENT};
 use crate::refusal::{check_modes, demand, Refusal, MOST_MODES};
 use crate::terms::{read_terms, Row};
@@ -10,14 +11,15 @@ use crate::text::{node_lines, print_answer, print_refusal, read_input};
 use crate::tree::{check_tree, tree_weight};
 
 /// What a command prints for its file (JOURNAL, MERGES or TREE) and the terms on standard input;
-/// `heuristic` is heeded by `assign` alone. None where there is no such command.
-pub fn command(name: &str, heuristic: &str, file: &[u8], input: &[u8]) -> Option<Vec<u8>> {
+/// `word` is the heuristic of `assign` and the step of `letters`. None where there is no such command.
+pub fn command(name: &str, word: &str, file: &[u8], input: &[u8]) -> Option<Vec<u8>> {
     let printed = match name {
         "journal" => go_on(input, &[]).map(|run| run.new),
         "resume" => go_on(input, file).map(|run| run.tree),
         "continue" => go_on(input, file).map(|run| run.new),
         "steer" => steer(input, file),
-        "assign" => assign_tree(input, file, heuristic),
+        "letters" => letters(input, file, word),
+        "assign" => assign_tree(input, file, word),
         "weigh" => weigh_tree(input, file),
         "check" => check_nodes(file),
         "reason" => Ok(reason(input, file).unwrap_or_default()),
@@ -108,6 +110,21 @@ fn reason(input: &[u8], journal: &[u8]) -> Option<String> {
         11 => Some(format!("weight\t{}\n", merging.weigh(said.triple))),
         _ => None,
     }
+}
+
+/// "for a step of the run that the journal leads to …, each row that is live before it by its
+/// place"; where there is no such step, how many there are.
+fn letters(input: &[u8], journal: &[u8], word: &str) -> Result<String, Refusal> {
+    let (modes, rows) = read_job(input)?;
+    let mut merging = obey(modes, rows.clone(), journal)?;
+    while !merging.is_finished() {
+        merging.step();
+    }
+    let step = read_number(word.as_bytes()).map(usize::from);
+    Ok(match step.filter(|&step| step < modes) {
+        Some(step) => letter_lines(modes, &rows, merging.merges(), step),
+        None => format!("steps\t{modes}\n"),
+    })
 }
 
 /// `weight` and the sum of chosen weights, then the nodes "in the order of TREE's lines".

@@ -6,6 +6,7 @@
 pub mod assign;
 pub mod commands;
 pub mod journal;
+pub mod letters;
 pub mod merging;
 pub mod newick;
 pub mod refusal;

@@ -72,7 +72,7 @@ pub fn reduce_hamiltonian(rows: Vec<Row>, parent: u16, triple: [u16; 3]) -> Vec<
 }
 
 /// One row with the parent in the place of each of the three, sorted.
-fn replace(mut row: Row, parent: u16, triple: [u16; 3]) -> Row {
+pub fn replace(mut row: Row, parent: u16, triple: [u16; 3]) -> Row {
     for index in &mut row {
         if triple.contains(index) {
             *index = parent;

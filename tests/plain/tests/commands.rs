@@ -9,17 +9,17 @@ const P3: &str = "modes\t2\nterm\t0\t1\nterm\t2\t3\nterm\t0\t1\t2\t3\n";
 const P3_NODES: &str = "node\t1\t0\t5\t-\nnode\t0\t2\t3\t4\n";
 
 fn asked(name: &str, file: &str, terms: &str) -> String {
-    assigned(name, "", file, terms)
+    asked_with(name, "", file, terms)
 }
 
-fn assigned(name: &str, heuristic: &str, file: &str, terms: &str) -> String {
-    let printed = command(name, heuristic, file.as_bytes(), terms.as_bytes());
+fn asked_with(name: &str, word: &str, file: &str, terms: &str) -> String {
+    let printed = command(name, word, file.as_bytes(), terms.as_bytes());
     String::from_utf8(printed.expect("a command")).unwrap()
 }
 
 /// The number and the place by which a command on P3's terms refuses a file.
 fn refused(name: &str, file: &str) -> String {
-    let printed = assigned(name, "min_weight", file, P3);
+    let printed = asked_with(name, "min_weight", file, P3);
     let body = printed.strip_prefix("refused\t").expect(&printed);
     body.strip_suffix('\n').unwrap().replace('\t', " at ")
 }
@@ -90,6 +90,36 @@ fn terms_refused_first() {
     }
 }
 
+/// P3: at step 0 the triple is 0, 1, 2, at step 1 it is 5, 3, 4, and the first term is gone then.
+#[test]
+fn p3_letters() {
+    assert_eq!(asked_with("letters", "0", "", P3), "0\tZ\n1\tZ\n2\t-\n");
+    assert_eq!(asked_with("letters", "1", "", P3), "1\tZ\n2\tZ\n");
+    for no_step in ["2", "", "01", "-1", "x"] {
+        assert_eq!(asked_with("letters", no_step, "", P3), "steps\t2\n");
+    }
+    assert_eq!(asked_with("letters", "0", "x\n", P3), "refused\t6\t0\n");
+}
+
+/// "a single odd child gives its own letter, two odd children give the third letter, none or three
+/// give none."
+#[test]
+fn eight_letters() {
+    let rows: [(&[u16], char); 8] = [
+        (&[4], '-'),
+        (&[0], 'X'),
+        (&[1], 'Y'),
+        (&[2], 'Z'),
+        (&[1, 2], 'X'),
+        (&[0, 2], 'Y'),
+        (&[0, 1], 'Z'),
+        (&[0, 1, 2], '-'),
+    ];
+    for (row, letter) in rows {
+        assert_eq!(plain::letters::letter(row, [0, 1, 2]), letter);
+    }
+}
+
 /// P8 and P9, the nodes as `hatt` prints them and in the order in which they were given.
 #[test]
 fn p8_and_p9_assigned() {
@@ -97,11 +127,11 @@ fn p8_and_p9_assigned() {
     let by_label = "node\t0\t2\t3\t4\nnode\t1\t0\t5\t-\n";
     for heuristic in ["min_weight", "x_first", "z_first"] {
         let p8 = "weight\t0\nnode\t0\t4\t5\t2\nnode\t1\t0\t3\t-\n";
-        assert_eq!(assigned("assign", heuristic, by_label, one), p8);
+        assert_eq!(asked_with("assign", heuristic, by_label, one), p8);
         let p9 = "weight\t2\n".to_string() + P3_NODES;
-        assert_eq!(assigned("assign", heuristic, P3_NODES, P3), p9);
+        assert_eq!(asked_with("assign", heuristic, P3_NODES, P3), p9);
     }
-    assert_eq!(assigned("assign", "min", P3_NODES, P3), "refused\t17\t0\n");
+    assert_eq!(asked_with("assign", "min", P3_NODES, P3), "refused\t17\t0\n");
 }
 
 /// P3's and P4's tree weights.
@@ -184,7 +214,7 @@ fn order() {
     let nodes = "node\t0\t1\t2\t9\n";
     let both = |tree: &str, terms: &str| {
         let weighed = asked("weigh", tree, terms);
-        assert_eq!(assigned("assign", "no", tree, terms), weighed);
+        assert_eq!(asked_with("assign", "no", tree, terms), weighed);
         weighed
     };
     assert_eq!(both(&(nodes.to_string() + "x"), "x"), "refused\t18\t1\n");
@@ -194,9 +224,9 @@ fn order() {
     assert_eq!(both(nodes, "modes\t1\nterm\t9\n"), "refused\t14\t2\n");
     let good = "node\t0\t1\t2\t-\n";
     let bad_row = "modes\t1\nterm\t9\n";
-    assert_eq!(assigned("assign", "no", good, bad_row), "refused\t17\t0\n");
+    assert_eq!(asked_with("assign", "no", good, bad_row), "refused\t17\t0\n");
     assert_eq!(
-        assigned("assign", "x_first", good, bad_row),
+        asked_with("assign", "x_first", good, bad_row),
         "refused\t4\t0\n"
     );
     assert_eq!(asked("weigh", good, bad_row), "refused\t4\t0\n");

@@ -1,4 +1,4 @@
-//! `reason`, and the commands that it explains: journals steered, cut, damaged and of other terms.
+//! `letters` and `reason`, and the commands that it explains: journals steered, cut, damaged and of other terms.
 
 use crate::damage::{damage_bytes, damage_field, damage_lines, exchange_fields};
 use crate::inputs::Job;
@@ -35,7 +35,8 @@ pub fn each(random: &mut Random, ask: &mut dyn FnMut(Question)) {
             let steps = random.between(0, job.modes);
             let good = journal(random, &job, steps);
             let file = damage(random, &job, good);
-            ask_all(kind, &file, &job.text(), ask);
+            let word = step_word(random, job.modes);
+            ask_all(kind, &word, &file, &job.text(), ask);
         }
     }
     for _ in 0..100 {
@@ -43,12 +44,8 @@ pub fn each(random: &mut Random, ask: &mut dyn FnMut(Question)) {
         let other = Job::of(random, job.modes, 14);
         let steps = random.between(0, job.modes);
         let mut file = journal(random, &job, steps);
-        ask_all(
-            "journals, terms damaged",
-            &file,
-            &job.damaged_text(random),
-            ask,
-        );
+        let (word, terms) = (step_word(random, job.modes), job.damaged_text(random));
+        ask_all("journals, terms damaged", &word, &file, &terms, ask);
         // the other job's header, so that its merges are looked at
         let header = format!("hatt\t1\t{}\t{}\n", other.modes, other.rows.len());
         let first = file
@@ -56,7 +53,7 @@ pub fn each(random: &mut Random, ask: &mut dyn FnMut(Question)) {
             .position(|&byte| byte == b'\n')
             .expect("a header");
         file.splice(..=first, header.into_bytes());
-        ask_all("journals of other terms", &file, &other.text(), ask);
+        ask_all("journals of other terms", &word, &file, &other.text(), ask);
     }
 }
 
@@ -70,12 +67,41 @@ fn journal(random: &mut Random, job: &Job, steps: usize) -> Vec<u8> {
     text.into_bytes()
 }
 
-fn ask_all(kind: &'static str, file: &[u8], terms: &[u8], ask: &mut dyn FnMut(Question)) {
-    for command in ["reason", "resume", "continue"] {
+/// Words that are no step of any run.
+const NO_STEPS: [&str; 9] = [
+    "",
+    "00",
+    "01",
+    "-1",
+    "+1",
+    "x",
+    "1\t2",
+    "65536",
+    "18446744073709551616",
+];
+
+/// A step for `letters`: mostly one of the run's, now and then one behind its last, or no step at all.
+fn step_word(random: &mut Random, modes: usize) -> String {
+    match random.below(8) {
+        0 => random.one_of(&NO_STEPS).to_string(),
+        1 => random.between(modes, modes + 2).to_string(),
+        _ => random.below(modes).to_string(),
+    }
+}
+
+fn ask_all(
+    kind: &'static str,
+    step: &str,
+    file: &[u8],
+    terms: &[u8],
+    ask: &mut dyn FnMut(Question),
+) {
+    for command in ["reason", "resume", "continue", "letters"] {
+        let word = if command == "letters" { step } else { "" };
         ask(Question {
             kind,
             command,
-            heuristic: "",
+            word: word.to_string(),
             file: file.to_vec(),
             terms: terms.to_vec(),
         });

@@ -12,11 +12,11 @@ use compare::cases::Random;
 use compare::Kinds;
 use program::Program;
 
-/// One question: the kind of its inputs, the command, the heuristic of `assign`, the file and the terms.
+/// One question: the kind of its inputs, the command, its word (the heuristic of `assign`, the step of `letters`), the file and the terms.
 pub struct Question {
     pub kind: &'static str,
     pub command: &'static str,
-    pub heuristic: &'static str,
+    pub word: String,
     pub file: Vec<u8>,
     pub terms: Vec<u8>,
 }
@@ -46,8 +46,8 @@ fn main() {
 }
 
 fn plainly(question: &Question) -> String {
-    let (name, heuristic) = (question.command, question.heuristic);
-    let printed = plain::command(name, heuristic, &question.file, &question.terms);
+    let (name, word) = (question.command, &question.word);
+    let printed = plain::command(name, word, &question.file, &question.terms);
     readable(&printed.expect("a command that there is"))
 }
 
@@ -69,9 +69,7 @@ fn outcome(command: &str, printed: &str) -> u16 {
 }
 
 fn describe(question: &Question) -> String {
-    let Question {
-        command, heuristic, ..
-    } = question;
+    let Question { command, word, .. } = question;
     let (file, terms) = (readable(&question.file), readable(&question.terms));
-    format!("{command} {heuristic}, file {file:?}, terms {terms:?}")
+    format!("{command} {word}, file {file:?}, terms {terms:?}")
 }

@@ -64,7 +64,7 @@ fn steer(kind: &'static str, file: Vec<u8>, terms: Vec<u8>) -> Question {
     Question {
         kind,
         command: "steer",
-        heuristic: "",
+        word: String::new(),
         file,
         terms,
     }

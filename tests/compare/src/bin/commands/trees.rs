@@ -127,10 +127,11 @@ fn ask_all(
     for command in ["assign", "weigh", "check"] {
         // `check` reads no terms, and its starter gives it none
         let terms = if command == "check" { &[] } else { terms };
+        let word = if command == "assign" { heuristic } else { "" };
         ask(Question {
             kind,
             command,
-            heuristic,
+            word: word.to_string(),
             file: tree.to_vec(),
             terms: terms.to_vec(),
         });

@@ -1,0 +1,74 @@
+-- The lines of rows written one behind the other.
+use mathlib.Core.Path.{_≡_, refl, ap, _∙_, sym}
+use mathlib.Core.List.{List, [], _∷_, _++_, flatMap, map, append-assoc, append-nil, map-append}
+use Prim.Native.Nat.{ℕ, zero, suc, _+_, _-_, _*_, _<_, _≤_}
+use native.Mathlib.Nat.{zero-add, add-zero}
+use native.Mathlib.Omega.{arith}
+use lib.ListN.{length, take, drop}
+use Rattle.lists.proofs.Behind.{Wrote, wrote-none, then-wrote}
+use Rattle.lists.proofs.Joined.{flatMap-joined}
+use Rattle.entities.specs.declared.Triple.{Triple}
+use Rattle.terms.specs.Rows.{rows-of, term, terms-of}
+use Rattle.terms.proofs.RowSteps.{terms-more, length-terms}
+use Rattle.terms.specs.Weight.{term-letter}
+use Rattle.reduction.specs.Reduction.{is-there}
+use Rattle.letters_text.specs.Lettering.{letter-line, letter-lines}
+
+-- The lines of rows as one text, the first row being at this place.
+abbrev pub lines-text : Triple → ℕ → List (List ℕ) → List ℕ
+lines-text triple place terms = flatMap (λ line. line) (letter-lines triple place terms)
+
+module _ (triple : Triple) where
+  lines-joined : (place : ℕ) (front rest : List (List ℕ))
+      → letter-lines triple place (front ++ rest) ≡ letter-lines triple place front ++ letter-lines triple (place + length front) rest
+  unfolding letter-lines
+  lines-joined place [] rest = rw (add-zero place)
+  lines-joined place (term ∷ front) rest =
+      let e : place + suc (length front) ≡ suc place + length front = omega arith in
+      rw (e, lines-joined (suc place) front rest, append-assoc)
+
+  -- A row that is gone has no line, and one that is there has its own.
+  pub gone-line : (place : ℕ) (term : List ℕ) → length term ≡ 0 → lines-text triple place (term ∷ []) ≡ []
+  unfolding letter-lines is-there flatMap
+  gone-line place [] e = refl
+  gone-line place (index ∷ term) e = absurd (omega arith)
+
+  pub there-line : (place : ℕ) (term : List ℕ) → (length term ≡ 0 → ⊥) → lines-text triple place (term ∷ []) ≡ letter-line place (term-letter triple term)
+  unfolding letter-lines is-there flatMap
+  there-line place [] some = absurd (some refl)
+  there-line place (index ∷ term) some = append-nil (letter-line place (term-letter triple (index ∷ term)))
+
+  -- The lines of the first rows are written.
+  pub record PuttingLetters (count : ℕ) (rows before after : List ℕ) (at place : ℕ) : Type 0 where
+    pub some : place ≤ count
+    pub near : at ≤ 8 * place
+    pub size : length after ≡ length before
+    pub wrote : Wrote 0 (lines-text triple 0 (terms-of 8 place rows)) before after at
+
+  module _ (count : ℕ) (rows before : List ℕ) (room : 8 * count ≤ length before) where
+    pub letters-start : PuttingLetters count rows before before 0 0
+    unfolding terms-of rows-of letter-lines flatMap
+    letters-start = record { some = omega arith; near = omega arith; size = refl; wrote = wrote-none 0 before }
+
+    module _ (after : List ℕ) (at place : ℕ) (p : PuttingLetters count rows before after at place) where
+      pub letters-go : (next : List ℕ) (end : ℕ) → place < count
+          → Wrote at (lines-text triple place (term (take 8 (drop (8 * place) rows)) ∷ [])) after next end → end ≤ at + 8 → length next ≡ length after
+          → PuttingLetters count rows before next end (place + 1)
+      letters-go next end h w near same =
+          let row = term (take 8 (drop (8 * place) rows)) in
+          let all : lines-text triple 0 (terms-of 8 (place + 1) rows) ≡ lines-text triple 0 (terms-of 8 place rows) ++ lines-text triple place (row ∷ []) =
+          ap (lines-text triple 0) (terms-more 8 place rows)
+          ∙ ap (flatMap (λ line. line)) (lines-joined 0 (terms-of 8 place rows) (row ∷ []))
+          ∙ flatMap-joined (λ line. line) (letter-lines triple 0 (terms-of 8 place rows)) (letter-lines triple (0 + length (terms-of 8 place rows)) (row ∷ []))
+          ∙ ap (λ n. lines-text triple 0 (terms-of 8 place rows) ++ lines-text triple n (row ∷ [])) (zero-add _ ∙ length-terms 8 place rows) in
+          record {
+            some = omega arith;
+            near = omega (arith, p .near);
+            size = same ∙ p .size;
+            wrote = rw all (then-wrote (p .wrote) w (omega (arith, p .near)));
+          }
+
+      pub letters-end : count ≤ place → Wrote 0 (lines-text triple 0 (terms-of 8 count rows)) before after at
+      letters-end h =
+          let e : count ≡ place = omega (arith, p .some) in
+          rw e (p .wrote)
