@@ -24,7 +24,7 @@ fn write_text(out: &mut [u8], modes: usize, tree: &[u16]) -> NewickWritten
     ensures { λ r. ⌜ r ≡ newick-written most-modes modes (now (tree .entry)) line-room ⌝ }
     ensures { λ r. ⌜ now (out .exit) ≡ text-after r (newick-text modes (now (tree .entry))) (now (out .entry)) ⌝ }
 {
-    writing::write_newick(modes, tree, &mut out[..8191])
+    writing::write_newick(modes, tree, &mut out[..16383])
 }
 
 // A tree's line printed over the front; how many bytes that is.

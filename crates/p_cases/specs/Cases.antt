@@ -19,6 +19,7 @@ use Rattle.text.specs.Running.{program-rooms}
 use Rattle.text.specs.Output.{answer-text}
 use Rattle.steering.specs.Steering.{steer-text}
 use Rattle.steering.specs.Reasons.{reason-text}
+use Rattle.letters_text.specs.Lettering.{letters-text}
 use Rattle.tree_text.specs.Answers.{weigh-text}
 use Rattle.assign_text.specs.Assigning.{assign-text}
 use Rattle.newick_line.specs.NewickLine.{newick-answer-text}
@@ -154,6 +155,8 @@ cases =
     -- P5's journal as the command `steer` makes it of one merge; what `reason` tells of P6's line
     ∷ shows (printed (steer-text program-rooms input3 (spelt "0\t1\t4\n"))) [] [] (spelt "hatt\t1\t2\t3\n0\t0\t1\t4\t2\n")
     ∷ shows (printed (reason-text program-rooms input3 (spelt "hatt\t1\t2\t3\n0\t0\t1\t4\t1\n"))) [] [] (spelt "weight\t2\n")
+    -- P3's first step, of 0, 1 and 2, as `letters` tells it: all three stand in the third term, so it has none
+    ∷ shows (printed (letters-text program-rooms input3 [] (spelt "0"))) [] [] (spelt "0\tZ\n1\tZ\n2\t-\n")
     -- P3's tree as `weigh` reads and prints it, and P8 as `assign` does
     ∷ shows (printed (weigh-text program-rooms nodes3 input3)) [] [] (spelt "weight\t4\n")
     ∷ shows (printed (assign-text program-rooms nodes3 (spelt "min_weight") (spelt "modes\t2\nterm\t1\n"))) [] []

@@ -1,7 +1,7 @@
 -- The table holds the rows laid out, and its line is theirs.
 use mathlib.Core.Path.{ap}
 use borrow.Author.Needs.{needs}
-use Rattle.newick_line.specs.NewickLine.{table-line}
+use Rattle.newick_line.specs.NewickLine.{table-line, line-room}
 use Rattle.newick_line.proofs.LinePrinted.{laid-in}
 use Rattle.newick_line.proofs.put_laid.Statement.{statement}
 use Rattle.newick_line.proofs.put_laid.Tie as tie
@@ -24,7 +24,7 @@ returns c =
     let args = start .args in
     let lay = c .before .before .before .before .before .before .before .lay-rows in
     let put = c .before .before .put-line .ensures in
-    rw (ap (table-line 256 8191 (args .modes)) (laid-in (args .modes) (args .rows .now) (args .table .now) _ (start .pre .1) (lay .ensures))) at put
+    rw (ap (table-line 256 line-room (args .modes)) (laid-in (args .modes) (args .rows .now) (args .table .now) _ (start .pre .1) (lay .ensures))) at put
 
 pub put-laid-spec : {M : Type 1} → statement M
 put-laid-spec =

@@ -4,6 +4,7 @@ use native.Mathlib.Omega.{arith}
 use borrow.Author.Needs.{needs}
 use Rattle.newick.specs.Writing.{newick-text}
 use Rattle.newick.specs.Calls.{text-after}
+use Rattle.newick_line.specs.NewickLine.{line-room}
 use Rattle.newick_line.proofs.LinePrinted.{line-fits, written-line, refused-line}
 use Rattle.newick_line.proofs.put_line.Statement.{statement}
 use Rattle.newick_line.proofs.put_line.Tie as tie
@@ -27,7 +28,7 @@ slice-write-out c =
     let write = c .before .before .before .before .before .write-text in
     let told = c .before .count .given in
     let says = sym (told .1) ∙ write .ensures .0 in
-    let fits = line-fits 256 (args .modes) (args .tree .now) 8191 (told .0 .0) says in
+    let fits = line-fits 256 (args .modes) (args .tree .now) line-room (told .0 .0) says in
     omega (arith, fits .exact, fits .within, write .kept, start .pre)
 
 add-result : tie.Need-add-result
@@ -37,7 +38,7 @@ add-result c =
     let write = c .before .before .before .before .before .write-text in
     let told = c .before .count .given in
     let says = sym (told .1) ∙ write .ensures .0 in
-    let fits = line-fits 256 (args .modes) (args .tree .now) 8191 (told .0 .0) says in
+    let fits = line-fits 256 (args .modes) (args .tree .now) line-room (told .0 .0) says in
     omega (arith, fits .exact, fits .within)
 
 same-length : tie.Need-same-length
@@ -52,7 +53,7 @@ returns c =
     let says = sym (told .1) ∙ write .ensures .0 in
     let text = newick-text (args .modes) (args .tree .now) in
     let after = write .ensures .1 ∙ ap (λ r. text-after r text (args .out .now)) (told .1) in
-    refused-line 256 (args .modes) (args .tree .now) 8191 (args .out .now) (told .0 .0) (write .last .0) says after (c .before .before .put-refusal .ensures)
+    refused-line 256 (args .modes) (args .tree .now) line-room (args .out .now) (told .0 .0) (write .last .0) says after (c .before .before .put-refusal .ensures)
 
 same-length-2 : tie.Need-same-length-2
 same-length-2 c = search needs
@@ -66,7 +67,7 @@ returns-2 c =
     let says = sym (told .1) ∙ write .ensures .0 in
     let text = newick-text (args .modes) (args .tree .now) in
     let after = write .ensures .1 ∙ ap (λ r. text-after r text (args .out .now)) (told .1) in
-    written-line 256 (args .modes) (args .tree .now) 8191 (args .out .now) (told .0 .0) (write .last .0) says after (omega (arith, start .pre))
+    written-line 256 (args .modes) (args .tree .now) line-room (args .out .now) (told .0 .0) (write .last .0) says after (omega (arith, start .pre))
 
 pub put-line-spec : {M : Type 1} → statement M
 put-line-spec =
