@@ -111,7 +111,7 @@ header-written line modes terms e last = go (header-good (fields line)) refl
 
 -- A line by hand that says a merge has its three numbers and no more.
 pub hand-numbers : (job : Job) (history : List Triple) (line : List ℕ) (said : MergeLine) → merge-by-hand job history line ≡ MergeIs said
-    → map value (fields line) ≡ said .triple .x ∷ (said .triple .y ∷ (said .triple .z ∷ []))
+    → (every is-number (fields line) ≡ true) × (map value (fields line) ≡ said .triple .x ∷ (said .triple .y ∷ (said .triple .z ∷ [])))
 unfolding merge-by-hand
 hand-numbers job history line said e = go (eqb (length (fields line)) 3 && every is-number (fields line)) refl
   where
@@ -124,15 +124,18 @@ hand-numbers job history line said e = go (eqb (length (fields line)) 3 && every
     three (a ∷ (b ∷ (c ∷ (d ∷ rest)))) h = absurd (omega arith)
 
     go : (z : Bool) → (eqb (length (fields line)) 3 && every is-number (fields line)) ≡ z
-        → map value (fields line) ≡ said .triple .x ∷ (said .triple .y ∷ (said .triple .z ∷ []))
+        → (every is-number (fields line) ≡ true) × (map value (fields line) ≡ said .triple .x ∷ (said .triple .y ∷ (said .triple .z ∷ [])))
     go true f =
         let x = value (getD (fields line) 0 []) in
         let y = value (getD (fields line) 1 []) in
         let z = value (getD (fields line) 2 []) in
         let g : MergeIs (completed job history (record { x = x; y = y; z = z })) ≡ MergeIs said = rw f at e in
         let same : completed job history (record { x = x; y = y; z = z }) ≡ said = cc in
-        three (fields line) (eqb-true (length (fields line)) 3 (both (eqb (length (fields line)) 3) (every is-number (fields line)) f .0))
-        ∙ ap (λ (m : MergeLine). m .triple .x ∷ (m .triple .y ∷ (m .triple .z ∷ []))) same
+        let good = both (eqb (length (fields line)) 3) (every is-number (fields line)) f in (
+          good .1,
+          three (fields line) (eqb-true (length (fields line)) 3 (good .0))
+              ∙ ap (λ (m : MergeLine). m .triple .x ∷ (m .triple .y ∷ (m .triple .z ∷ []))) same,
+        )
     go false f =
         let g : MergeBroken ≡ MergeIs said = rw f at e in
         let z : _≡_ {A = ℕ} 0 1 = cc in

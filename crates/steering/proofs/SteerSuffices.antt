@@ -81,5 +81,5 @@ steer-suffices bytes merges e = go (steered program-rooms bytes merges) refl e
     go : (end : Steered) → steered program-rooms bytes merges ≡ end → steer-printed end ≡ refusal-text Room → ⊥
     go (writes journal) f g =
         let known = steered-is-obeyed bytes merges journal f in
-        journal-first (known .job) (known .history) (sym (known .journal-is) ∙ g)
+        journal-first (job-of (known .modes) (known .count) (known .numbers)) (known .history) (sym (known .journal-is) ∙ g)
     go (refuses refusal) f g = number-never bytes merges (rw f (refusal-five refusal g))

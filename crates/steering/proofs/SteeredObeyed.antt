@@ -15,7 +15,7 @@ use Rattle.entities.specs.Limits.{most-modes, most-terms}
 use Rattle.fields.specs.Lines.{kept-of}
 use Rattle.fields.proofs.LinesJoined.{kept-front}
 use Rattle.terms.specs.Job.{Job, job-of}
-use Rattle.terms.specs.Good.{modes-good, checked}
+use Rattle.terms.specs.Good.{modes-good}
 use Rattle.terms.specs.declared.checking.Checked.{Checked}
 use Rattle.terms.specs.declared.checking.Checked.the-variants.{Good, Refused as BadTerms}
 use Rattle.terms.proofs.RowSteps.{length-terms}
@@ -62,26 +62,32 @@ module _ (job : Job) (merges journal : List ℕ) where
       let by-hand = hand-obedient job merges (known .history) (known .obeys) in
       record {
         a-line-each = by-hand .a-line-each;
-        says = λ i h. hand-numbers job _ _ _ (by-hand .says i h);
+        numbers = λ i h. hand-numbers job _ _ _ (by-hand .says i h) .0;
+        says = λ i h. hand-numbers job _ _ _ (by-hand .says i h) .1;
         whole = known .whole;
       }
 
 -- Resuming from it.
 module _ (bytes merges journal : List ℕ) (modes count : ℕ) (numbers : List ℕ) (says : said most-terms bytes ≡ given modes numbers)
-    (good : (1 ≤ modes) × (modes ≤ most-modes) × (checked modes numbers ≡ Good count)) where
+    (counts : counted most-modes modes numbers ≡ Good count) where
   abbrev job : Job
   job = job-of modes count numbers
 
   steers : Written job merges journal → Steers bytes merges journal
   unfolding ran ran-by modes-good
   steers known =
+      let good = counted-good most-modes modes numbers count counts in
       let terms = accepted modes numbers count (good .2) in
       let by-hand = hand-obedient job merges (known .history) (known .obeys) in
       let light : length (job .terms) ≤ most-terms = omega (arith, length-terms 8 count numbers, terms .at-most) in
       let obeys = journal-obeyed job (omega (arith, good .1)) (omega (arith, light)) (known .history) (by-hand .lawful) (by-hand .within) in
       let room = rooms-fit (program-rooms .run) modes count (omega (arith, terms .at-most)) (omega (arith, good .1)) (omega (arith, good .1)) in
       record {
-        job = job;
+        modes = modes;
+        numbers = numbers;
+        count = count;
+        terms-are = says;
+        terms-good = counts;
         history = known .history;
         as-written = as-written job merges journal known;
         journal-is = known .journal-is;
@@ -99,7 +105,7 @@ steered-is-obeyed bytes merges journal e = go (said most-terms bytes) refl e
         → counted most-modes modes numbers ≡ found → steered-with modes numbers merges found ≡ writes journal → Steers bytes merges journal
     by-count modes numbers says (Good count) f g =
         let job = job-of modes count numbers in
-        steers bytes merges journal modes count numbers says (counted-good most-modes modes numbers count f)
+        steers bytes merges journal modes count numbers says f
         (written-by job merges journal (obeyed-by-hand job merges) refl g)
     by-count modes numbers says (BadTerms refusal) f g = not-written refusal journal g
 

@@ -1,14 +1,15 @@
 -- `steer`: a merge a line, `x` TAB `y` TAB `z`, made into "the journal of those merges, steps and true weights filled in, …; or the refusal of the first line that isn't lawful, by 6, 9, 10 or 12 at that line, lines counted as in the journal that it would make".
 use mathlib.Core.Path.{_≡_}
-use mathlib.Core.Bool.{cond}
+use mathlib.Core.Bool.{true, cond}
 use mathlib.Core.List.{List, [], _∷_, map}
 use Prim.Native.Nat.{ℕ, _<_}
 use lib.Dec.{eqb}
 use lib.ListN.{length, getD}
+use Rattle.lists.specs.Members.{every}
 use Rattle.refusal.specs.declared.Refusal.{Refusal}
 use Rattle.refusal.specs.declared.Refusal.the-variants.{Room, LineForm, Malformed}
 use Rattle.entities.specs.declared.Triple.{Triple}
-use Rattle.fields.specs.Decimal.{value}
+use Rattle.fields.specs.Decimal.{is-number, value}
 use Rattle.fields.specs.Lines.{lines, kept-of}
 use Rattle.fields.specs.Fields.{fields}
 use Rattle.terms.specs.Job.{Job, job-of}
@@ -60,18 +61,23 @@ steer-text rooms bytes merges = steer-printed (steered rooms bytes merges)
 -- The merges of a history are those that the lines of a file say, in their order, and the file has nothing else.
 pub record AsWritten (merges : List ℕ) (history : List Triple) : Type 0 where
   pub a-line-each : length history ≡ length (lines merges)
+  pub numbers : (i : ℕ) → i < length history → every is-number (fields (getD (lines merges) i [])) ≡ true
   pub says : (i : ℕ) → i < length history
       → map value (fields (getD (lines merges) i [])) ≡ merge-of history i .x ∷ (merge-of history i .y ∷ (merge-of history i .z ∷ []))
   pub whole : kept-of merges ≡ merges
 
--- Steering that is done: the journal is that of the merges that were written, and resuming from it accepts it, obeys it to those merges and
--- goes on from there.
+-- Steering that is done: the text says good terms, the journal is that of the merges that were written, for these terms, and resuming from it
+-- accepts it, obeys it to those merges and goes on from there.
 pub record Steers (bytes merges journal : List ℕ) : Type 0 where
-  pub job : Job
+  pub modes : ℕ
+  pub numbers : List ℕ
+  pub count : ℕ
+  pub terms-are : said (program-rooms .terms) bytes ≡ given modes numbers
+  pub terms-good : counted (program-rooms .run .modes) modes numbers ≡ Good count
   pub history : List Triple
   pub as-written : AsWritten merges history
-  pub journal-is : journal ≡ journal-text job history
-  pub resumes : ran program-rooms bytes journal ≡ done (ending job journal history)
+  pub journal-is : journal ≡ journal-text (job-of modes count numbers) history
+  pub resumes : ran program-rooms bytes journal ≡ done (ending (job-of modes count numbers) journal history)
 
 abbrev pub SteeredIsObeyed : Type 0
 SteeredIsObeyed = (bytes merges journal : List ℕ) → steered program-rooms bytes merges ≡ writes journal → Steers bytes merges journal
