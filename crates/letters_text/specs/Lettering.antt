@@ -7,14 +7,12 @@ use lib.Dec.{eqb, ltb}
 use lib.ListN.{length, getD}
 use Rattle.lists.specs.Members.{keep}
 use Rattle.refusal.specs.declared.Refusal.{Refusal}
-use Rattle.refusal.specs.declared.Refusal.the-variants.{Malformed, Room}
+use Rattle.refusal.specs.declared.Refusal.the-variants.{Room}
 use Rattle.entities.specs.declared.Triple.{Triple}
 use Rattle.fields.specs.Texts.{spelt}
 use Rattle.fields.specs.Decimal.{is-number, value, decimal}
 use Rattle.fields.specs.Lines.{lines}
-use Rattle.terms.specs.Job.{Job, job-of}
-use Rattle.terms.specs.declared.checking.Checked.{Checked}
-use Rattle.terms.specs.declared.checking.Checked.the-variants.{Good, Refused as BadTerms}
+use Rattle.terms.specs.Job.{Job}
 use Rattle.terms.specs.declared.letters.Letter.{Letter}
 use Rattle.terms.specs.Letters.{letter-number}
 use Rattle.terms.specs.Weight.{term-letter}
@@ -23,8 +21,7 @@ use Rattle.history.specs.History.{merge-of, history-before, rows-after}
 use Rattle.history.specs.Choice.{weight-in}
 use Rattle.history.specs.computed.Greedy.{finished}
 use Rattle.obeying.specs.Obeying.{Obeyed, went, refused, obeyed}
-use Rattle.terms_text.specs.Input.{Said, given, malformed, said}
-use Rattle.terms_text.specs.Counting.{counted}
+use Rattle.terms_text.specs.Jobs.{JobSaid, a-job, no-job, job-said}
 use Rattle.text.specs.Running.{Rooms, program-rooms}
 use Rattle.text.specs.Output.{line-of, refusal-text}
 use Rattle.letters_text.specs.declared.steps.Asked.{Asked}
@@ -67,19 +64,14 @@ unfoldable pub lettered-after : Job → List ℕ → Obeyed → Lettered
 lettered-after job word (went history) = lettered-at job (finished job history) (asked (job .modes) word)
 lettered-after job word (refused made refusal) = refuses refusal
 
--- The refusals of the terms come first, then the journal's.
-unfoldable pub lettered-with : ℕ → List ℕ → List ℕ → List ℕ → Checked → Lettered
-lettered-with modes numbers read word (Good count) = lettered-after (job-of modes count numbers) word (obeyed (job-of modes count numbers) read)
-lettered-with modes numbers read word (BadTerms refusal) = refuses refusal
-
--- 18 is "before any other number".
-unfoldable pub lettered-by : ℕ → Said → List ℕ → List ℕ → Lettered
-lettered-by most (given modes numbers) read word = lettered-with modes numbers read word (counted most modes numbers)
-lettered-by most (malformed line) read word = refuses (Malformed line)
+-- The refusals of the text and of its terms come first, then the journal's.
+unfoldable pub lettered-by : JobSaid → List ℕ → List ℕ → Lettered
+lettered-by (a-job job) read word = lettered-after job word (obeyed job read)
+lettered-by (no-job refusal) read word = refuses refusal
 
 -- What a text's terms, a journal and a step's word come to, in these rooms.
 unfoldable pub lettered : Rooms → List ℕ → List ℕ → List ℕ → Lettered
-lettered rooms bytes read word = lettered-by (rooms .run .modes) (said (rooms .terms) bytes) read word
+lettered rooms bytes read word = lettered-by (job-said (rooms .run .modes) (rooms .terms) bytes) read word
 
 -- What is printed: the lines; `steps` and how many there are; or the refusal as `hatt` prints it.
 unfoldable pub letters-printed : Lettered → List ℕ

@@ -11,7 +11,6 @@ ghost use Rattle.terms.specs.declared.checking.Checked.the-variants.{Good};
 ghost use Rattle.terms.specs.code.Held.{Held};
 ghost use Rattle.merging.specs.code.State.{«history-of»};
 ghost use Rattle.obeying.specs.Obeying.{obeyed};
-ghost use Rattle.terms_text.specs.Input.{given};
 ghost use Rattle.text.specs.Running.{«program-rooms», «printed-room»};
 ghost use Rattle.text.specs.Output.{Prints};
 ghost use Rattle.text.specs.code.Printing.{Puts};
@@ -21,7 +20,6 @@ ghost use Rattle.letters_text.specs.Lettering.{
   «step-lines»,
   «lettered-at»,
   «lettered-after»,
-  «lettered-by»,
   «letters-printed»,
   «letters-text»,
 };
@@ -32,9 +30,8 @@ use merging::run::Run;
 use obeying::Verdict;
 use refusal::Refusal;
 use terms::checking;
-use terms::checking::Checked;
-use terms_text::Said;
-use terms_text::counting;
+use terms_text::jobs;
+use terms_text::jobs::JobRead;
 use text::Printed;
 use text::output;
 
@@ -119,23 +116,6 @@ fn letters_job(
     letters_own(modes, count, &mut own, terms, read, word, out)
 }
 
-// The same for the numbers of any terms.
-fn letters_given(
-    modes: usize,
-    numbers: &mut [u16],
-    read: &[u8],
-    word: &[u8],
-    out: &mut [u8],
-) -> usize
-    requires { ⌜ length (now out) ≡ printed-room ⌝ }
-    ensures { λ r. ⌜ Puts (letters-printed (lettered-by most-modes (given modes (now (numbers .entry))) (now (read .entry)) (now (word .entry)))) (now (out .entry)) (now (out .exit)) r ⌝ }
-{
-    match counting::count_terms(modes, numbers) {
-        Checked::Refused(why) => output::put_refusal(out, why),
-        Checked::Good(count) => letters_job(modes, count, numbers, read, word, out),
-    }
-}
-
 // The same for a text's terms, in lent room for their numbers.
 fn print_letters(
     input: &[u8],
@@ -147,11 +127,11 @@ fn print_letters(
     requires { ⌜ (length (now numbers) ≡ row-width * most-terms) × (length (now out) ≡ printed-room) ⌝ }
     ensures { λ r. ⌜ Puts (letters-text program-rooms (now (input .entry)) (now (read .entry)) (now (word .entry))) (now (out .entry)) (now (out .exit)) r ⌝ }
 {
-    match terms_text::read_input(input, numbers) {
-        Said::Malformed(line) => output::put_refusal(out, Refusal::Malformed(line)),
-        Said::Given(modes, count) => {
+    match jobs::read_job(input, numbers) {
+        JobRead::Refused(why) => output::put_refusal(out, why),
+        JobRead::Is(modes, count) => {
             let end = 8 * count;
-            letters_given(modes, &mut numbers[..end], read, word, out)
+            letters_job(modes, count, &mut numbers[..end], read, word, out)
         }
     }
 }

@@ -6,21 +6,20 @@ use Prim.Native.Nat.{ℕ}
 use native.Mathlib.Omega.{arith}
 use lib.Dec.{eqb}
 use lib.ListN.{length, getD}
+use Rattle.refusal.specs.declared.Refusal.{Refusal}
 use Rattle.refusal.specs.declared.Refusal.the-variants.{LineForm, Room}
 use Rattle.refusal.specs.Numbers.{numberOf}
 use Rattle.entities.specs.declared.Triple.{Triple}
 use Rattle.entities.specs.Limits.{most-modes, most-terms}
 use Rattle.fields.specs.Lines.{kept-of}
 use Rattle.fields.specs.Fields.{tabbed}
-use Rattle.terms.specs.Job.{Job, job-of}
-use Rattle.terms.specs.declared.checking.Checked.{Checked}
-use Rattle.terms.specs.declared.checking.Checked.the-variants.{Good, Refused as BadTerms}
+use Rattle.terms.specs.Job.{Job}
 use Rattle.obeying.specs.LineForms.{header-text}
 use Rattle.obeying.specs.Obeying.{line-after, Obeyed, went, refused, obeyed-by-hand}
 use Rattle.obeying.proofs.LineRefused.{by-hand-refusal}
 use Rattle.journal.specs.Writing.{journal-text}
-use Rattle.terms_text.specs.Input.{Said, given, malformed, said}
-use Rattle.terms_text.specs.Counting.{counted}
+use Rattle.terms_text.specs.Jobs.{JobSaid, a-job, no-job, job-said}
+use Rattle.terms_text.proofs.JobsRead.{job-not-five}
 use Rattle.text.specs.Running.{program-rooms}
 use Rattle.text.specs.Output.{line-of, refusal-text}
 use Rattle.text.proofs.RoomSuffices.{refusal-five}
@@ -29,14 +28,12 @@ use Rattle.steering.specs.Steering.{
   writes,
   refuses,
   steered-as,
-  steered-with,
   steered-by,
   steered,
   steer-printed,
   steer-text,
   SteerSuffices,
 }
-use Rattle.terms_text.proofs.JobCounted.{counted-refusal}
 use Rattle.steering.proofs.SteeredObeyed.{steered-is-obeyed}
 
 -- The number with which steering ends; none where a journal is printed.
@@ -54,19 +51,14 @@ module _ (merges : List ℕ) where
       go false h = omega arith
   as-never job (refused made why) e h = omega (arith, h, by-hand-refusal job merges made why e .1 .from)
 
-  with-never : (modes : ℕ) (numbers : List ℕ) (found : Checked) → counted most-modes modes numbers ≡ found
-      → number-in (steered-with modes numbers merges found) ≡ 5 → ⊥
-  unfolding number-in steered-with
-  with-never modes numbers (Good count) e h = as-never (job-of modes count numbers) (obeyed-by-hand (job-of modes count numbers) merges) refl h
-  with-never modes numbers (BadTerms why) e h = omega (arith, h, counted-refusal most-modes modes numbers why e)
+  job-never : (found : JobSaid) → ((why : Refusal) → found ≡ no-job why → numberOf why ≡ 5 → ⊥) → number-in (steered-by found merges) ≡ 5 → ⊥
+  unfolding number-in steered-by
+  job-never (a-job job) other h = as-never job (obeyed-by-hand job merges) refl h
+  job-never (no-job why) other h = other why refl h
 
 number-never : (bytes merges : List ℕ) → number-in (steered program-rooms bytes merges) ≡ 5 → ⊥
-unfolding number-in steered steered-by
-number-never bytes merges = go (said most-terms bytes)
-  where
-    go : (says : Said) → number-in (steered-by most-modes says merges) ≡ 5 → ⊥
-    go (given modes numbers) h = with-never merges modes numbers (counted most-modes modes numbers) refl h
-    go (malformed line) h = omega arith
+unfolding steered
+number-never bytes merges = job-never merges (job-said most-modes most-terms bytes) (job-not-five most-modes most-terms bytes)
 
 -- A journal begins with `h`, a refusal with `r`.
 journal-first : (job : Job) (history : List Triple) → journal-text job history ≡ refusal-text Room → ⊥
@@ -81,5 +73,5 @@ steer-suffices bytes merges e = go (steered program-rooms bytes merges) refl e
     go : (end : Steered) → steered program-rooms bytes merges ≡ end → steer-printed end ≡ refusal-text Room → ⊥
     go (writes journal) f g =
         let known = steered-is-obeyed bytes merges journal f in
-        journal-first (job-of (known .modes) (known .count) (known .numbers)) (known .history) (sym (known .journal-is) ∙ g)
+        journal-first (known .job) (known .history) (sym (known .journal-is) ∙ g)
     go (refuses refusal) f g = number-never bytes merges (rw f (refusal-five refusal g))

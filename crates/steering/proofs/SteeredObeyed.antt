@@ -27,9 +27,9 @@ use Rattle.journal.specs.Writing.{journal-text}
 use Rattle.journal.proofs.CallDone.{rooms-fit, done-in}
 use Rattle.journal.proofs.JournalText.{journal-obeyed}
 use Rattle.terms_text.specs.Input.{Said, given, malformed, said}
-use Rattle.terms_text.specs.Counting.{counted}
+use Rattle.terms_text.specs.Jobs.{a-job, no-job, counted, job-with, job-by, job-said}
 use Rattle.text.specs.Running.{program-rooms, ran-by, ran}
-use Rattle.steering.specs.Steering.{writes, refuses, steered-as, steered-with, steered-by, steered, AsWritten, Steers, SteeredIsObeyed}
+use Rattle.steering.specs.Steering.{writes, refuses, steered-as, steered-by, steered, AsWritten, Steers, SteeredIsObeyed}
 use Rattle.terms_text.proofs.JobCounted.{counted-good}
 
 not-written : {A : Type 0} (refusal : Refusal) (journal : List ℕ) → refuses refusal ≡ writes journal → A
@@ -74,7 +74,7 @@ module _ (bytes merges journal : List ℕ) (modes count : ℕ) (numbers : List �
   job = job-of modes count numbers
 
   steers : Written job merges journal → Steers bytes merges journal
-  unfolding ran ran-by modes-good
+  unfolding ran ran-by modes-good job-said job-by job-with
   steers known =
       let good = counted-good most-modes modes numbers count counts in
       let terms = accepted modes numbers count (good .2) in
@@ -83,11 +83,8 @@ module _ (bytes merges journal : List ℕ) (modes count : ℕ) (numbers : List �
       let obeys = journal-obeyed job (omega (arith, good .1)) (omega (arith, light)) (known .history) (by-hand .lawful) (by-hand .within) in
       let room = rooms-fit (program-rooms .run) modes count (omega (arith, terms .at-most)) (omega (arith, good .1)) (omega (arith, good .1)) in
       record {
-        modes = modes;
-        numbers = numbers;
-        count = count;
-        terms-are = says;
-        terms-good = counts;
+        job = job;
+        job-is = rw (says, counts);
         history = known .history;
         as-written = as-written job merges journal known;
         journal-is = known .journal-is;
@@ -98,17 +95,16 @@ module _ (bytes merges journal : List ℕ) (modes count : ℕ) (numbers : List �
       }
 
 pub steered-is-obeyed : SteeredIsObeyed
-unfolding steered steered-by steered-with
+unfolding steered steered-by job-said job-by job-with
 steered-is-obeyed bytes merges journal e = go (said most-terms bytes) refl e
   where
     by-count : (modes : ℕ) (numbers : List ℕ) → said most-terms bytes ≡ given modes numbers → (found : Checked)
-        → counted most-modes modes numbers ≡ found → steered-with modes numbers merges found ≡ writes journal → Steers bytes merges journal
+        → counted most-modes modes numbers ≡ found → steered-by (job-with modes numbers found) merges ≡ writes journal → Steers bytes merges journal
     by-count modes numbers says (Good count) f g =
         let job = job-of modes count numbers in
-        steers bytes merges journal modes count numbers says f
-        (written-by job merges journal (obeyed-by-hand job merges) refl g)
+        steers bytes merges journal modes count numbers says f (written-by job merges journal (obeyed-by-hand job merges) refl g)
     by-count modes numbers says (BadTerms refusal) f g = not-written refusal journal g
 
-    go : (says : Said) → said most-terms bytes ≡ says → steered-by most-modes says merges ≡ writes journal → Steers bytes merges journal
+    go : (says : Said) → said most-terms bytes ≡ says → steered-by (job-by most-modes says) merges ≡ writes journal → Steers bytes merges journal
     go (given modes numbers) f g = by-count modes numbers f (counted most-modes modes numbers) refl g
     go (malformed line) f g = not-written _ journal g

@@ -9,17 +9,14 @@ use Rattle.entities.specs.declared.Triple.{Triple}
 use Rattle.fields.specs.Texts.{spelt}
 use Rattle.fields.specs.Decimal.{decimal}
 use Rattle.fields.specs.Lines.{lines}
-use Rattle.terms.specs.Job.{Job, job-of}
-use Rattle.terms.specs.declared.checking.Checked.{Checked}
-use Rattle.terms.specs.declared.checking.Checked.the-variants.{Good, Refused as BadTerms}
+use Rattle.terms.specs.Job.{Job}
 use Rattle.history.specs.History.{is-open}
 use Rattle.history.specs.Choice.{weight-in}
 use Rattle.obeying.specs.declared.merge_line.Merge.{Merge}
 use Rattle.obeying.specs.declared.merge_line.Merge.the-variants.{Is as MergeIs, Broken as MergeBroken}
 use Rattle.obeying.specs.LineForms.{merge-of-line}
 use Rattle.obeying.specs.Obeying.{Obeyed, went, refused, obeyed}
-use Rattle.terms_text.specs.Input.{Said, given, malformed, said}
-use Rattle.terms_text.specs.Counting.{counted}
+use Rattle.terms_text.specs.Jobs.{JobSaid, a-job, no-job, job-said}
 use Rattle.text.specs.Running.{Rooms}
 use Rattle.text.specs.Output.{line-of}
 
@@ -50,14 +47,11 @@ unfoldable pub reason-in : Job → List ℕ → Obeyed → List ℕ
 reason-in job read (went history) = []
 reason-in job read (refused made why) = reason-said job made (numberOf why) (merge-of-line (getD (lines read) (placeOf why) []))
 
-unfoldable pub reason-with : ℕ → List ℕ → List ℕ → Checked → List ℕ
-reason-with modes numbers read (Good count) = reason-in (job-of modes count numbers) read (obeyed (job-of modes count numbers) read)
-reason-with modes numbers read (BadTerms refusal) = []
-
-unfoldable pub reason-by : ℕ → Said → List ℕ → List ℕ
-reason-by most (given modes numbers) read = reason-with modes numbers read (counted most modes numbers)
-reason-by most (malformed line) read = []
+-- Nor of one whose terms are refused.
+unfoldable pub reason-by : JobSaid → List ℕ → List ℕ
+reason-by (a-job job) read = reason-in job read (obeyed job read)
+reason-by (no-job refusal) read = []
 
 -- What is told of the journal that is read, for a text's terms, in these rooms.
 unfoldable pub reason-text : Rooms → List ℕ → List ℕ → List ℕ
-reason-text rooms bytes read = reason-by (rooms .run .modes) (said (rooms .terms) bytes) read
+reason-text rooms bytes read = reason-by (job-said (rooms .run .modes) (rooms .terms) bytes) read

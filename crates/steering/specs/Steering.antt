@@ -7,20 +7,17 @@ use lib.Dec.{eqb}
 use lib.ListN.{length, getD}
 use Rattle.lists.specs.Members.{every}
 use Rattle.refusal.specs.declared.Refusal.{Refusal}
-use Rattle.refusal.specs.declared.Refusal.the-variants.{Room, LineForm, Malformed}
+use Rattle.refusal.specs.declared.Refusal.the-variants.{Room, LineForm}
 use Rattle.entities.specs.declared.Triple.{Triple}
 use Rattle.fields.specs.Decimal.{is-number, value}
 use Rattle.fields.specs.Lines.{lines, kept-of}
 use Rattle.fields.specs.Fields.{fields}
-use Rattle.terms.specs.Job.{Job, job-of}
-use Rattle.terms.specs.declared.checking.Checked.{Checked}
-use Rattle.terms.specs.declared.checking.Checked.the-variants.{Good, Refused as BadTerms}
+use Rattle.terms.specs.Job.{Job}
 use Rattle.history.specs.History.{merge-of}
 use Rattle.obeying.specs.Obeying.{line-after, Obeyed, went, refused, obeyed-by-hand}
 use Rattle.journal.specs.Writing.{journal-text}
 use Rattle.journal.specs.Resuming.{done, ending}
-use Rattle.terms_text.specs.Input.{Said, given, malformed, said}
-use Rattle.terms_text.specs.Counting.{counted}
+use Rattle.terms_text.specs.Jobs.{JobSaid, a-job, no-job, job-said}
 use Rattle.text.specs.Running.{Rooms, program-rooms, ran}
 use Rattle.text.specs.Output.{refusal-text}
 
@@ -35,20 +32,14 @@ steered-as job merges (went history) =
     cond (eqb (length (kept-of merges)) (length merges)) (writes (journal-text job history)) (refuses (LineForm (line-after history)))
 steered-as job merges (refused made refusal) = refuses refusal
 
--- The refusals of the terms come first.
-unfoldable pub steered-with : ℕ → List ℕ → List ℕ → Checked → Steered
-steered-with modes numbers merges (Good count) =
-    steered-as (job-of modes count numbers) merges (obeyed-by-hand (job-of modes count numbers) merges)
-steered-with modes numbers merges (BadTerms refusal) = refuses refusal
-
--- 18 is "before any other number".
-unfoldable pub steered-by : ℕ → Said → List ℕ → Steered
-steered-by most (given modes numbers) merges = steered-with modes numbers merges (counted most modes numbers)
-steered-by most (malformed line) merges = refuses (Malformed line)
+-- The refusals of the text and of its terms come first.
+unfoldable pub steered-by : JobSaid → List ℕ → Steered
+steered-by (a-job job) merges = steered-as job merges (obeyed-by-hand job merges)
+steered-by (no-job refusal) merges = refuses refusal
 
 -- What a text's terms and a file of merges come to, in these rooms.
 unfoldable pub steered : Rooms → List ℕ → List ℕ → Steered
-steered rooms bytes merges = steered-by (rooms .run .modes) (said (rooms .terms) bytes) merges
+steered rooms bytes merges = steered-by (job-said (rooms .run .modes) (rooms .terms) bytes) merges
 
 -- What is printed: the journal, or the refusal as `hatt` prints it.
 unfoldable pub steer-printed : Steered → List ℕ
@@ -66,18 +57,15 @@ pub record AsWritten (merges : List ℕ) (history : List Triple) : Type 0 where
       → map value (fields (getD (lines merges) i [])) ≡ merge-of history i .x ∷ (merge-of history i .y ∷ (merge-of history i .z ∷ []))
   pub whole : kept-of merges ≡ merges
 
--- Steering that is done: the text says good terms, the journal is that of the merges that were written, for these terms, and resuming from it
--- accepts it, obeys it to those merges and goes on from there.
+-- Steering that is done: the journal is that of the merges that were written, for the text's job, and resuming from it accepts it, obeys it to
+-- those merges and goes on from there.
 pub record Steers (bytes merges journal : List ℕ) : Type 0 where
-  pub modes : ℕ
-  pub numbers : List ℕ
-  pub count : ℕ
-  pub terms-are : said (program-rooms .terms) bytes ≡ given modes numbers
-  pub terms-good : counted (program-rooms .run .modes) modes numbers ≡ Good count
+  pub job : Job
+  pub job-is : job-said (program-rooms .run .modes) (program-rooms .terms) bytes ≡ a-job job
   pub history : List Triple
   pub as-written : AsWritten merges history
-  pub journal-is : journal ≡ journal-text (job-of modes count numbers) history
-  pub resumes : ran program-rooms bytes journal ≡ done (ending (job-of modes count numbers) journal history)
+  pub journal-is : journal ≡ journal-text job history
+  pub resumes : ran program-rooms bytes journal ≡ done (ending job journal history)
 
 abbrev pub SteeredIsObeyed : Type 0
 SteeredIsObeyed = (bytes merges journal : List ℕ) → steered program-rooms bytes merges ≡ writes journal → Steers bytes merges journal

@@ -9,20 +9,18 @@ ghost use Rattle.merging.specs.code.State.{«history-of»};
 ghost use Rattle.merging.specs.code.Runs.{Holds};
 ghost use Rattle.obeying.specs.Obeying.{went, «obeyed-by-hand»};
 ghost use Rattle.obeying.specs.code.Sized.{Sized};
-ghost use Rattle.terms_text.specs.Input.{given};
 ghost use Rattle.text.specs.Running.{«program-rooms», «printed-room»};
 ghost use Rattle.text.specs.Output.{Prints};
 ghost use Rattle.text.specs.code.Printing.{Puts};
-ghost use Rattle.steering.specs.Steering.{«steered-as», «steered-by», «steer-printed», «steer-text»};
+ghost use Rattle.steering.specs.Steering.{«steered-as», «steer-printed», «steer-text»};
 use fields::lines;
 use journal::new_lines;
 use merging::asked;
 use merging::run::Run;
 use obeying::Verdict;
 use refusal::Refusal;
-use terms::checking::Checked;
-use terms_text::Said;
-use terms_text::counting;
+use terms_text::jobs;
+use terms_text::jobs::JobRead;
 use text::Printed;
 use text::output;
 
@@ -61,27 +59,16 @@ fn steer_job(modes: usize, count: usize, rows: &mut [u16], merges: &[u8], out: &
     }
 }
 
-// The same for the numbers of any terms.
-fn steer_given(modes: usize, numbers: &mut [u16], merges: &[u8], out: &mut [u8]) -> usize
-    requires { ⌜ length (now out) ≡ printed-room ⌝ }
-    ensures { λ r. ⌜ Puts (steer-printed (steered-by most-modes (given modes (now (numbers .entry))) (now (merges .entry)))) (now (out .entry)) (now (out .exit)) r ⌝ }
-{
-    match counting::count_terms(modes, numbers) {
-        Checked::Refused(why) => output::put_refusal(out, why),
-        Checked::Good(count) => steer_job(modes, count, numbers, merges, out),
-    }
-}
-
 // The same for a text's terms, in lent room for their numbers.
 fn print_steered(input: &[u8], merges: &[u8], numbers: &mut [u16], out: &mut [u8]) -> usize
     requires { ⌜ (length (now numbers) ≡ row-width * most-terms) × (length (now out) ≡ printed-room) ⌝ }
     ensures { λ r. ⌜ Puts (steer-text program-rooms (now (input .entry)) (now (merges .entry))) (now (out .entry)) (now (out .exit)) r ⌝ }
 {
-    match terms_text::read_input(input, numbers) {
-        Said::Malformed(line) => output::put_refusal(out, Refusal::Malformed(line)),
-        Said::Given(modes, count) => {
+    match jobs::read_job(input, numbers) {
+        JobRead::Refused(why) => output::put_refusal(out, why),
+        JobRead::Is(modes, count) => {
             let end = 8 * count;
-            steer_given(modes, &mut numbers[..end], merges, out)
+            steer_job(modes, count, &mut numbers[..end], merges, out)
         }
     }
 }

@@ -9,11 +9,10 @@ ghost use Rattle.terms.specs.code.Held.{Held};
 ghost use Rattle.merging.specs.code.State.{«history-of»};
 ghost use Rattle.merging.specs.code.Runs.{Holds};
 ghost use Rattle.obeying.specs.Obeying.{refused, obeyed};
-ghost use Rattle.terms_text.specs.Input.{given};
 ghost use Rattle.text.specs.Running.{«program-rooms», «printed-room»};
 ghost use Rattle.text.specs.Output.{Prints};
 ghost use Rattle.text.specs.code.Printing.{Puts};
-ghost use Rattle.steering.specs.Reasons.{«first-closed», «reason-of», «reason-in», «reason-by», «reason-text»};
+ghost use Rattle.steering.specs.Reasons.{«first-closed», «reason-of», «reason-in», «reason-text»};
 use entities::Triple;
 use fields::lines;
 use merging::asked;
@@ -22,9 +21,8 @@ use obeying::Verdict;
 use obeying::merge_line;
 use obeying::merge_line::Merge;
 use refusal::Refusal;
-use terms::checking::Checked;
-use terms_text::Said;
-use terms_text::counting;
+use terms_text::jobs;
+use terms_text::jobs::JobRead;
 use text::Printed;
 use text::output;
 
@@ -91,27 +89,16 @@ fn reason_job(modes: usize, count: usize, rows: &mut [u16], read: &[u8], out: &m
     }
 }
 
-// The same for the numbers of any terms.
-fn reason_given(modes: usize, numbers: &mut [u16], read: &[u8], out: &mut [u8]) -> usize
-    requires { ⌜ length (now out) ≡ printed-room ⌝ }
-    ensures { λ r. ⌜ Puts (reason-by most-modes (given modes (now (numbers .entry))) (now (read .entry))) (now (out .entry)) (now (out .exit)) r ⌝ }
-{
-    match counting::count_terms(modes, numbers) {
-        Checked::Refused(why) => 0,
-        Checked::Good(count) => reason_job(modes, count, numbers, read, out),
-    }
-}
-
 // The same for a text's terms, in lent room for their numbers.
 fn print_reason(input: &[u8], read: &[u8], numbers: &mut [u16], out: &mut [u8]) -> usize
     requires { ⌜ (length (now numbers) ≡ row-width * most-terms) × (length (now out) ≡ printed-room) ⌝ }
     ensures { λ r. ⌜ Puts (reason-text program-rooms (now (input .entry)) (now (read .entry))) (now (out .entry)) (now (out .exit)) r ⌝ }
 {
-    match terms_text::read_input(input, numbers) {
-        Said::Malformed(line) => 0,
-        Said::Given(modes, count) => {
+    match jobs::read_job(input, numbers) {
+        JobRead::Refused(why) => 0,
+        JobRead::Is(modes, count) => {
             let end = 8 * count;
-            reason_given(modes, &mut numbers[..end], read, out)
+            reason_job(modes, count, &mut numbers[..end], read, out)
         }
     }
 }

@@ -13,7 +13,7 @@ use Rattle.refusal.specs.Numbers.{numberOf}
 use Rattle.terms.specs.Good.{modes-good, checked}
 use Rattle.terms.specs.declared.checking.Checked.the-variants.{Good, Refused as BadTerms}
 use Rattle.terms_text.proofs.TermsRefused.{terms-refusal}
-use Rattle.terms_text.specs.Counting.{counted}
+use Rattle.terms_text.specs.Jobs.{counted}
 
 module _ (most modes : ℕ) (numbers : List ℕ) where
   pub no-modes : modes < 1 → BadTerms Modes ≡ counted most modes numbers

@@ -5,3 +5,4 @@ pub mod InputSaid
 pub mod LongInput
 pub mod TermsRefused
 pub mod JobCounted
+pub mod JobsRead

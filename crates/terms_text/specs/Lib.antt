@@ -1,4 +1,4 @@
 -- What document 01 says of the text that a program reads.
 pub mod Input
-pub mod Counting
+pub mod Jobs
 pub mod code

@@ -1,2 +1,3 @@
 -- How the code reads a text: no promise needs it.
 pub mod Reading
+pub mod JobsRead

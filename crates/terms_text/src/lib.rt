@@ -10,7 +10,7 @@ use fields::lines;
 use fields::numbers;
 use terms::slices;
 
-pub mod counting;
+pub mod jobs;
 
 // What a text says: modes and so many terms, or the line at which it is malformed.
 pub enum Said {

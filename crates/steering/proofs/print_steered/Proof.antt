@@ -1,25 +1,18 @@
--- What was read says what the text says: it is malformed, or its terms are taken.
+-- What was read is refused, or a job's terms are steered by.
 use mathlib.Core.Path.{sym}
-use Prim.Native.Nat.{_*_, _≤_}
 use native.Mathlib.Omega.{arith}
 use borrow.Author.Needs.{needs}
-use lib.ListN.{length}
 use lib.Seq.{length-take-le}
-use Rattle.terms_text.proofs.InputSaid.{given-few, given-says, malformed-says}
+use Rattle.terms.proofs.GoodTerms.{accepted}
 use Rattle.steering.specs.Steering.{steered-by, steered, steer-printed, steer-text}
 use Rattle.steering.proofs.print_steered.Statement.{statement}
 use Rattle.steering.proofs.print_steered.Tie as tie
 
--- The numbers of the terms are within the room.
-room : (c : tie.After-known-told2) → 8 * c .before .modes .given .0 .1 .0 ≤ length (c .before .before .before .before .before .read-input .last .1 .0)
-room c =
-    omega (arith, given-few 2048 (c .before .before .before .before .before .before .before .before .before .before .before .args .input .now) _ _ (c .before .before .before .before .before .read-input .ensures) _ _ (c .before .modes .given .1), c .before .before .before .before .before .read-input .kept, c .before .before .before .before .before .before .before .before .before .before .before .pre .0)
+read-job-requires : tie.Need-read-job-requires
+read-job-requires c κs = search needs
 
-read-input-requires : tie.Need-read-input-requires
-read-input-requires c κs = search needs
-
-enum-known-line : tie.Need-enum-known-line
-enum-known-line c = search needs
+enum-known-why : tie.Need-enum-known-why
+enum-known-why c = search needs
 
 put-refusal-requires : tie.Need-put-refusal-requires
 put-refusal-requires c κs = search needs
@@ -29,16 +22,20 @@ enum-known-modes c = search needs
 
 mul-end : tie.Need-mul-end
 mul-end c =
-    omega (arith, given-few 2048 (c .before .before .before .before .before .before .before .before .before .before .before .args .input .now) _ _ (c .before .before .before .before .before .read-input .ensures) _ _ (c .before .modes .given .1))
+    let start = c .before .before .before .before .before .before .before .before .before .before .before in
+    omega (arith, (c .before .before .before .before .before .read-job .ensures .is-job _ _ (c .before .modes .given .1)) .0, c .before .before .before .before .before .read-job .kept, start .pre .0)
 
-slice-relend-prefix-steer-given : tie.Need-slice-relend-prefix-steer-given
-slice-relend-prefix-steer-given c = room c
+slice-relend-prefix-steer-job : tie.Need-slice-relend-prefix-steer-job
+slice-relend-prefix-steer-job c = (c .before .before .before .before .before .read-job .ensures .is-job _ _ (c .before .modes .given .1)) .0
 
-slice-aggregate-steer-given : tie.Need-slice-aggregate-steer-given
-slice-aggregate-steer-given c = sym (length-take-le _ _ (room (c .before)))
+slice-aggregate-steer-job : tie.Need-slice-aggregate-steer-job
+slice-aggregate-steer-job c = sym (length-take-le _ _ ((c .before .before .before .before .before .before .read-job .ensures .is-job _ _ (c .before .before .modes .given .1)) .0))
 
-steer-given-requires : tie.Need-steer-given-requires
-steer-given-requires c κs = search needs
+steer-job-requires : tie.Need-steer-job-requires
+steer-job-requires c κs =
+    let fits = (c .before .before .before .before .before .before .before .read-job .ensures .is-job _ _ (c .before .before .before .modes .given .1)) .1 in
+    let terms = accepted _ _ _ (fits .good) in
+    ((fits .some, fits .few, terms .at-most, terms .held), c .before .before .before .before .before .before .before .before .before .before .before .before .before .pre .1)
 
 same-length : tie.Need-same-length
 same-length c = search needs
@@ -49,9 +46,7 @@ same-length-2 c = search needs
 returns : tie.Need-returns
 unfolding steer-text steered steered-by steer-printed
 returns c =
-    let args = c .before .before .before .before .before .before .before .before .before .before .before .before .before .before .before .args in
-    let told = c .before .before .before .before .before .line .given in
-    rw (sym (malformed-says 2048 (args .input .now) _ _ (c .before .before .before .before .before .before .before .before .before .read-input .ensures) _ (told .1))) (c .before .before .put-refusal .ensures)
+    rw (c .before .before .before .before .before .before .before .before .before .read-job .ensures .is-refused _ (c .before .before .before .before .before .why .given .1)) (c .before .before .put-refusal .ensures)
 
 same-length-3 : tie.Need-same-length-3
 same-length-3 c = search needs
@@ -60,24 +55,22 @@ same-length-4 : tie.Need-same-length-4
 same-length-4 c = search needs
 
 returns-2 : tie.Need-returns-2
-unfolding steer-text steered
+unfolding steer-text steered steered-by
 returns-2 c =
-    let args = c .before .before .before .before .before .before .before .before .before .before .before .before .before .before .before .before .before .before .args in
-    let told = c .before .before .before .before .before .before .before .before .modes .given in
-    rw (given-says 2048 (args .input .now) _ _ (c .before .before .before .before .before .before .before .before .before .before .before .before .read-input .ensures) _ _ (told .1)) at (c .before .before .before .before .steer-given .ensures)
+    rw ((c .before .before .before .before .before .before .before .before .before .before .before .before .read-job .ensures .is-job _ _ (c .before .before .before .before .before .before .before .before .modes .given .1)) .2) (c .before .before .before .before .steer-job .ensures)
 
 pub print-steered-spec : {M : Type 1} → statement M
 print-steered-spec =
     tie.close
     (tie.spec
-    read-input-requires
-    enum-known-line
+    read-job-requires
+    enum-known-why
     put-refusal-requires
     enum-known-modes
     mul-end
-    slice-relend-prefix-steer-given
-    slice-aggregate-steer-given
-    steer-given-requires
+    slice-relend-prefix-steer-job
+    slice-aggregate-steer-job
+    steer-job-requires
     same-length
     same-length-2
     returns

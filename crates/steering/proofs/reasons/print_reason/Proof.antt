@@ -1,42 +1,39 @@
--- What was read says what the text says: it is malformed, or its terms are taken.
+-- Of what is refused there is nothing to tell; a job's journal is looked at.
 use mathlib.Core.Path.{sym}
-use Prim.Native.Nat.{_*_, _≤_}
 use native.Mathlib.Omega.{arith}
 use borrow.Author.Needs.{needs}
-use lib.ListN.{length}
 use lib.Seq.{length-take-le}
-use Rattle.terms_text.proofs.InputSaid.{given-few, given-says, malformed-says}
-use Rattle.steering.specs.Reasons.{reason-by, reason-text}
+use Rattle.terms.proofs.GoodTerms.{accepted}
 use Rattle.text.proofs.PrintedLines.{puts-none}
+use Rattle.steering.specs.Reasons.{reason-by, reason-text}
 use Rattle.steering.proofs.reasons.print_reason.Statement.{statement}
 use Rattle.steering.proofs.reasons.print_reason.Tie as tie
 
--- The numbers of the terms are within the room.
-room : (c : tie.After-known-told2) → 8 * c .before .modes .given .0 .1 .0 ≤ length (c .before .before .before .before .before .read-input .last .1 .0)
-room c =
-    omega (arith, given-few 2048 (c .before .before .before .before .before .before .before .before .before .before .before .args .input .now) _ _ (c .before .before .before .before .before .read-input .ensures) _ _ (c .before .modes .given .1), c .before .before .before .before .before .read-input .kept, c .before .before .before .before .before .before .before .before .before .before .before .pre .0)
+read-job-requires : tie.Need-read-job-requires
+read-job-requires c κs = search needs
 
-read-input-requires : tie.Need-read-input-requires
-read-input-requires c κs = search needs
-
-enum-known-line : tie.Need-enum-known-line
-enum-known-line c = search needs
+enum-known-why : tie.Need-enum-known-why
+enum-known-why c = search needs
 
 enum-known-modes : tie.Need-enum-known-modes
 enum-known-modes c = search needs
 
 mul-end : tie.Need-mul-end
 mul-end c =
-    omega (arith, given-few 2048 (c .before .before .before .before .before .before .before .before .before .before .before .args .input .now) _ _ (c .before .before .before .before .before .read-input .ensures) _ _ (c .before .modes .given .1))
+    let start = c .before .before .before .before .before .before .before .before .before .before .before in
+    omega (arith, (c .before .before .before .before .before .read-job .ensures .is-job _ _ (c .before .modes .given .1)) .0, c .before .before .before .before .before .read-job .kept, start .pre .0)
 
-slice-relend-prefix-reason-given : tie.Need-slice-relend-prefix-reason-given
-slice-relend-prefix-reason-given c = room c
+slice-relend-prefix-reason-job : tie.Need-slice-relend-prefix-reason-job
+slice-relend-prefix-reason-job c = (c .before .before .before .before .before .read-job .ensures .is-job _ _ (c .before .modes .given .1)) .0
 
-slice-aggregate-reason-given : tie.Need-slice-aggregate-reason-given
-slice-aggregate-reason-given c = sym (length-take-le _ _ (room (c .before)))
+slice-aggregate-reason-job : tie.Need-slice-aggregate-reason-job
+slice-aggregate-reason-job c = sym (length-take-le _ _ ((c .before .before .before .before .before .before .read-job .ensures .is-job _ _ (c .before .before .modes .given .1)) .0))
 
-reason-given-requires : tie.Need-reason-given-requires
-reason-given-requires c κs = search needs
+reason-job-requires : tie.Need-reason-job-requires
+reason-job-requires c κs =
+    let fits = (c .before .before .before .before .before .before .before .read-job .ensures .is-job _ _ (c .before .before .before .modes .given .1)) .1 in
+    let terms = accepted _ _ _ (fits .good) in
+    ((fits .some, fits .few, terms .at-most, terms .held), c .before .before .before .before .before .before .before .before .before .before .before .before .before .pre .1)
 
 same-length : tie.Need-same-length
 same-length c = search needs
@@ -44,9 +41,7 @@ same-length c = search needs
 returns : tie.Need-returns
 unfolding reason-text reason-by
 returns c =
-    let args = c .before .before .before .before .before .before .before .before .before .before .before .args in
-    let told = c .before .line .given in
-    rw (sym (malformed-says 2048 (args .input .now) _ _ (c .before .before .before .before .before .read-input .ensures) _ (told .1))) (puts-none (args .out .now))
+    rw (c .before .before .before .before .before .read-job .ensures .is-refused _ (c .before .why .given .1)) (puts-none _)
 
 same-length-2 : tie.Need-same-length-2
 same-length-2 c = search needs
@@ -55,23 +50,21 @@ same-length-3 : tie.Need-same-length-3
 same-length-3 c = search needs
 
 returns-2 : tie.Need-returns-2
-unfolding reason-text
+unfolding reason-text reason-by
 returns-2 c =
-    let args = c .before .before .before .before .before .before .before .before .before .before .before .before .before .before .before .before .before .before .args in
-    let told = c .before .before .before .before .before .before .before .before .modes .given in
-    rw (given-says 2048 (args .input .now) _ _ (c .before .before .before .before .before .before .before .before .before .before .before .before .read-input .ensures) _ _ (told .1)) at (c .before .before .before .before .reason-given .ensures)
+    rw ((c .before .before .before .before .before .before .before .before .before .before .before .before .read-job .ensures .is-job _ _ (c .before .before .before .before .before .before .before .before .modes .given .1)) .2) (c .before .before .before .before .reason-job .ensures)
 
 pub print-reason-spec : {M : Type 1} → statement M
 print-reason-spec =
     tie.close
     (tie.spec
-    read-input-requires
-    enum-known-line
+    read-job-requires
+    enum-known-why
     enum-known-modes
     mul-end
-    slice-relend-prefix-reason-given
-    slice-aggregate-reason-given
-    reason-given-requires
+    slice-relend-prefix-reason-job
+    slice-aggregate-reason-job
+    reason-job-requires
     same-length
     returns
     same-length-2

@@ -3,8 +3,8 @@ use mathlib.Core.Path.{_∙_}
 use native.Mathlib.Omega.{arith}
 use borrow.Author.Needs.{needs}
 use Rattle.terms_text.proofs.JobCounted.{no-modes, too-many-modes, modes-fine}
-use Rattle.terms_text.proofs.counting.count_terms.Statement.{statement}
-use Rattle.terms_text.proofs.counting.count_terms.Tie as tie
+use Rattle.terms_text.proofs.jobs.count_terms.Statement.{statement}
+use Rattle.terms_text.proofs.jobs.count_terms.Tie as tie
 
 returns : tie.Need-returns
 returns c = no-modes 256 _ (c .before .before .args .numbers .now) (c .if1 .taken)
