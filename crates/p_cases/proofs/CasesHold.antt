@@ -48,7 +48,7 @@ use Rattle.tree.specs.Table.{nodes, child, place-of, parent-of, climb}
 use Rattle.tree.specs.OneTree.{root-of, leaves-once, absent-once, nodes-once, all-reached, one-tree}
 use Rattle.tree.specs.Pairs.{chain-end, pair-under, pair-right, pairs-right}
 use Rattle.tree.specs.Check.{codes-good, tree-checked}
-use Rattle.tree.specs.Weight.{edge-under, edges, node-letter, node-weight, row-weight, tree-weight, weighed-terms, weighed-tree, tree-weighed, weight-numbers}
+use Rattle.tree_weight.specs.Weight.{edge-under, edges, node-letter, node-weight, row-weight, tree-weight, weighed-terms, weighed-tree, tree-weighed, weight-numbers}
 use Rattle.tree.specs.Laying.{row-over, laid-over, laid, modes-in}
 use Rattle.slots.specs.Slots.{pair-of, parity-of, leaf-slot, slot-of, slot, unfixed, is-fixed, leaf-of, stands-as, slots}
 use Rattle.slots.specs.Nodes.{distance, complete, remaining, largest, farthest, narrowed, active}

@@ -11,7 +11,7 @@ use Rattle.fields.specs.Texts.{spelt}
 use Rattle.history.specs.Trials.{trial-total}
 use Rattle.journal.specs.Resuming.{Outcome, resumed}
 use Rattle.journal.specs.Promises.{numbers-of, returned, lent, lent-then}
-use Rattle.tree.specs.Weight.{tree-weighed, weight-numbers}
+use Rattle.tree_weight.specs.Weight.{tree-weighed, weight-numbers}
 use Rattle.topphatt.specs.Answer.{asked, outcome}
 use Rattle.topphatt.specs.Promises.{numbers-of as assign-numbers, returned as assigned, lent as assign-lent, lent-then as assign-left}
 use Rattle.newick.specs.Writing.{newick-text}

@@ -3,8 +3,7 @@ use fields::numbers::Field;
 use recorded::lines;
 use refusal::Refusal;
 use tree::TreeChecked;
-use tree::TreeWeighed;
-use tree::weight;
+use tree_weight::TreeWeighed;
 
 // What a call says: refusal number 0 and a weight, or the refusal's number and place and weight 0.
 struct Said {
@@ -98,7 +97,7 @@ fn checked(modes: usize, tree: &[u16]) -> Said {
 
 // What the tree weight says.
 fn weighed(modes: usize, tree: &[u16], terms: &[u16]) -> Said {
-    let answer = weight::tree_weight(modes, tree, terms);
+    let answer = tree_weight::tree_weight(modes, tree, terms);
     match answer {
         TreeWeighed::Weight(weight) => weight_said(weight),
         TreeWeighed::Unweighed(refusal) => refusal_said(refusal),

@@ -14,7 +14,7 @@ use terms::checking::Checked;
 use terms::weight;
 use topphatt::Assigned;
 use tree::TreeChecked;
-use tree::TreeWeighed;
+use tree_weight::TreeWeighed;
 
 // The triple weighed in the rows, and the rows reduced to its parent where they stand; the refusal of the rows as terms follows, and the weight.
 #[no_mangle]
@@ -114,7 +114,7 @@ pub extern "C" fn test_check_tree(modes: usize, tree: &[u16], answer: &mut [u64]
 // What the tree weight answers: its refusal's number and place, and the weight; nothing where there is no room.
 #[no_mangle]
 pub extern "C" fn test_tree_weight(modes: usize, tree: &[u16], terms: &[u16], answer: &mut [u64]) {
-    match tree::weight::tree_weight(modes, tree, terms) {
+    match tree_weight::tree_weight(modes, tree, terms) {
         TreeWeighed::Weight(weight) => put(answer, 0, 0, weight),
         TreeWeighed::Unweighed(refusal) => {
             put(

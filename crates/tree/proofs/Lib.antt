@@ -1,10 +1,9 @@
--- The laws of the tree table, of rows laid out as one, of its check and its weight.
+-- The laws of the tree table, of rows laid out as one, and of its check.
 pub mod TableSteps
 pub mod LayingRows
 pub mod LaidTable
 pub mod OneTreeParts
 pub mod AcceptedParts
-pub mod TreeWeighing
 pub mod Standing
 pub mod Under
 pub mod OneTreeSays

@@ -2,7 +2,7 @@
 use mathlib.Core.Path.{_≡_, refl}
 use mathlib.Core.Bool.{true, false, _||_}
 use mathlib.Core.List.{List}
-use Prim.Native.Nat.{ℕ, zero, suc, _+_, _-_, _*_, _/_, _%_, _<_, _≤_}
+use Prim.Native.Nat.{ℕ, zero, suc, _+_, _-_, _*_, _<_, _≤_}
 use native.Mathlib.Omega.{arith}
 use borrow.Author.Tests.{eq-eqb, ne-eqb, lt-ltb, le-ltb}
 use lib.Dec.{eqb, ltb}
@@ -18,7 +18,6 @@ use Rattle.tree.specs.Table.{nodes, child, place-of, parent-of, climb}
 use Rattle.tree.specs.OneTree.{leaves-once}
 use Rattle.tree.specs.Pairs.{chain-end}
 use Rattle.tree.specs.Check.{codes-good}
-use Rattle.tree.specs.Weight.{edge-under}
 
 pub child-read : (table : List ℕ) (node edge : ℕ) → 3 * node + edge < length table → getD table (3 * node + edge) 0 ≡ child table node edge
 unfolding child
@@ -86,18 +85,3 @@ module _ (modes : ℕ) (table : List ℕ) where
   unfolding chain-end
   chain-rests zero code h = refl
   chain-rests (suc steps) code h = rw (le-ltb code modes h) (chain-rests steps code h)
-
--- The edge of a node under which a code stands: none, its place's, or that of the node above it.
-module _ (table : List ℕ) (steps node code : ℕ) where
-  pub edge-none : length table ≤ place-of table code → edge-under table (suc steps) node code ≡ 3
-  unfolding edge-under
-  edge-none h = rw (le-ltb (place-of table code) (length table) h)
-
-  module _ (h : place-of table code < length table) where
-    pub edge-here : place-of table code / 3 ≡ node → edge-under table (suc steps) node code ≡ place-of table code % 3
-    unfolding edge-under
-    edge-here e = rw (lt-ltb (place-of table code) (length table) h, eq-eqb (place-of table code / 3) node e)
-
-    pub edge-above : (place-of table code / 3 ≡ node → ⊥) → edge-under table (suc steps) node code ≡ edge-under table steps node (place-of table code / 3)
-    unfolding edge-under
-    edge-above e = rw (lt-ltb (place-of table code) (length table) h, ne-eqb (place-of table code / 3) node e)

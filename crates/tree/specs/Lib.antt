@@ -1,9 +1,7 @@
--- What document 01 says of tree tables: rows laid out as one, which are accepted, and their weight.
+-- What document 01 says of tree tables: rows laid out as one, and which are accepted.
 pub mod Table
 pub mod Laying
 pub mod OneTree
 pub mod Pairs
 pub mod Check
 pub mod Accepted
-pub mod Weight
-pub mod code

@@ -1,4 +1,4 @@
-// The tree table: rows laid out as one, its check, refusals 1 and 13 to 16 of document 01, and the tree weight.
+// The tree table: rows laid out as one, and its check, refusals 1 and 13 to 16 of document 01.
 ghost use Rattle.refusal.specs.Numbers.{Tells};
 ghost use Rattle.entities.specs.Limits.{«most-modes»};
 ghost use Rattle.tree.specs.Check.{«check-numbers», «tree-checked»};
@@ -8,18 +8,11 @@ pub mod laying;
 mod one_tree;
 mod pairs;
 pub mod table;
-pub mod weight;
 
 // What the check of a tree says.
 pub enum TreeChecked {
     Accepted,
     Refused(Refusal),
-}
-
-// What the tree weight says: the weight, or why it is refused.
-pub enum TreeWeighed {
-    Weight(u64),
-    Unweighed(Refusal),
 }
 
 // The table is 3n good codes that make one tree with its pairs right; or the first of these that fails.

@@ -12,8 +12,8 @@ use Rattle.fields.specs.Decimal.{decimal}
 use Rattle.fields.specs.Fields.{tabbed}
 use Rattle.tree.specs.Check.{tree-checked}
 use Rattle.tree.specs.declared.TreeChecked.the-variants.{Refused as BadTree}
-use Rattle.tree.specs.Weight.{tree-weighed}
-use Rattle.tree.specs.declared.TreeWeighed.the-variants.{Unweighed}
+use Rattle.tree_weight.specs.Weight.{tree-weighed}
+use Rattle.tree_weight.specs.declared.TreeWeighed.the-variants.{Unweighed}
 use Rattle.terms_text.specs.Input.{Said, given, malformed as terms-malformed}
 use Rattle.text.specs.declared.Printed.{Printed}
 use Rattle.text.specs.Running.{printed-room}

@@ -11,9 +11,9 @@ use Rattle.tree.specs.Laying.{laid, modes-in}
 use Rattle.tree.specs.Check.{tree-checked}
 use Rattle.tree.specs.declared.TreeChecked.{TreeChecked}
 use Rattle.tree.specs.declared.TreeChecked.the-variants.{Accepted, Refused as BadTree}
-use Rattle.tree.specs.Weight.{tree-weighed}
-use Rattle.tree.specs.declared.TreeWeighed.{TreeWeighed}
-use Rattle.tree.specs.declared.TreeWeighed.the-variants.{Weight, Unweighed}
+use Rattle.tree_weight.specs.Weight.{tree-weighed}
+use Rattle.tree_weight.specs.declared.TreeWeighed.{TreeWeighed}
+use Rattle.tree_weight.specs.declared.TreeWeighed.the-variants.{Weight, Unweighed}
 use Rattle.terms_text.specs.Input.{Said, given, malformed as terms-malformed, said}
 use Rattle.text.specs.Running.{Rooms}
 use Rattle.text.specs.Output.{line-of, node-lines, refusal-text}

@@ -13,8 +13,7 @@ use nodes_text::Nodes;
 use refusal::Refusal;
 use terms_text::Said;
 use text::output;
-use tree::TreeWeighed;
-use tree::weight;
+use tree_weight::TreeWeighed;
 
 // The weight of a table for the text of terms, in lent room for their numbers.
 fn weigh_read(table: &[u16], input: &[u8], numbers: &mut [u16]) -> TreeWeighed
@@ -25,7 +24,7 @@ fn weigh_read(table: &[u16], input: &[u8], numbers: &mut [u16]) -> TreeWeighed
         Said::Malformed(line) => TreeWeighed::Unweighed(Refusal::Malformed(line)),
         Said::Given(modes, count) => {
             let end = 8 * count;
-            weight::tree_weight(modes, table, &numbers[..end])
+            tree_weight::tree_weight(modes, table, &numbers[..end])
         }
     }
 }

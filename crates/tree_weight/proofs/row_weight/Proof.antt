@@ -9,10 +9,10 @@ use Rattle.lists.specs.Counting.{sum as total}
 use Rattle.lists.specs.Ranges.{listed}
 use Rattle.lists.proofs.Ranges.{sum-on, sum-done}
 use Rattle.terms.specs.Letters.{not-none}
-use Rattle.tree.specs.Weight.{node-weight, row-weight}
-use Rattle.tree.proofs.TreeWeighing.{row-start}
-use Rattle.tree.proofs.weight.row_weight.Statement.{statement}
-use Rattle.tree.proofs.weight.row_weight.Tie as tie
+use Rattle.tree_weight.specs.Weight.{node-weight, row-weight}
+use Rattle.tree_weight.proofs.TreeWeighing.{row-start}
+use Rattle.tree_weight.proofs.row_weight.Statement.{statement}
+use Rattle.tree_weight.proofs.row_weight.Tie as tie
 
 abbrev Inv-loop : tie.InvT-loop
 Inv-loop modes tree places term sum₀ node₀ sum node =

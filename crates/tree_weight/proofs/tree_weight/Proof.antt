@@ -5,13 +5,13 @@ use Rattle.refusal.proofs.Told.{tells}
 use Rattle.terms.specs.Good.{checked}
 use Rattle.terms.specs.declared.checking.Checked.the-variants.{Good}
 use Rattle.terms.proofs.GoodTerms.{accepted}
 use Rattle.tree.specs.declared.TreeChecked.the-variants.{Accepted}
 use Rattle.tree.specs.Check.{tree-checked}
-use Rattle.tree.specs.Weight.{tree-weighed, weighed-tree, weighed-terms}
-use Rattle.tree.specs.declared.TreeWeighed.the-variants.{Weight}
+use Rattle.tree_weight.specs.Weight.{tree-weighed, weighed-tree, weighed-terms}
+use Rattle.tree_weight.specs.declared.TreeWeighed.the-variants.{Weight}
 use Rattle.tree.proofs.AcceptedParts.{accepted-parts}
-use Rattle.tree.proofs.weight.tree_weight.Statement.{statement}
-use Rattle.tree.proofs.weight.tree_weight.Tie as tie
+use Rattle.tree_weight.proofs.tree_weight.Statement.{statement}
+use Rattle.tree_weight.proofs.tree_weight.Tie as tie
 
 check-tree-requires : tie.Need-check-tree-requires
 check-tree-requires c κs = search needs

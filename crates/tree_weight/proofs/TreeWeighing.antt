@@ -1,8 +1,9 @@
--- The tree weight step by step: along a term's indices, the nodes and the rows.
+-- The tree weight step by step: up from a code, along a term's indices, the nodes and the rows.
 use mathlib.Core.Path.{_≡_, ap, _∙_}
 use mathlib.Core.Bool.{true}
 use mathlib.Core.List.{List, [], map}
-use Prim.Native.Nat.{ℕ, suc, _+_, _-_, _*_, _<_, _≤_}
+use Prim.Native.Nat.{ℕ, suc, _+_, _-_, _*_, _/_, _%_, _<_, _≤_}
+use borrow.Author.Tests.{eq-eqb, ne-eqb, lt-ltb, le-ltb}
 use lib.Dec.{ltb}
 use lib.ListN.{length, getD, take, drop, drop-of-length-le, List·getD-map}
 use Rattle.lists.specs.Counting.{sum, same, occurrences}
@@ -15,9 +16,25 @@ use Rattle.terms.specs.Good.{good-term}
 use Rattle.terms.proofs.RowSteps.{terms-step, terms-end, length-terms, rows-at}
 use Rattle.terms.proofs.LetterLaws.{not-none-apart}
 use Rattle.terms.proofs.GoodTerms.{good-term-says}
-use Rattle.tree.specs.Weight.{edge-under, edges, node-letter, node-weight, row-weight, tree-weight, NoNodeWeightChanges}
-use Rattle.tree.specs.code.Promises.{GoodRows}
+use Rattle.tree.specs.Table.{place-of}
 use Rattle.tree.proofs.TableSteps.{nodes-start}
+use Rattle.tree_weight.specs.Weight.{edge-under, edges, node-letter, node-weight, row-weight, tree-weight, NoNodeWeightChanges}
+use Rattle.tree_weight.specs.code.Promises.{GoodRows}
+
+-- The edge of a node under which a code stands: none, its place's, or that of the node above it.
+module _ (table : List ℕ) (steps node code : ℕ) where
+  pub edge-none : length table ≤ place-of table code → edge-under table (suc steps) node code ≡ 3
+  unfolding edge-under
+  edge-none h = rw (le-ltb (place-of table code) (length table) h)
+
+  module _ (h : place-of table code < length table) where
+    pub edge-here : place-of table code / 3 ≡ node → edge-under table (suc steps) node code ≡ place-of table code % 3
+    unfolding edge-under
+    edge-here e = rw (lt-ltb (place-of table code) (length table) h, eq-eqb (place-of table code / 3) node e)
+
+    pub edge-above : (place-of table code / 3 ≡ node → ⊥) → edge-under table (suc steps) node code ≡ edge-under table steps node (place-of table code / 3)
+    unfolding edge-under
+    edge-above e = rw (lt-ltb (place-of table code) (length table) h, ne-eqb (place-of table code / 3) node e)
 
 -- Along a term's indices: the edges counted and those ahead are all.
 module _ (modes : ℕ) (table : List ℕ) (node : ℕ) (s : List ℕ) (at edge : ℕ) where

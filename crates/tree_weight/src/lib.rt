@@ -8,16 +8,22 @@ ghost use Rattle.lists.specs.Members.{every};
 ghost use Rattle.refusal.specs.Numbers.{Tells};
 ghost use Rattle.entities.specs.Limits.{«most-modes», «row-width»};
 ghost use Rattle.terms.specs.Rows.{«terms-of»};
-ghost use Rattle.tree.specs.code.Promises.{Places, GoodRows};
-ghost use Rattle.tree.specs.Weight.{«edge-under», «node-letter», «row-weight», «tree-weight», «tree-weighed», «weight-numbers»};
-use crate::TreeChecked;
-use crate::TreeWeighed;
-use crate::table;
+ghost use Rattle.tree_weight.specs.code.Promises.{Places, GoodRows};
+ghost use Rattle.tree_weight.specs.Weight.{«edge-under», «node-letter», «row-weight», «tree-weight», «tree-weighed», «weight-numbers»};
+use refusal::Refusal;
 use terms::checking;
 use terms::checking::Checked;
 use terms::letters;
 use terms::letters::Letter;
 use terms::row;
+use tree::TreeChecked;
+use tree::table;
+
+// What the tree weight says: the weight, or why it is refused.
+pub enum TreeWeighed {
+    Weight(u64),
+    Unweighed(Refusal),
+}
 
 // The place of each code below the table's length, so that the way up takes no search.
 fn fill_places(tree: &[u16], places: &mut [usize])
@@ -127,7 +133,7 @@ fn accepted_weight(modes: usize, tree: &[u16], terms: &[u16], count: usize) -> u
 pub fn tree_weight(modes: usize, tree: &[u16], terms: &[u16]) -> TreeWeighed
     ensures { λ r. ⌜ Tells weight-numbers (tree-weighed most-modes modes (now (tree .entry)) (now (terms .entry))) r ⌝ }
 {
-    match crate::check_tree(modes, tree) {
+    match tree::check_tree(modes, tree) {
         TreeChecked::Refused(refusal) => TreeWeighed::Unweighed(refusal),
         TreeChecked::Accepted => match checking::check_terms(modes, terms) {
             Checked::Refused(refusal) => TreeWeighed::Unweighed(refusal),

@@ -7,10 +7,10 @@ use borrow.Author.Needs.{needs}
 use lib.ListN.{drop}
 use Rattle.terms.specs.Rows.{terms-of}
 use Rattle.terms.proofs.RowSteps.{terms-start}
-use Rattle.tree.specs.Weight.{row-weight, tree-weight}
-use Rattle.tree.proofs.TreeWeighing.{tree-step, tree-end, indices-below}
-use Rattle.tree.proofs.weight.rows_weight.Statement.{statement}
-use Rattle.tree.proofs.weight.rows_weight.Tie as tie
+use Rattle.tree_weight.specs.Weight.{row-weight, tree-weight}
+use Rattle.tree_weight.proofs.TreeWeighing.{tree-step, tree-end, indices-below}
+use Rattle.tree_weight.proofs.rows_weight.Statement.{statement}
+use Rattle.tree_weight.proofs.rows_weight.Tie as tie
 
 abbrev Inv-loop : tie.InvT-loop
 Inv-loop modes tree places terms count sum₀ place₀ sum place =

@@ -7,10 +7,10 @@ use borrow.Author.Needs.{needs}
 use lib.ListN.{length, drop}
 use Rattle.lists.specs.Counting.{same, occurrences}
 use Rattle.lists.proofs.Every.{below-at}
-use Rattle.tree.specs.Weight.{edge-under, edges, node-letter}
-use Rattle.tree.proofs.TreeWeighing.{edges-step, edges-end}
-use Rattle.tree.proofs.weight.node_letter.Statement.{statement}
-use Rattle.tree.proofs.weight.node_letter.Tie as tie
+use Rattle.tree_weight.specs.Weight.{edge-under, edges, node-letter}
+use Rattle.tree_weight.proofs.TreeWeighing.{edges-step, edges-end}
+use Rattle.tree_weight.proofs.node_letter.Statement.{statement}
+use Rattle.tree_weight.proofs.node_letter.Tie as tie
 
 abbrev Inv-loop : tie.InvT-loop
 Inv-loop modes tree places term node xs₀ ys₀ zs₀ at₀ xs ys zs at = (at ≤ length term)

@@ -14,12 +14,12 @@ use Rattle.terms.specs.Letters.{counted-letter, not-none}
 use Rattle.terms.specs.declared.letters.Letter.{Letter}
 use Rattle.terms.specs.declared.checking.Checked.{Checked}
 use Rattle.terms.specs.declared.checking.Checked.the-variants.{Good, Refused as BadTerms}
 use Rattle.tree.specs.declared.TreeChecked.{TreeChecked}
 use Rattle.tree.specs.declared.TreeChecked.the-variants.{Accepted, Refused}
-use Rattle.tree.specs.declared.TreeWeighed.{TreeWeighed}
-use Rattle.tree.specs.declared.TreeWeighed.the-variants.{Weight, Unweighed}
 use Rattle.tree.specs.Table.{nodes, place-of}
 use Rattle.tree.specs.Check.{tree-checked}
+use Rattle.tree_weight.specs.declared.TreeWeighed.{TreeWeighed}
+use Rattle.tree_weight.specs.declared.TreeWeighed.the-variants.{Weight, Unweighed}
 
 -- The edge of a node under which a code stands, 0, 1 or 2, found by climbing; 3 where it stands under none.
 unfoldable pub edge-under : List ℕ → ℕ → ℕ → ℕ → ℕ

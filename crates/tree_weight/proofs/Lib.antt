@@ -1,0 +1,2 @@
+-- The laws of the tree weight.
+pub mod TreeWeighing
