@@ -69,8 +69,8 @@ module _ (triple : Triple) (parent count : ℕ) (before : List ℕ) where
       now-passed : terms-of 8 (place + 1) after ≡ passed ++ (reduced-row triple parent passed first ∷ [])
       unfolding first passed
       now-passed =
-          rw (r .put) (put-terms place rows (r .row) (p .held) (next-room h) (r .settled .whole))
-          ∙ ap (λ t. terms-of 8 place rows ++ (t ∷ [])) (rw (p .rest) at (r .settled .new-term))
+          rw (r .put) (put-terms place rows (r .row) (p .held) (next-room h) (r .whole))
+          ∙ ap (λ t. terms-of 8 place rows ++ (t ∷ [])) (rw (p .rest) at (r .new-term))
 
       gives-on : reduction triple parent (terms-of 8 count before)
           ≡ terms-of 8 (place + 1) after
@@ -85,14 +85,14 @@ module _ (triple : Triple) (parent count : ℕ) (before : List ℕ) where
           let e : 8 * place + 8 ≡ 8 * (place + 1) = omega arith in
           let onward : drop (8 * (place + 1)) rows ≡ drop (8 * (place + 1)) before =
           rw (← e, ← drop-drop 8 (8 * place) rows, ← drop-drop 8 (8 * place) before, p .rest) refl in
-          rw (r .put) (put-rest place rows (r .row) (p .held) (next-room h) (r .settled .whole)) ∙ onward
+          rw (r .put) (put-rest place rows (r .row) (p .held) (next-room h) (r .whole)) ∙ onward
 
       pub passing-on : Passing triple parent count before after (place + 1)
       passing-on =
           record {
             inside = omega arith;
-            held = rw (r .put) (put-held place rows (r .row) (p .held) (next-room h) (r .settled .whole) (r .settled .within) (r .settled .zeros));
-            same-length = rw (r .put) (put-length place rows (r .row) (p .held) (next-room h) (r .settled .whole)) ∙ p .same-length;
+            held = rw (r .put) (put-held place rows (r .row) (p .held) (next-room h) (r .whole) (r .within) (r .zeros));
+            same-length = rw (r .put) (put-length place rows (r .row) (p .held) (next-room h) (r .whole)) ∙ p .same-length;
             rest = rest-on;
             gives = gives-on;
           }

@@ -1,6 +1,6 @@
 -- One row reduced: what it becomes, and what the rows are with it written over itself.
 use mathlib.Core.Path.{_≡_, refl, ap, _∙_, sym}
-use mathlib.Core.Bool.{true, false, true≢false}
+use mathlib.Core.Bool.{true, false}
 use mathlib.Core.List.{List, [], _∷_, _++_}
 use Prim.Native.Nat.{ℕ, _+_, _*_, _<_, _≤_}
 use native.Mathlib.Nat.{add-zero}
@@ -14,9 +14,9 @@ use Rattle.lists.proofs.Written.{length-written, take-written, part-written, dr
 use Rattle.entities.specs.declared.Triple.{Triple}
 use Rattle.terms.specs.Rows.{term, terms-of}
 use Rattle.terms.specs.code.Held.{Held}
-use Rattle.terms.proofs.RowSteps.{row-length, row-first, row-front, terms-front, terms-more}
+use Rattle.terms.proofs.RowSteps.{row-length, row-first, row-front, terms-front, terms-more, held-fewer}
 use Rattle.reduction.specs.Reduction.{sorted, rewriting, dropped, stays, settled, reduced-row}
-use Rattle.reduction.specs.code.Promises.{Rewritten, RowSettled, RowReduced}
+use Rattle.reduction.specs.code.Promises.{Rewritten, RowBecame, RowSettled, RowReduced}
 
 -- What stands there written back leaves everything as it is.
 written-back : (place count : ℕ) (s : List ℕ) → place + count ≤ length s → written-at place (take count (drop place s)) s ≡ s
@@ -24,6 +24,13 @@ unfolding written-at
 written-back place count s room =
     let size : length (take count (drop place s)) ≡ count = simp (length-take, length-drop) (omega arith) in
     rw (size, ← drop-drop count place s, take-append-drop count (drop place s)) (take-append-drop place s)
+
+-- Of two parts of one length written over the same place, the second stands there.
+written-over : (place : ℕ) (part other s : List ℕ) → place + length part ≤ length s → length part ≡ length other
+    → written-at place other (written-at place part s) ≡ written-at place other s
+unfolding written-at
+written-over place part other s room same =
+    rw (take-written place part s room, drop-written place part s room (place + length other) (omega arith))
 
 pub no-term : (row : List ℕ) → getD row 0 0 ≡ 0 → term row ≡ []
 unfolding term
@@ -33,24 +40,6 @@ no-term row none = rw none
 pub empty-goes : (parent : ℕ) (before : List (List ℕ)) → stays parent before [] ≡ false
 unfolding stays dropped every
 empty-goes parent before = refl
-
-module _ (triple : Triple) (parent place : ℕ) (rows : List ℕ) where
-  pub row-stays : (aside : List ℕ) → length aside ≡ 8 → getD aside 0 0 < 8
-      → Rewritten triple parent (take 8 (drop (8 * place) rows)) aside
-      → stays parent (terms-of 8 place rows) (term aside) ≡ true → RowSettled triple parent place rows aside
-  unfolding reduced-row settled
-  row-stays aside whole within r e =
-      record {
-        whole = whole;
-        new-term = rw (← r .new-term, e);
-        within = within;
-        zeros = λ none. absurd (true≢false (sym e ∙ ap (stays parent (terms-of 8 place rows)) (no-term aside none) ∙ empty-goes parent (terms-of 8 place rows)));
-      }
-
-  pub row-goes : stays parent (terms-of 8 place rows) (rewriting triple parent (term (take 8 (drop (8 * place) rows)))) ≡ false
-      → RowSettled triple parent place rows (replicate 8 0)
-  unfolding reduced-row settled term
-  row-goes e = record { whole = refl; new-term = rw e; within = omega arith; zeros = λ none. refl }
 
 -- The rows after one was written behind so many others.
 module _ (place : ℕ) (before row : List ℕ) (held : Held 8 place before) (room : 8 * place + 8 ≤ length before) (whole : length row ≡ 8) where
@@ -100,31 +89,84 @@ module _ (place : ℕ) (before row : List ℕ) (held : Held 8 place before) (roo
   pub put-length : length (written-at (8 * place) row before) ≡ length before
   put-length = length-written (8 * place) row before fits
 
--- A row that is gone already stays gone, as it is.
-module _ (triple : Triple) (parent place : ℕ) (rows : List ℕ) (held : Held 8 (place + 1) rows) (none : getD rows (8 * place) 0 ≡ 0) where
+-- A row that stands among rows that are held.
+module _ (place : ℕ) (rows : List ℕ) (held : Held 8 (place + 1) rows) where
   abbrev here : List ℕ
   here = take 8 (drop (8 * place) rows)
 
-  room-here : 8 * place + 8 ≤ length rows
+  pub room-here : 8 * place + 8 ≤ length rows
   room-here = omega (arith, held .room)
 
-  pub gone-term : term here ≡ []
-  gone-term = no-term here (row-first 8 place rows room-here (omega arith) ∙ none)
+  first-here : getD here 0 0 ≡ getD rows (8 * place) 0
+  first-here = row-first 8 place rows room-here (omega arith)
 
-  gone-settled : RowSettled triple parent place rows here
-  unfolding reduced-row settled rewriting sorted
-  gone-settled =
-      record {
-        whole = row-length 8 place rows room-here;
-        new-term = gone-term ∙ sym (rw (gone-term, empty-goes parent (terms-of 8 place rows)));
-        within = rw (row-first 8 place rows room-here (omega arith), none) (omega arith);
-        zeros = λ e. held .zeros place (omega arith) none;
-      }
-
-  pub stays-gone : RowReduced triple parent place rows rows
-  stays-gone =
+  -- It is left as it is.
+  left-alone : RowBecame place (term here) rows rows
+  left-alone =
       record {
         row = here;
-        settled = gone-settled;
+        whole = row-length 8 place rows room-here;
+        new-term = refl;
+        within = rw first-here (held .within place (omega arith));
+        zeros = λ none. held .zeros place (omega arith) (sym first-here ∙ none);
         put = sym (written-back (8 * place) 8 rows room-here);
       }
+
+  -- Settled, it is left or cleared.
+  module _ (parent : ℕ) where
+    pub row-stays : stays parent (terms-of 8 place rows) (term here) ≡ true → RowSettled parent place rows rows
+    unfolding settled
+    row-stays e = rw e left-alone
+
+    pub row-goes : stays parent (terms-of 8 place rows) (term here) ≡ false
+        → RowSettled parent place rows (written-at (8 * place) (replicate 8 0) rows)
+    unfolding settled term
+    row-goes e = record { row = replicate 8 0; whole = refl; new-term = rw e; within = omega arith; zeros = λ none. refl; put = refl }
+
+  pub cleared-terms : terms-of 8 (place + 1) (written-at (8 * place) (replicate 8 0) rows) ≡ terms-of 8 place rows ++ ([] ∷ [])
+  unfolding term
+  cleared-terms = put-terms place rows (replicate 8 0) (held-fewer 8 place rows held) room-here refl
+
+  module _ (triple : Triple) (parent : ℕ) where
+    -- Where it is gone already, it is reduced as it is.
+    module _ (none : getD rows (8 * place) 0 ≡ 0) where
+      pub gone-term : term here ≡ []
+      gone-term = no-term here (first-here ∙ none)
+
+      pub stays-gone : RowReduced triple parent place rows rows
+      unfolding reduced-row settled rewriting sorted
+      stays-gone =
+          let e : reduced-row triple parent (terms-of 8 place rows) (term here) ≡ term here =
+          rw (gone-term, empty-goes parent (terms-of 8 place rows)) refl in
+          rw e left-alone
+
+    -- Else its term is rewritten first, and the row that this makes is settled.
+    module _ (some : getD rows (8 * place) 0 ≡ 0 → ⊥) (row : List ℕ) (whole : length row ≡ 8) (r : Rewritten triple parent here row) where
+      abbrev between : List ℕ
+      between = written-at (8 * place) row rows
+
+      pub between-held : Held 8 (place + 1) between
+      between-held =
+          put-held place rows row (held-fewer 8 place rows held) room-here whole
+          (rw (r .same-length, first-here) (held .within place (omega arith)))
+          (λ none. absurd (some (sym first-here ∙ sym (r .same-length) ∙ none)))
+
+      pub between-terms : terms-of 8 place between ≡ terms-of 8 place rows
+      unfolding after
+      between-terms = terms-front 8 place between rows (same-front place rows row (held-fewer 8 place rows held) room-here whole)
+
+      between-row : take 8 (drop (8 * place) between) ≡ row
+      unfolding after
+      between-row = row-there place rows row (held-fewer 8 place rows held) room-here whole
+
+      pub then-settled : (later : List ℕ) → RowSettled parent place between later → RowReduced triple parent place rows later
+      unfolding reduced-row
+      then-settled later s =
+          record {
+            row = s .row;
+            whole = s .whole;
+            new-term = s .new-term ∙ rw (between-terms, between-row, r .new-term) refl;
+            within = s .within;
+            zeros = s .zeros;
+            put = s .put ∙ written-over (8 * place) row (s .row) rows (rw whole room-here) (rw (whole, s .whole) refl);
+          }

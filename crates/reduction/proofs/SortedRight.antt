@@ -84,7 +84,7 @@ module _ (test : ℕ → Bool) where
       let p = every-uncons test number l e in
       every-put-in number (sorted l) (p .0) (every-sorted l (p .1))
 
-put-in-first : (number : ℕ) (l : List ℕ) → ascends-from number l ≡ true → put-in number l ≡ number ∷ l
+pub put-in-first : (number : ℕ) (l : List ℕ) → ascends-from number l ≡ true → put-in number l ≡ number ∷ l
 unfolding put-in
 put-in-first number [] e = refl
 put-in-first number (next ∷ l) e =

@@ -1,12 +1,11 @@
-// The rows passed: whether one of them has a term, and the next one written over itself. Marks tell most new terms from them without a search.
+// The rows passed: whether one of them has a term. Marks tell most new terms from them without a search.
 ghost use mathlib.Core.Bool.{true};
 ghost use mathlib.Core.Path.{_≡_};
-ghost use Prim.Native.Nat.{_+_, _*_, _≤_, _<_};
-ghost use lib.ListN.{length, getD, set};
+ghost use Prim.Native.Nat.{_<_};
+ghost use lib.ListN.{length, set};
 ghost use Rattle.lists.specs.Members.{«some-of», alike};
-ghost use Rattle.lists.specs.Written.{«written-at»};
 ghost use Rattle.entities.specs.Limits.{«row-width»};
-ghost use Rattle.terms.specs.Rows.{term as «term-in», «terms-of»};
+ghost use Rattle.terms.specs.Rows.{«terms-of»};
 ghost use Rattle.terms.specs.code.Held.{Held};
 ghost use Rattle.reduction.specs.code.Marks.{«mark-room», «mark-of», Marked};
 use terms::row;
@@ -54,26 +53,11 @@ pub fn is_kept<'a>(rows: &'a [u16], count: usize, marks: &'a [bool], term: &[u16
     has_term(rows, count, term)
 }
 
-// The row written over the one at this place.
-pub fn put_row(rows: &mut [u16], place: usize, row: &[u16])
-    requires { ⌜ length (now row) ≡ row-width ⌝ }
-    requires { ⌜ row-width * place + row-width ≤ length (now rows) ⌝ }
-    ensures { λ r. ⌜ now (rows .exit) ≡ written-at (row-width * place) (now (row .entry)) (now (rows .entry)) ⌝ }
-{
-    let from = 8 * place;
-    let end = from + 8;
-    slices::copy(row, &mut rows[from..end]);
-}
-
-// The row written over the one at this place, and its term's mark set.
-pub fn keep_row(rows: &mut [u16], marks: &mut [bool], place: usize, row: &[u16])
-    requires { ⌜ (length (now row) ≡ row-width) × (getD (now row) 0 0 < row-width) ⌝ }
-    requires { ⌜ row-width * place + row-width ≤ length (now rows) ⌝ }
+// The term's mark set.
+pub fn set_mark(marks: &mut [bool], term: &[u16])
     requires { ⌜ length (now marks) ≡ mark-room ⌝ }
-    ensures { λ r. ⌜ now (rows .exit) ≡ written-at (row-width * place) (now (row .entry)) (now (rows .entry)) ⌝ }
-    ensures { λ r. ⌜ now (marks .exit) ≡ set (now (marks .entry)) (mark-of mark-room (term-in (now (row .entry)))) true ⌝ }
+    ensures { λ r. ⌜ now (marks .exit) ≡ set (now (marks .entry)) (mark-of mark-room (now (term .entry))) true ⌝ }
 {
-    let mark = mark_of(row::term_of(row));
+    let mark = mark_of(term);
     marks[mark] = true;
-    put_row(rows, place, row);
 }

@@ -1,12 +1,15 @@
 // Reduction: the triple becomes its parent in every row, rows that are all parent are dropped, equal rows become one.
+ghost use mathlib.Core.Bool.{true};
 ghost use mathlib.Core.Path.{_≡_};
-ghost use Prim.Native.Nat.{_+_, _<_, min, max};
-ghost use lib.ListN.{length, getD, drop};
+ghost use Prim.Native.Nat.{_+_, _*_, _≤_, _<_};
+ghost use lib.ListN.{length, getD, drop, replicate};
+ghost use Rattle.lists.specs.Ranges.{ascends};
+ghost use Rattle.lists.specs.Written.{«written-at»};
 ghost use Rattle.entities.specs.Limits.{«row-width»};
 ghost use Rattle.terms.specs.Rows.{«terms-of»};
 ghost use Rattle.terms.specs.code.Held.{Held};
 ghost use Rattle.reduction.specs.Reduction.{replacement, «put-in», rewriting, stays};
-ghost use Rattle.reduction.specs.code.Promises.{Rewritten, RowSettled, RowReduced, Reduced};
+ghost use Rattle.reduction.specs.code.Promises.{«term-at», Rewritten, RowSettled, RowReduced, Reduced};
 ghost use Rattle.reduction.specs.code.Marks.{«mark-room», Marked};
 use entities::Triple;
 use terms::row;
@@ -15,33 +18,24 @@ use terms::slices;
 mod kept_rows;
 pub mod live_rows;
 
-fn smaller(a: u16, b: u16) -> u16
-    ensures { λ r. ⌜ r ≡ min a b ⌝ }
-{
-    if b < a { b } else { a }
-}
-
-fn larger(a: u16, b: u16) -> u16
-    ensures { λ r. ⌜ r ≡ max a b ⌝ }
-{
-    if b < a { a } else { b }
-}
-
-// The numbers after the first, with this one put in before the first that is larger.
+// The number put in among those after the first, which ascend: the smaller ones slide one place to the front, and it stands where that stops.
 fn insert(numbers: &mut [u16], number: u16)
     requires { ⌜ 0 < length (now numbers) ⌝ }
+    requires { ⌜ ascends (drop 1 (now numbers)) ≡ true ⌝ }
     ensures { λ r. ⌜ now (numbers .exit) ≡ put-in number (drop 1 (now (numbers .entry))) ⌝ }
 {
-    let mut carried = number;
     let last = numbers.len() - 1;
     let mut at = 0;
     while at < last {
         let next = numbers[at + 1];
-        numbers[at] = smaller(carried, next);
-        carried = larger(carried, next);
+        if number <= next {
+            numbers[at] = number;
+            return;
+        }
+        numbers[at] = next;
         at += 1;
     }
-    numbers[last] = carried;
+    numbers[last] = number;
 }
 
 // The parent for each of the triple, any other number for itself.
@@ -81,48 +75,45 @@ fn rewrite_row(row: &mut [u16], triple: Triple, parent: u16)
     rewrite(&mut row[1..end], triple, parent);
 }
 
-// The row copied aside and the copy rewritten.
-fn rewritten(row: &[u16], triple: Triple, parent: u16) -> [u16; 8]
-    requires { ⌜ (length (now row) ≡ row-width) × (getD (now row) 0 0 < row-width) ⌝ }
-    ensures { λ r. ⌜ (length r ≡ row-width) × Rewritten triple parent (now (row .entry)) r ⌝ }
-{
-    let mut aside = [0u16; 8];
-    slices::copy(row, &mut aside);
-    rewrite_row(&mut aside, triple, parent);
-    aside
-}
-
-// The term is not all parent, and none of the first `count` rows has it.
-fn survives<'a>(rows: &'a [u16], count: usize, marks: &'a [bool], term: &[u16], parent: u16) -> bool
-    requires { ⌜ Held row-width count (now rows) ⌝ }
-    requires { ⌜ length (now marks) ≡ mark-room ⌝ }
-    requires { ⌜ Marked mark-room (terms-of row-width count (now rows)) (now marks) ⌝ }
-    ensures { λ r. ⌜ r ≡ stays parent (terms-of row-width count (now (rows .entry))) (now (term .entry)) ⌝ }
-{
-    if slices::all_are(term, parent) {
-        return false;
-    }
-    !kept_rows::is_kept(rows, count, marks, term)
-}
-
-// What the row at this place becomes: its term rewritten where that stays, else zeros.
-fn settled_row<'a>(
-    rows: &'a [u16],
-    marks: &'a [bool],
-    place: usize,
-    triple: Triple,
-    parent: u16,
-) -> [u16; 8]
+// The term of the row at this place is not all parent, and none of the rows before it has it.
+fn survives<'a>(rows: &'a [u16], place: usize, marks: &'a [bool], parent: u16) -> bool
     requires { ⌜ Held row-width (place + 1) (now rows) ⌝ }
     requires { ⌜ length (now marks) ≡ mark-room ⌝ }
     requires { ⌜ Marked mark-room (terms-of row-width place (now rows)) (now marks) ⌝ }
-    ensures { λ r. ⌜ RowSettled triple parent place (now (rows .entry)) r ⌝ }
+    ensures { λ r. ⌜ r ≡ stays parent (terms-of row-width place (now (rows .entry))) (term-at place (now (rows .entry))) ⌝ }
 {
-    let aside = rewritten(row::row_at(rows, place), triple, parent);
-    if survives(rows, place, marks, row::term_of(&aside), parent) {
-        return aside;
+    let term = row::term_at(rows, place);
+    if slices::all_are(term, parent) {
+        return false;
     }
-    [0u16; 8]
+    !kept_rows::is_kept(rows, place, marks, term)
+}
+
+// Zeros written over the row at this place.
+fn clear_row(rows: &mut [u16], place: usize)
+    requires { ⌜ row-width * place + row-width ≤ length (now rows) ⌝ }
+    ensures { λ r. ⌜ now (rows .exit) ≡ written-at (row-width * place) (replicate row-width 0) (now (rows .entry)) ⌝ }
+{
+    let from = 8 * place;
+    let end = from + 8;
+    slices::fill(&mut rows[from..end], 0);
+}
+
+// The row at this place left as it is where its term stays, else made zeros; the mark of what stands there then is set.
+fn settle_row(rows: &mut [u16], marks: &mut [bool], place: usize, parent: u16)
+    requires { ⌜ Held row-width (place + 1) (now rows) ⌝ }
+    requires { ⌜ length (now marks) ≡ mark-room ⌝ }
+    requires { ⌜ Marked mark-room (terms-of row-width place (now rows)) (now marks) ⌝ }
+    ensures { λ r. ⌜ RowSettled parent place (now (rows .entry)) (now (rows .exit)) ⌝ }
+    ensures { λ r. ⌜ Marked mark-room (terms-of row-width (place + 1) (now (rows .exit))) (now (marks .exit)) ⌝ }
+{
+    if survives(rows, place, marks, parent) {
+        kept_rows::set_mark(marks, row::term_at(rows, place));
+        return;
+    }
+    clear_row(rows, place);
+    // the empty term's mark is 0
+    marks[0] = true;
 }
 
 // The row at this place reduced where it stands, and the mark of what it becomes set.
@@ -133,13 +124,15 @@ fn reduce_row(rows: &mut [u16], marks: &mut [bool], place: usize, triple: Triple
     ensures { λ r. ⌜ RowReduced triple parent place (now (rows .entry)) (now (rows .exit)) ⌝ }
     ensures { λ r. ⌜ Marked mark-room (terms-of row-width (place + 1) (now (rows .exit))) (now (marks .exit)) ⌝ }
 {
-    // a row that is gone stays gone; the empty term's mark is 0
-    if rows[8 * place] == 0 {
+    let from = 8 * place;
+    // a row that is gone stays gone
+    if rows[from] == 0 {
         marks[0] = true;
         return;
     }
-    let row = settled_row(rows, marks, place, triple, parent);
-    kept_rows::keep_row(rows, marks, place, &row);
+    let end = from + 8;
+    rewrite_row(&mut rows[from..end], triple, parent);
+    settle_row(rows, marks, place, parent);
 }
 
 // The first rows reduced to the parent, each where it stands; a row that is dropped or merged is zeros there.

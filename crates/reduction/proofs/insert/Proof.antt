@@ -1,29 +1,32 @@
--- What is written, with the carried number put into what is ahead, is always the answer; the last write puts the carried number at the end.
-use mathlib.Core.Path.{_≡_, _∙_}
+-- What is written, with the number put into what is ahead, is always the answer; the number stops before the first that is not smaller, or at the end.
+use mathlib.Core.Path.{_≡_, refl, _∙_}
+use mathlib.Core.Bool.{true}
 use mathlib.Core.List.{_++_}
-use Prim.Native.Nat.{_≤_, _-_, _+_}
+use Prim.Native.Nat.{_<_, _≤_, _-_, _+_}
 use native.Mathlib.Omega.{arith}
 use borrow.Author.Needs.{needs}
-use lib.ListN.{length, take, drop, length-set}
+use lib.ListN.{length, getD, take, drop, length-set}
+use Rattle.lists.specs.Ranges.{ascends}
 use Rattle.reduction.specs.Reduction.{put-in}
-use Rattle.reduction.proofs.Sorting.{put-in-step, put-in-end}
+use Rattle.reduction.proofs.Sorting.{put-in-slides, slides-ascending, put-in-stops, put-in-end}
 use Rattle.reduction.proofs.insert.Statement.{statement}
 use Rattle.reduction.proofs.insert.Tie as tie
 
 abbrev Inv-loop : tie.InvT-loop
-Inv-loop numbers₀ number carried₀ last at₀ numbers carried at =
+Inv-loop numbers₀ number last at₀ numbers at =
     (at ≤ last)
     × (length numbers ≡ last + 1)
-    × (take at numbers ++ put-in carried (drop (at + 1) numbers) ≡ put-in number (drop 1 numbers₀))
+    × (ascends (drop (at + 1) numbers) ≡ true)
+    × (take at numbers ++ put-in number (drop (at + 1) numbers) ≡ put-in number (drop 1 numbers₀))
 
 abbrev μ-loop : tie.MeasureT-loop
-μ-loop numbers₀ number carried₀ last at₀ numbers carried at = last - at
+μ-loop numbers₀ number last at₀ numbers at = last - at
 
 sub-last : tie.Need-sub-last Inv-loop μ-loop
 sub-last c = search needs
 
 loop-holds : tie.Need-loop-holds Inv-loop μ-loop
-loop-holds c = search needs
+loop-holds c = (search needs, search needs, c .pre .1, refl)
 
 add-next : tie.Need-add-next Inv-loop μ-loop
 add-next c = search needs
@@ -34,17 +37,26 @@ mul-next c = search needs
 slice-read-next : tie.Need-slice-read-next Inv-loop μ-loop
 slice-read-next c = search needs
 
-smaller-requires : tie.Need-smaller-requires Inv-loop μ-loop
-smaller-requires c κs = search needs
-
 mul-numbers : tie.Need-mul-numbers Inv-loop μ-loop
 mul-numbers c = search needs
 
 slice-write-numbers : tie.Need-slice-write-numbers Inv-loop μ-loop
 slice-write-numbers c = search needs
 
-larger-requires : tie.Need-larger-requires Inv-loop μ-loop
-larger-requires c κs = search needs
+same-length : tie.Need-same-length Inv-loop μ-loop
+same-length c = simp length-set (omega arith)
+
+returns : tie.Need-returns Inv-loop μ-loop
+returns c =
+    let here = c .before .before .before in
+    put-in-stops (here .loop .numbers) (here .loop .at) (here .before .args .number) (omega arith) (c .if1 .taken) (here .loop .inv .2)
+    ∙ here .loop .inv .3
+
+mul-numbers-2 : tie.Need-mul-numbers-2 Inv-loop μ-loop
+mul-numbers-2 c = search needs
+
+slice-write-numbers-2 : tie.Need-slice-write-numbers-2 Inv-loop μ-loop
+slice-write-numbers-2 c = search needs
 
 add-at : tie.Need-add-at Inv-loop μ-loop
 add-at c = search needs
@@ -54,30 +66,33 @@ loop-less c = search needs
 
 loop-again : tie.Need-loop-again Inv-loop μ-loop
 loop-again c =
-    let here = c .before .before .before .before in
+    let here = c .before .before .before in
     let s = here .loop .numbers in
-    let at = here .loop .at in (
+    let at = here .loop .at in
+    let number = here .before .args .number in
+    let inside : at + 1 < length s = omega arith in
+    let smaller : getD s (at + 1) 0 < number = omega arith in (
       omega arith,
       simp length-set (omega arith),
-      put-in-step s at (here .loop .carried) _ _ (omega arith) (c .before .smaller .ensures) (c .larger .ensures)
-          ∙ here .loop .inv .2,
+      slides-ascending s at number inside (here .loop .inv .2),
+      put-in-slides s at number inside smaller ∙ here .loop .inv .3,
     )
 
-mul-numbers-2 : tie.Need-mul-numbers-2 Inv-loop μ-loop
-mul-numbers-2 c = search needs
+mul-numbers-3 : tie.Need-mul-numbers-3 Inv-loop μ-loop
+mul-numbers-3 c = search needs
 
-slice-write-numbers-2 : tie.Need-slice-write-numbers-2 Inv-loop μ-loop
-slice-write-numbers-2 c = search needs
+slice-write-numbers-3 : tie.Need-slice-write-numbers-3 Inv-loop μ-loop
+slice-write-numbers-3 c = search needs
 
-same-length : tie.Need-same-length Inv-loop μ-loop
-same-length c = simp length-set (omega arith)
+same-length-2 : tie.Need-same-length-2 Inv-loop μ-loop
+same-length-2 c = simp length-set (omega arith)
 
-returns : tie.Need-returns Inv-loop μ-loop
-returns c =
+returns-2 : tie.Need-returns-2 Inv-loop μ-loop
+returns-2 c =
     let here = c .before in
-    let last = length (here .before .before .args .numbers .now) - 1 in
+    let last = length (here .before .args .numbers .now) - 1 in
     let e : here .loop .at ≡ last = omega arith in
-    put-in-end (here .loop .numbers) last (here .loop .carried) (omega arith) ∙ rw e at (here .loop .inv .2)
+    put-in-end (here .loop .numbers) last (here .before .args .number) (omega arith) ∙ rw e at (here .loop .inv .3)
 
 pub insert-spec : {M : Type 1} → statement M
 insert-spec =
@@ -90,14 +105,16 @@ insert-spec =
     add-next
     mul-next
     slice-read-next
-    smaller-requires
     mul-numbers
     slice-write-numbers
-    larger-requires
+    same-length
+    returns
+    mul-numbers-2
+    slice-write-numbers-2
     add-at
     loop-less
     loop-again
-    mul-numbers-2
-    slice-write-numbers-2
-    same-length
-    returns)
+    mul-numbers-3
+    slice-write-numbers-3
+    same-length-2
+    returns-2)

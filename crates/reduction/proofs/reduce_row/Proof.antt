@@ -1,22 +1,49 @@
--- What the row becomes is written over it, and its mark is one more that is set; a row that is gone has the empty term's.
+-- A row that is gone is left, with the empty term's mark; any other is rewritten where it stands, and then settled.
+use mathlib.Core.Path.{_≡_, _∙_, sym}
 use mathlib.Core.List.{[]}
-use Prim.Native.Nat.{_+_, _*_, _≤_}
+use Prim.Native.Nat.{_+_, _-_, _*_}
+use native.Mathlib.Nat.{add-sub-cancel-left}
 use native.Mathlib.Omega.{arith}
 use borrow.Author.Needs.{needs}
-use lib.ListN.{length}
-use Rattle.terms.specs.Rows.{term, terms-of}
-use Rattle.terms.proofs.RowSteps.{terms-more, held-fewer}
+use borrow.Rule.Slice.PartMut.{putMid}
+use lib.ListN.{length, take, drop}
+use Rattle.lists.specs.Written.{written-at}
+use Rattle.lists.proofs.Written.{put-written}
+use Rattle.terms.specs.Rows.{terms-of}
+use Rattle.terms.proofs.RowSteps.{row-length, row-first, terms-more}
 use Rattle.reduction.specs.code.Marks.{mark-after, mark-of}
-use Rattle.reduction.proofs.RowReduced.{put-terms, gone-term, stays-gone}
-use Rattle.reduction.proofs.MarkedRows.{mark-below, marked-more}
+use Rattle.reduction.specs.code.Promises.{Rewritten}
+use Rattle.reduction.proofs.RowReduced.{room-here, gone-term, stays-gone, between-held, between-terms, then-settled}
+use Rattle.reduction.proofs.MarkedRows.{marked-more}
 use Rattle.reduction.proofs.reduce_row.Statement.{statement}
 use Rattle.reduction.proofs.reduce_row.Tie as tie
 
+-- The part that was lent is the row, and it came back as the row rewritten.
+row-rewritten : (c : tie.After-rewrite-row)
+    → Rewritten (c .before .before .before .before .before .before .args .triple) (c .before .before .before .before .before .before .args .parent)
+    (take 8 (drop (8 * c .before .before .before .before .before .before .args .place) (c .before .before .before .before .before .before .args .rows .now)))
+    (c .rewrite-row .last .0)
+row-rewritten c = rw add-sub-cancel-left at (c .rewrite-row .ensures)
+
+whole-row : (c : tie.After-rewrite-row) → length (c .rewrite-row .last .0) ≡ 8
+whole-row c =
+    let start = c .before .before .before .before .before .before in
+    let place = start .args .place in
+    let rows = start .args .rows .now in
+    c .rewrite-row .kept .0 ∙ rw add-sub-cancel-left (row-length 8 place rows (room-here place rows (start .pre .0)))
+
+put-back : (c : tie.After-rewrite-row) → (let args = c .before .before .before .before .before .before .args in
+    putMid (8 * args .place) (8 * args .place + 8 - 8 * args .place) (args .rows .now) (c .rewrite-row .last .0)
+    ≡ written-at (8 * args .place) (c .rewrite-row .last .0) (args .rows .now))
+put-back c =
+    let args = c .before .before .before .before .before .before .args in
+    put-written (8 * args .place) (c .rewrite-row .last .0) (args .rows .now) _ (whole-row c ∙ sym (add-sub-cancel-left (8 * args .place) 8))
+
+mul-from : tie.Need-mul-from
+mul-from c = let start = c .before .before in omega (arith, start .pre .0 .room)
+
 mul-if1 : tie.Need-mul-if1
 mul-if1 c = let start = c .before .before in omega (arith, start .pre .0 .room)
-
-mul-if1-2 : tie.Need-mul-if1-2
-mul-if1-2 c = let start = c .before .before in omega (arith, start .pre .0 .room)
 
 slice-read-if1 : tie.Need-slice-read-if1
 slice-read-if1 c = let start = c .before .before .before in omega (arith, start .pre .0 .room)
@@ -35,19 +62,50 @@ returns c =
     let rows = args .rows .now in
     let none = c .if1 .taken in
     let marks = start .pre .1 in (
-      stays-gone (args .triple) (args .parent) (args .place) rows (start .pre .0) none,
-      rw (terms-more 8 (args .place) rows, gone-term (args .triple) (args .parent) (args .place) rows (start .pre .0) none)
+      stays-gone (args .place) rows (start .pre .0) (args .triple) (args .parent) none,
+      rw (terms-more 8 (args .place) rows, gone-term (args .place) rows (start .pre .0) (args .triple) (args .parent) none)
           (marked-more 16384 (terms-of 8 (args .place) rows) (args .marks .now) (marks .1) [] (omega (arith, marks .0))),
     )
 
-settled-row-requires : tie.Need-settled-row-requires
-settled-row-requires c κs = search needs
+add-end : tie.Need-add-end
+add-end c = search needs
 
-slice-aggregate-keep-row : tie.Need-slice-aggregate-keep-row
-slice-aggregate-keep-row c = search needs
+mul-rewrite-row : tie.Need-mul-rewrite-row
+mul-rewrite-row c = search needs
 
-keep-row-requires : tie.Need-keep-row-requires
-keep-row-requires c κs = search needs
+sub-rewrite-row : tie.Need-sub-rewrite-row
+sub-rewrite-row c = search needs
+
+part-rewrite-row-start : tie.Need-part-rewrite-row-start
+part-rewrite-row-start c = search needs
+
+part-rewrite-row-end : tie.Need-part-rewrite-row-end
+part-rewrite-row-end c = search needs
+
+rewrite-row-requires : tie.Need-rewrite-row-requires
+rewrite-row-requires c κs =
+    let start = c .before .before .before .before .before in
+    let place = start .args .place in
+    let rows = start .args .rows .now in
+    let room = room-here place rows (start .pre .0) in
+    rw (add-sub-cancel-left, row-length 8 place rows room, row-first 8 place rows room (omega arith)) (start .pre .0 .within place (omega arith))
+
+settle-row-requires : tie.Need-settle-row-requires
+settle-row-requires c κs =
+    let made = c .before .before .before .before in
+    let start = made .before .before .before .before .before .before in
+    let args = start .args in
+    let rows = args .rows .now in
+    let held = start .pre .0 in
+    let some = made .before .before .if1 .left in
+    let row = made .rewrite-row .last .0 in
+    rw (put-back made) (
+      between-held (args .place) rows held (args .triple) (args .parent) some row (whole-row made) (row-rewritten made),
+      (
+        start .pre .1 .0,
+        rw (between-terms (args .place) rows held (args .triple) (args .parent) some row (whole-row made) (row-rewritten made)) (start .pre .1 .1),
+      ),
+    )
 
 same-length-2 : tie.Need-same-length-2
 same-length-2 c = search needs
@@ -57,35 +115,33 @@ same-length-3 c = search needs
 
 returns-2 : tie.Need-returns-2
 returns-2 c =
-    let kept = c .before .before .before .before in
-    let made = kept .before .before .before .before in
-    let start = made .before .before .before .before .before .before .before in
-    let args = start .args in
-    let rows = args .rows .now in
-    let row = made .settled-row .result in
-    let settled = made .settled-row .ensures in
-    let put = kept .keep-row .ensures in
-    let held = start .pre .0 in
-    let room : 8 * args .place + 8 ≤ length rows = omega (arith, held .room) in (
-      record { row = row; settled = settled; put = put .0 },
-      rw (put .0, put .1, put-terms (args .place) rows row (held-fewer 8 (args .place) rows held) room (settled .whole))
-          (marked-more 16384 (terms-of 8 (args .place) rows) (args .marks .now) (start .pre .1 .1) (term row)
-          (rw (start .pre .1 .0) (mark-below 16384 (omega arith) (term row)))),
+    let settled = c .before .before .before .before in
+    let made = settled .before .before .before .before .before in
+    let start = made .before .before .before .before .before .before in
+    let args = start .args in (
+      then-settled (args .place) (args .rows .now) (start .pre .0) (args .triple) (args .parent) (made .before .before .if1 .left)
+          (made .rewrite-row .last .0) (whole-row made) (row-rewritten made) (settled .settle-row .last .0)
+          (rw (put-back made) at (settled .settle-row .ensures .0)),
+      settled .settle-row .ensures .1,
     )
 
 pub reduce-row-spec : {M : Type 1} → statement M
 reduce-row-spec =
     tie.close
     (tie.spec
+    mul-from
     mul-if1
-    mul-if1-2
     slice-read-if1
     slice-write-marks
     same-length
     returns
-    settled-row-requires
-    slice-aggregate-keep-row
-    keep-row-requires
+    add-end
+    mul-rewrite-row
+    sub-rewrite-row
+    part-rewrite-row-start
+    part-rewrite-row-end
+    rewrite-row-requires
+    settle-row-requires
     same-length-2
     same-length-3
     returns-2)

@@ -5,7 +5,7 @@ use native.Mathlib.Omega.{arith}
 use borrow.Author.Needs.{needs}
 use lib.ListN.{length, take, drop}
 use Rattle.reduction.specs.Reduction.{rewriting}
-use Rattle.reduction.proofs.Sorting.{rewritten-none, rewrite-step}
+use Rattle.reduction.proofs.Sorting.{rewritten-none, rest-ascends, rewrite-step}
 use Rattle.reduction.proofs.rewrite.Statement.{statement}
 use Rattle.reduction.proofs.rewrite.Tie as tie
 
@@ -47,7 +47,16 @@ part-insert-end : tie.Need-part-insert-end Inv-loop μ-loop
 part-insert-end c = search needs
 
 insert-requires : tie.Need-insert-requires Inv-loop μ-loop
-insert-requires c κs = search needs
+insert-requires c κs =
+    let here = c .before .before .before .before in
+    let args = here .before .before .args in
+    let a = here .loop .at - 1 in
+    let e : here .loop .at ≡ a + 1 = omega arith in
+    let inside : a < length (args .term .now) = omega arith in (
+      search needs,
+      rest-ascends (args .triple) (args .parent) (args .term .now) (here .loop .term) a inside (here .loop .inv .1)
+          (rw e at (here .loop .inv .2)) (rw e at (here .loop .inv .3)),
+    )
 
 loop-less : tie.Need-loop-less Inv-loop μ-loop
 loop-less c = search needs

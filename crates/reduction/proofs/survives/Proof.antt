@@ -1,22 +1,33 @@
 -- Both returns are the definition of staying, with the two tests' answers put in.
+use native.Mathlib.Omega.{arith}
 use borrow.Author.Needs.{needs}
+use Rattle.terms.proofs.RowSteps.{held-fewer}
 use Rattle.reduction.specs.Reduction.{stays, dropped}
 use Rattle.reduction.proofs.survives.Statement.{statement}
 use Rattle.reduction.proofs.survives.Tie as tie
+
+term-at-requires : tie.Need-term-at-requires
+term-at-requires c κs =
+    let start = c .before .before in
+    (omega (arith, start .pre .0 .room), start .pre .0 .within (start .args .place) (omega arith))
 
 all-are-requires : tie.Need-all-are-requires
 all-are-requires c κs = search needs
 
 returns : tie.Need-returns
 unfolding stays dropped
-returns c = rw (← c .before .all-are .ensures, c .if1 .taken)
+returns c = rw (← c .before .before .term-at .ensures, ← c .before .all-are .ensures, c .if1 .taken)
 
 is-kept-requires : tie.Need-is-kept-requires
-is-kept-requires c κs = search needs
+is-kept-requires c κs =
+    let start = c .before .before .before .before .before in
+    (held-fewer 8 (start .args .place) (start .args .rows .now) (start .pre .0), start .pre .1)
 
 returns-2 : tie.Need-returns-2
 unfolding stays dropped
-returns-2 c = rw (← c .before .before .all-are .ensures, c .before .if1 .left, ← c .is-kept .ensures)
+returns-2 c =
+    rw (← c .before .before .before .term-at .ensures, ← c .before .before .all-are .ensures, c .before .if1 .left, ← c .is-kept .ensures)
 
 pub survives-spec : {M : Type 1} → statement M
-survives-spec = tie.close (tie.spec all-are-requires returns is-kept-requires returns-2)
+survives-spec =
+    tie.close (tie.spec term-at-requires all-are-requires returns is-kept-requires returns-2)

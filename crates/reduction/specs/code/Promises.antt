@@ -8,25 +8,35 @@ use Rattle.entities.specs.declared.Triple.{Triple}
 use Rattle.entities.specs.Limits.{row-width}
 use Rattle.terms.specs.Rows.{term, terms-of}
 use Rattle.terms.specs.code.Held.{Held}
-use Rattle.reduction.specs.Reduction.{reduced-row, reduction, rewriting, live}
+use Rattle.reduction.specs.Reduction.{rewriting, settled, reduced-row, reduction, live}
 
--- The copy of a row with its term rewritten: as long as the row, the term where it was.
-pub record Rewritten (triple : Triple) (parent : ℕ) (row copy : List ℕ) : Type 0 where
-  pub same-length : getD copy 0 0 ≡ getD row 0 0
-  pub new-term : term copy ≡ rewriting triple parent (term row)
+-- The term of the row at a place.
+abbrev pub term-at : ℕ → List ℕ → List ℕ
+term-at place rows = term (take row-width (drop (row-width * place) rows))
 
--- What the row at a place becomes, beside the rows before it.
-pub record RowSettled (triple : Triple) (parent place : ℕ) (rows row : List ℕ) : Type 0 where
+-- A row with its term rewritten: as long as it was, the term where it was.
+pub record Rewritten (triple : Triple) (parent : ℕ) (before after : List ℕ) : Type 0 where
+  pub same-length : getD after 0 0 ≡ getD before 0 0
+  pub new-term : term after ≡ rewriting triple parent (term before)
+
+-- One row that has this term now, and is zeros where that is empty: it is written over itself, and nothing else is.
+pub record RowBecame (place : ℕ) (new : List ℕ) (before after : List ℕ) : Type 0 where
+  pub row : List ℕ
   pub whole : length row ≡ row-width
-  pub new-term : term row ≡ reduced-row triple parent (terms-of row-width place rows) (term (take row-width (drop (row-width * place) rows)))
+  pub new-term : term row ≡ new
   pub within : getD row 0 0 < row-width
   pub zeros : getD row 0 0 ≡ 0 → row ≡ replicate row-width 0
-
--- One row reduced: it is written over itself, and nothing else is.
-pub record RowReduced (triple : Triple) (parent place : ℕ) (before after : List ℕ) : Type 0 where
-  pub row : List ℕ
-  pub settled : RowSettled triple parent place before row
   pub put : after ≡ written-at (row-width * place) row before
+
+-- One row settled beside the rows before it.
+abbrev pub RowSettled : ℕ → ℕ → List ℕ → List ℕ → Type 0
+RowSettled parent place before after =
+    RowBecame place (settled parent (terms-of row-width place before) (term-at place before)) before after
+
+-- One row reduced beside the rows before it.
+abbrev pub RowReduced : Triple → ℕ → ℕ → List ℕ → List ℕ → Type 0
+RowReduced triple parent place before after =
+    RowBecame place (reduced-row triple parent (terms-of row-width place before) (term-at place before)) before after
 
 -- The first `count` rows reduced where they stand, and every number behind them as it was.
 pub record Reduced (triple : Triple) (parent count : ℕ) (before after : List ℕ) : Type 0 where
