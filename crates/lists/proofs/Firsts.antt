@@ -18,12 +18,12 @@ module _ {A : Type 0} where
 
 module _ {A : Type 0} (like : A → A → Bool) where
   -- An element that is like one kept adds nothing; any other is the next of the firsts.
-  adds-nothing : (kept : List A) (a : A) (l : List A) → some-of (like a) kept ≡ true
+  pub adds-nothing : (kept : List A) (a : A) (l : List A) → some-of (like a) kept ≡ true
       → firsts-after like kept (a ∷ l) ≡ firsts-after like kept l
   unfolding firsts-after
   adds-nothing kept a l e = rw (e, append-nil kept)
 
-  adds-itself : (kept : List A) (a : A) (l : List A) → some-of (like a) kept ≡ false
+  pub adds-itself : (kept : List A) (a : A) (l : List A) → some-of (like a) kept ≡ false
       → firsts-after like kept (a ∷ l) ≡ a ∷ firsts-after like (kept ++ (a ∷ [])) l
   unfolding firsts-after
   adds-itself kept a l e = rw e

@@ -28,3 +28,5 @@ pub mod Onto
 pub mod Replaced
 pub mod Partway
 pub mod SumOnce
+pub mod Tallied
+pub mod FirstsWeighed

@@ -12,6 +12,7 @@ use Rattle.lists.specs.Counting.{sum}
 use Rattle.lists.specs.Members.{every, keep, some-of, leading}
 use Rattle.lists.specs.Ranges.{listed}
 use Rattle.lists.proofs.Every.{every-cons, every-uncons}
+use Rattle.lists.proofs.Kept.{keep-none}
 
 module _ {A : Type 0} (rule : ℕ → A) where
   pub listed-start : (end : ℕ) → listed rule 0 end ≡ listed rule 0 (end - 0)
@@ -138,3 +139,16 @@ pub keep-same : {A : Type 0} (rule : ℕ → A) (test other : A → Bool) → ((
 unfolding keep listed
 keep-same rule test other same from zero = refl
 keep-same rule test other same from (suc count) = rw (same from, keep-same rule test other same (suc from) count)
+
+-- Two tests that agree on a range keep the same of it; one that fails on all of it keeps none.
+pub keep-within : (test other : ℕ → Bool) (from count : ℕ) → ((v : ℕ) → from ≤ v → v < from + count → test v ≡ other v)
+    → keep test (listed (λ u. u) from count) ≡ keep other (listed (λ u. u) from count)
+unfolding keep listed
+keep-within test other from zero same = refl
+keep-within test other from (suc count) same =
+    rw (same from (omega arith) (omega arith), keep-within test other (suc from) count (λ v low high. same v (omega arith) (omega arith)))
+
+pub keep-none-within : (test : ℕ → Bool) (from count : ℕ) → ((v : ℕ) → from ≤ v → v < from + count → test v ≡ false)
+    → keep test (listed (λ u. u) from count) ≡ []
+keep-none-within test from count none =
+    keep-within test (λ v. false) from count none ∙ keep-none (λ v. false) (λ v. refl) (listed (λ u. u) from count)

@@ -30,6 +30,6 @@ occurrences-replicate v x zero apart = refl
 occurrences-replicate v x (suc n) apart = omega (arith, same-none x v apart, occurrences-replicate v x n apart)
 
 -- An element stands at some place.
-pub place-of-member : (a : ℕ) (l : List ℕ) (d : ℕ) → List·Memᴰ a l → (i : ℕ) × (i < length l) × (getD l i d ≡ a)
+pub place-of-member : {A : Type 0} (a : A) (l : List A) (d : A) → List·Memᴰ a l → (i : ℕ) × (i < length l) × (getD l i d ≡ a)
 place-of-member a (b ∷ l) d (List·Memᴰ·head e) = (0, omega arith, sym e)
 place-of-member a (b ∷ l) d (List·Memᴰ·tail m) = let r = place-of-member a l d m in (suc (r .0), omega (arith, r .1), r .2)

@@ -133,10 +133,10 @@ cases =
     ∷ shows (resuming p3) (0 ∷ 0 ∷ 4 ∷ 14 ∷ 0 ∷ 31 ∷ []) (1 ∷ 0 ∷ 5 ∷ absent ∷ 0 ∷ 2 ∷ 3 ∷ 4 ∷ [])
     (spelt "hatt\t1\t2\t3\n0\t0\t1\t2\t2\n1\t5\t3\t4\t2\n")
     ∷ shows (weighing 2 tree3 terms3) (0 ∷ 0 ∷ 4 ∷ []) [] []
-    -- P4: n=2, the one-index row 2 listed twice; greedy 1, tree weight 2
+    -- P4: n=2, the one-index row 2 listed twice; greedy 1, tree weight 1 ("P4's tree weight becomes 1")
     ∷ shows (resuming (meant 2 (one 2 ++ one 2) [] 58)) (0 ∷ 0 ∷ 1 ∷ 14 ∷ 0 ∷ 31 ∷ []) (1 ∷ 4 ∷ 0 ∷ absent ∷ 0 ∷ 2 ∷ 3 ∷ 5 ∷ [])
     (spelt "hatt\t1\t2\t2\n0\t0\t1\t3\t0\n1\t2\t5\t4\t1\n")
-    ∷ shows (weighing 2 (2 ∷ 3 ∷ 5 ∷ 4 ∷ 0 ∷ absent ∷ []) (one 2 ++ one 2)) (0 ∷ 0 ∷ 2 ∷ []) [] []
+    ∷ shows (weighing 2 (2 ∷ 3 ∷ 5 ∷ 4 ∷ 0 ∷ absent ∷ []) (one 2 ++ one 2)) (0 ∷ 0 ∷ 1 ∷ []) [] []
     ∷ shows (resuming p5) (0 ∷ 0 ∷ 4 ∷ 2 ∷ 21 ∷ 10 ∷ []) (1 ∷ 4 ∷ 5 ∷ 0 ∷ 0 ∷ 2 ∷ 3 ∷ absent ∷ []) (spelt "1\t2\t3\t5\t2\n")
     -- P6: the same with weight 1
     ∷ shows (resuming (meant 2 terms3 (spelt "hatt\t1\t2\t3\n0\t0\t1\t4\t1\n") 58)) (11 ∷ 1 ∷ 0 ∷ 0 ∷ 0 ∷ 0 ∷ []) [] []

@@ -1,24 +1,10 @@
 // The rows that are there, one behind the other, for whoever weighs many triples in them.
-ghost use mathlib.Core.Path.{_≡_};
 ghost use Prim.Native.Nat.{_+_, _*_, _≤_};
 ghost use lib.ListN.{length};
-ghost use Rattle.lists.specs.Written.{«written-at»};
 ghost use Rattle.entities.specs.Limits.{«row-width»};
 ghost use Rattle.terms.specs.code.Held.{Held};
 ghost use Rattle.reduction.specs.code.Promises.{RowGathered, LiveRows};
 use terms::row;
-use terms::slices;
-
-// The row written over the one at this place.
-fn put_row(rows: &mut [u16], place: usize, row: &[u16])
-    requires { ⌜ length (now row) ≡ row-width ⌝ }
-    requires { ⌜ row-width * place + row-width ≤ length (now rows) ⌝ }
-    ensures { λ r. ⌜ now (rows .exit) ≡ written-at (row-width * place) (now (row .entry)) (now (rows .entry)) ⌝ }
-{
-    let from = 8 * place;
-    let end = from + 8;
-    slices::copy(row, &mut rows[from..end]);
-}
 
 // The row at this place put behind the first `kept`, where it is there; how many there are then.
 fn gather_row(rows: &[u16], place: usize, live: &mut [u16], kept: usize) -> usize
@@ -28,7 +14,7 @@ fn gather_row(rows: &[u16], place: usize, live: &mut [u16], kept: usize) -> usiz
     if rows[8 * place] == 0 {
         return kept;
     }
-    put_row(live, kept, row::row_at(rows, place));
+    row::put_row(live, kept, row::row_at(rows, place));
     kept + 1
 }
 

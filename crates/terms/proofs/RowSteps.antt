@@ -1,11 +1,14 @@
 -- One step along rows that stand one after the other.
 use mathlib.Core.Path.{_≡_, refl, ap, _∙_, sym}
+use mathlib.Core.Bool.{Bool, true}
 use mathlib.Core.List.{List, [], _∷_, _++_, map, map-append}
 use Prim.Native.Nat.{ℕ, zero, suc, _+_, _-_, _*_, _<_, _≤_}
 use native.Mathlib.Omega.{arith}
 use native.Mathlib.Nat.{mul-zero, sub-zero, add-zero}
-use lib.ListN.{length, getD, take, drop, length-take, length-drop, length-map}
+use lib.ListN.{length, getD, take, drop, length-take, length-drop, length-map, List·getD-map}
 use lib.Seq.{drop-drop, take-take, getD-take, getD-drop}
+use Rattle.lists.specs.Members.{every}
+use Rattle.lists.proofs.Every.{every-at}
 use Rattle.lists.proofs.Parts.{drop-take}
 use Rattle.terms.specs.Rows.{rows-of, term, terms-of}
 use Rattle.terms.specs.code.Held.{Held}
@@ -63,6 +66,15 @@ rows-at w (suc count) zero s h = rw mul-zero
 rows-at w (suc count) (suc place) s h =
     let e : w + w * place ≡ w * suc place = omega arith in
     rw (rows-at w count place (drop w s) (omega arith), drop-drop (w * place) w s, e)
+
+-- What every term passes the term of each row does.
+pub every-term-at : (test : List ℕ → Bool) (w count place : ℕ) (s : List ℕ) → every test (terms-of w count s) ≡ true → place < count
+    → test (term (take w (drop (w * place) s))) ≡ true
+unfolding terms-of
+every-term-at test w count place s all h =
+    let at : getD (terms-of w count s) place (term []) ≡ term (take w (drop (w * place) s)) =
+    List·getD-map term (rows-of w count s) place [] ∙ ap term (rows-at w count place s h) in
+    rw at at (every-at test (terms-of w count s) place (term []) (rw (length-terms w count s) h) all)
 
 -- The first rows are read from the first numbers alone.
 rows-take : (w count more : ℕ) (s : List ℕ) → rows-of w count (take (w * count + more) s) ≡ rows-of w count s

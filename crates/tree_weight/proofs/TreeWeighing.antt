@@ -1,25 +1,18 @@
 -- The tree weight step by step: up from a code, along a term's indices, the nodes and the rows.
-use mathlib.Core.Path.{_≡_, ap, _∙_}
-use mathlib.Core.Bool.{true}
-use mathlib.Core.List.{List, [], map}
+use mathlib.Core.Path.{_≡_}
+use mathlib.Core.List.{List, map}
 use Prim.Native.Nat.{ℕ, suc, _+_, _-_, _*_, _/_, _%_, _<_, _≤_}
 use borrow.Author.Tests.{eq-eqb, ne-eqb, lt-ltb, le-ltb}
-use lib.Dec.{ltb}
-use lib.ListN.{length, getD, take, drop, drop-of-length-le, List·getD-map}
+use lib.ListN.{length, getD, take, drop, drop-of-length-le}
 use Rattle.lists.specs.Counting.{sum, same, occurrences}
-use Rattle.lists.specs.Members.{every}
 use Rattle.lists.specs.Ranges.{listed}
-use Rattle.lists.proofs.Every.{every-at}
 use Rattle.lists.proofs.Steps.{drop-step}
-use Rattle.terms.specs.Rows.{rows-of, term, terms-of}
-use Rattle.terms.specs.Good.{good-term}
-use Rattle.terms.proofs.RowSteps.{terms-step, terms-end, length-terms, rows-at}
+use Rattle.terms.specs.Rows.{term, terms-of}
+use Rattle.terms.proofs.RowSteps.{terms-step, terms-end}
 use Rattle.terms.proofs.LetterLaws.{not-none-apart}
-use Rattle.terms.proofs.GoodTerms.{good-term-says}
 use Rattle.tree.specs.Table.{place-of}
 use Rattle.tree.proofs.TableSteps.{nodes-start}
-use Rattle.tree_weight.specs.Weight.{edge-under, edges, node-letter, node-weight, row-weight, tree-weight, NoNodeWeightChanges}
-use Rattle.tree_weight.specs.code.Promises.{GoodRows}
+use Rattle.tree_weight.specs.Weight.{edge-under, edges, node-letter, node-weight, row-weight, listed-weight, NoNodeWeightChanges}
 
 -- The edge of a node under which a code stands: none, its place's, or that of the node above it.
 module _ (table : List ℕ) (steps node code : ℕ) where
@@ -62,21 +55,11 @@ row-start modes table s = rw (nodes-start modes)
 -- Along the rows: the weight of those passed and of those ahead is the weight of all.
 module _ (modes : ℕ) (table : List ℕ) (count place : ℕ) (s : List ℕ) where
   pub tree-step : place < count
-      → tree-weight modes table (terms-of 8 (count - place) (drop (8 * place) s))
-      ≡ row-weight modes table (term (take 8 (drop (8 * place) s))) + tree-weight modes table (terms-of 8 (count - (place + 1)) (drop (8 * (place + 1)) s))
-  unfolding tree-weight sum
+      → listed-weight modes table (terms-of 8 (count - place) (drop (8 * place) s))
+      ≡ row-weight modes table (term (take 8 (drop (8 * place) s))) + listed-weight modes table (terms-of 8 (count - (place + 1)) (drop (8 * (place + 1)) s))
+  unfolding listed-weight sum
   tree-step h = rw (terms-step 8 count place s h)
 
-  pub tree-end : count ≤ place → tree-weight modes table (terms-of 8 (count - place) (drop (8 * place) s)) ≡ 0
-  unfolding tree-weight sum
+  pub tree-end : count ≤ place → listed-weight modes table (terms-of 8 (count - place) (drop (8 * place) s)) ≡ 0
+  unfolding listed-weight sum
   tree-end h = rw (terms-end 8 count place s h)
-
--- A good row's indices are below 2n.
-pub indices-below : (modes count : ℕ) (s : List ℕ) → GoodRows modes count s → (place : ℕ) → place < count
-    → every (λ index. ltb index (2 * modes)) (term (take 8 (drop (8 * place) s))) ≡ true
-unfolding terms-of
-indices-below modes count s rows place h =
-    let at : getD (terms-of 8 count s) place (term []) ≡ term (take 8 (drop (8 * place) s)) =
-    List·getD-map term (rows-of 8 count s) place [] ∙ ap term (rows-at 8 count place s h) in
-    let long : length (terms-of 8 count s) ≡ count = length-terms 8 count s in
-    good-term-says (2 * modes) _ (rw at at (every-at (good-term (2 * modes)) (terms-of 8 count s) place (term []) (rw long h) (rows .good))) .below

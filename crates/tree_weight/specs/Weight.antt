@@ -1,8 +1,8 @@
--- "For an accepted tree: over every listed row and every node, 1 where the parities of the row's indices under X, Y, Z aren't all equal."
+-- "For an accepted tree: over every listed row and every node, 1 where the parities of the row's indices under X, Y, Z aren't all equal"; 02: rows that are the same operator count once.
 use mathlib.Core.Path.{_≡_}
 use mathlib.Core.Bool.{cond, _&&_}
 use mathlib.Core.List.{List, [], _∷_, map}
-use Prim.Native.Nat.{ℕ, zero, suc, _+_, _%_, _/_}
+use Prim.Native.Nat.{ℕ, zero, suc, _+_, _*_, _%_, _/_}
 use lib.Dec.{eqb, ltb}
 use lib.ListN.{length}
 use Rattle.lists.specs.Counting.{sum, occurrences}
@@ -20,6 +20,7 @@ use Rattle.tree.specs.Table.{nodes, place-of}
 use Rattle.tree.specs.Check.{tree-checked}
 use Rattle.tree_weight.specs.declared.TreeWeighed.{TreeWeighed}
 use Rattle.tree_weight.specs.declared.TreeWeighed.the-variants.{Weight, Unweighed}
+use Rattle.tree_weight.specs.Operators.{operators}
 
 -- The edge of a node under which a code stands, 0, 1 or 2, found by climbing; 3 where it stands under none.
 unfoldable pub edge-under : List ℕ → ℕ → ℕ → ℕ → ℕ
@@ -54,9 +55,13 @@ NoNodeWeightChanges =
 unfoldable pub row-weight : ℕ → List ℕ → List ℕ → ℕ
 row-weight modes table term = sum (map (node-weight modes table term) (nodes modes))
 
--- "over every listed row".
+-- "over every listed row", as document 01 counted.
+unfoldable pub listed-weight : ℕ → List ℕ → List (List ℕ) → ℕ
+listed-weight modes table terms = sum (map (row-weight modes table) terms)
+
+-- "Tree weight in 01 counts listings; from now on it counts each operator once."
 unfoldable pub tree-weight : ℕ → List ℕ → List (List ℕ) → ℕ
-tree-weight modes table terms = sum (map (row-weight modes table) terms)
+tree-weight modes table terms = sum (map (row-weight modes table) (operators (2 * modes) terms))
 
 -- The weight where the terms are good too: "Tree weight continues 2, 3, 4."
 unfoldable pub weighed-terms : ℕ → List ℕ → List ℕ → Checked → TreeWeighed

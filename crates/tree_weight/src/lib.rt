@@ -1,4 +1,4 @@
-// The tree weight: over every listed row and every node, 1 where the parities of the row's indices under X, Y, Z aren't all equal.
+// The tree weight: over every operator of the rows and every node, 1 where the parities of its indices under X, Y, Z aren't all equal.
 ghost use mathlib.Core.Path.{_≡_};
 ghost use mathlib.Core.Bool.{true};
 ghost use Prim.Native.Nat.{_*_, _≤_, _<_};
@@ -8,8 +8,8 @@ ghost use Rattle.lists.specs.Members.{every};
 ghost use Rattle.refusal.specs.Numbers.{Tells};
 ghost use Rattle.entities.specs.Limits.{«most-modes», «row-width»};
 ghost use Rattle.terms.specs.Rows.{«terms-of»};
-ghost use Rattle.tree_weight.specs.code.Promises.{Places, GoodRows};
-ghost use Rattle.tree_weight.specs.Weight.{«edge-under», «node-letter», «row-weight», «tree-weight», «tree-weighed», «weight-numbers»};
+ghost use Rattle.tree_weight.specs.code.Promises.{Places, GoodRows, RowsBelow};
+ghost use Rattle.tree_weight.specs.Weight.{«edge-under», «node-letter», «row-weight», «listed-weight», «tree-weight», «tree-weighed», «weight-numbers»};
 use refusal::Refusal;
 use terms::checking;
 use terms::checking::Checked;
@@ -18,6 +18,8 @@ use terms::letters::Letter;
 use terms::row;
 use tree::TreeChecked;
 use tree::table;
+
+mod operators;
 
 // What the tree weight says: the weight, or why it is refused.
 pub enum TreeWeighed {
@@ -102,12 +104,12 @@ fn row_weight(modes: usize, tree: &[u16], places: &[usize], term: &[u16]) -> u64
     sum
 }
 
-// The weight of the first rows.
+// The weight of the first rows, each counted.
 fn rows_weight(modes: usize, tree: &[u16], places: &[usize], terms: &[u16], count: usize) -> u64
     requires { ⌜ Places (now tree) (now places) ⌝ }
     requires { ⌜ (length (now tree) ≡ 3 * modes) × (modes ≤ most-modes) ⌝ }
-    requires { ⌜ GoodRows modes count (now terms) ⌝ }
-    ensures { λ r. ⌜ r ≡ tree-weight modes (now (tree .entry)) (terms-of row-width count (now (terms .entry))) ⌝ }
+    requires { ⌜ RowsBelow modes count (now terms) ⌝ }
+    ensures { λ r. ⌜ r ≡ listed-weight modes (now (tree .entry)) (terms-of row-width count (now (terms .entry))) ⌝ }
 {
     let mut sum: u64 = 0;
     let mut place = 0;
@@ -118,7 +120,7 @@ fn rows_weight(modes: usize, tree: &[u16], places: &[usize], terms: &[u16], coun
     sum
 }
 
-// The weight of so many good rows in an accepted tree.
+// The weight of the operators of so many good rows in an accepted tree.
 fn accepted_weight(modes: usize, tree: &[u16], terms: &[u16], count: usize) -> u64
     requires { ⌜ (length (now tree) ≡ 3 * modes) × (modes ≤ most-modes) ⌝ }
     requires { ⌜ GoodRows modes count (now terms) ⌝ }
@@ -126,7 +128,8 @@ fn accepted_weight(modes: usize, tree: &[u16], terms: &[u16], count: usize) -> u
 {
     let mut places = [0usize; 768];
     fill_places(tree, &mut places);
-    rows_weight(modes, tree, &places, terms, count)
+    let own = operators::operators(terms, count);
+    rows_weight(modes, tree, &places, &own, count)
 }
 
 // The tree weight of the terms, or why tree or terms are refused.

@@ -2,30 +2,46 @@
 
 use crate::merging::ABSENT;
 use crate::refusal::{check_modes, demand, Refusal};
-use crate::terms::read_terms;
+use crate::terms::{read_terms, Row};
+use std::collections::BTreeSet;
 
 /// "The tree check and tree weight start 1, 13, 14, 15, 16".
 pub fn check_tree(modes: usize, tree: &[u16]) -> Result<(), Refusal> {
     read_tree(modes, tree).map(|_| ())
 }
 
-/// "over every listed row and every node, 1 where the parities of the row's indices under X, Y, Z
+/// Over every operator and "every node, 1 where the parities of the row's indices under X, Y, Z
 /// aren't all equal". Tree weight continues 2, 3, 4.
 pub fn tree_weight(modes: usize, tree: &[u16], terms: &[u16]) -> Result<u64, Refusal> {
     let tree = read_tree(modes, tree)?;
-    let rows = read_terms(modes, terms)?;
+    let operators = operators(&read_terms(modes, terms)?);
     let mut weight = 0;
     for node in 0..modes {
         let under = [0, 1, 2].map(|edge| tree.leaves_under(tree.child(node, edge)));
-        for row in &rows {
+        for operator in &operators {
             let odd = under.each_ref().map(|leaves| {
-                let inside = row.iter().filter(|index| leaves.contains(index));
+                let inside = operator.iter().filter(|index| leaves.contains(index));
                 inside.count() % 2
             });
             weight += u64::from(odd != [odd[0]; 3]);
         }
     }
     Ok(weight)
+}
+
+/// "equal indices cancel in pairs, and rows with the same surviving indices are the same operator".
+fn operators(rows: &[Row]) -> BTreeSet<BTreeSet<u16>> {
+    rows.iter().map(|row| surviving(row)).collect()
+}
+
+fn surviving(row: &[u16]) -> BTreeSet<u16> {
+    let mut indices = BTreeSet::new();
+    for &index in row {
+        if !indices.remove(&index) {
+            indices.insert(index);
+        }
+    }
+    indices
 }
 
 /// What hangs on one edge of a node.

@@ -140,7 +140,7 @@ fn weighed() {
     assert_eq!(asked("weigh", P3_NODES, P3), "weight\t4\n");
     let p4 = "modes\t2\nterm\t2\nterm\t2\n";
     let nodes = "node\t1\t4\t0\t-\nnode\t0\t2\t3\t5\n";
-    assert_eq!(asked("weigh", nodes, p4), "weight\t2\n");
+    assert_eq!(asked("weigh", nodes, p4), "weight\t1\n");
 }
 
 #[test]

@@ -43,7 +43,18 @@ fn p4() {
     assert_eq!(answer.done.weight, 1);
     let tree = [2, 3, 5, 4, 0, ABSENT];
     assert_eq!(answer.rows, [[1, 4, 0, ABSENT], [0, 2, 3, 5]]);
-    assert_eq!(plain::tree_weight(2, &tree, &terms), Ok(2));
+    assert_eq!(plain::tree_weight(2, &tree, &terms), Ok(1));
+}
+
+/// 02: "equal indices cancel in pairs, and rows with the same surviving indices are the same operator".
+#[test]
+fn operators_count_once() {
+    let weight = |terms: &[&[u16]]| plain::tree_weight(2, &P3_TREE, &flat(terms));
+    let once = weight(&[&[0], &[0, 3]]);
+    assert_eq!(once, Ok(4));
+    assert_eq!(weight(&[&[0, 3], &[0], &[0]]), once);
+    assert_eq!(weight(&[&[0], &[0, 1, 1, 3], &[0, 0, 0]]), once);
+    assert_eq!(weight(&[&[0], &[0, 3], &[2, 2], &[1, 1, 3, 3]]), once);
 }
 
 #[test]

@@ -4,11 +4,13 @@ use Prim.Native.Nat.{_≤_, _-_, _+_, _*_}
 use native.Mathlib.Nat.{zero-add}
 use native.Mathlib.Omega.{arith}
 use borrow.Author.Needs.{needs}
+use lib.Dec.{ltb}
 use lib.ListN.{drop}
+use Rattle.lists.specs.Members.{every}
 use Rattle.terms.specs.Rows.{terms-of}
-use Rattle.terms.proofs.RowSteps.{terms-start}
-use Rattle.tree_weight.specs.Weight.{row-weight, tree-weight}
-use Rattle.tree_weight.proofs.TreeWeighing.{tree-step, tree-end, indices-below}
+use Rattle.terms.proofs.RowSteps.{terms-start, every-term-at}
+use Rattle.tree_weight.specs.Weight.{row-weight, listed-weight}
+use Rattle.tree_weight.proofs.TreeWeighing.{tree-step, tree-end}
 use Rattle.tree_weight.proofs.rows_weight.Statement.{statement}
 use Rattle.tree_weight.proofs.rows_weight.Tie as tie
 
@@ -16,13 +18,13 @@ abbrev Inv-loop : tie.InvT-loop
 Inv-loop modes tree places terms count sum₀ place₀ sum place =
     (place ≤ count)
     × (sum ≤ 256 * place)
-    × (sum + tree-weight modes tree (terms-of 8 (count - place) (drop (8 * place) terms)) ≡ tree-weight modes tree (terms-of 8 count terms))
+    × (sum + listed-weight modes tree (terms-of 8 (count - place) (drop (8 * place) terms)) ≡ listed-weight modes tree (terms-of 8 count terms))
 
 abbrev μ-loop : tie.MeasureT-loop
 μ-loop modes tree places terms count sum₀ place₀ sum place = count - place
 
 loop-holds : tie.Need-loop-holds Inv-loop μ-loop
-loop-holds c = (omega arith, omega arith, zero-add _ ∙ sym (ap (tree-weight _ _) (terms-start 8 _ _)))
+loop-holds c = (omega arith, omega arith, zero-add _ ∙ sym (ap (listed-weight _ _) (terms-start 8 _ _)))
 
 term-at-requires : tie.Need-term-at-requires Inv-loop μ-loop
 term-at-requires c κs =
@@ -35,7 +37,7 @@ row-weight-requires c κs =
     let here = c .before .before in
     let start = here .before .before .before .before in
     let args = start .args in
-    let below = indices-below (args .modes) (args .count) (args .terms .now) (start .pre .1 .1) (here .loop .place) (omega arith) in
+    let below = every-term-at (every (λ index. ltb index (2 * args .modes))) 8 (args .count) (here .loop .place) (args .terms .now) (start .pre .1 .1 .below) (omega arith) in
     (start .pre .0, (start .pre .1 .0 .0, rw (c .term-at .ensures) below))
 
 add-sum : tie.Need-add-sum Inv-loop μ-loop

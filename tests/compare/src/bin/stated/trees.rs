@@ -1,4 +1,4 @@
-//! Tree tables checked and weighed: P1's tree, and a table of each refusal.
+//! Tree tables checked and weighed: P1's tree, rows of one operator, and a table of each refusal.
 
 use crate::seen::{Cases, Seen};
 use compare::cases::ABSENT;
@@ -24,6 +24,20 @@ const ACCEPTED: &[Weighed] = &[
         &[1, 2, ABSENT],
         &[2, 0, 1, 0, 0, 0, 0, 0],
         [0, 0, 1],
+    ),
+    (
+        "P4's row listed twice",
+        2,
+        &[2, 3, 5, 4, 0, ABSENT],
+        &[1, 2, 0, 0, 0, 0, 0, 0, 1, 2, 0, 0, 0, 0, 0, 0],
+        [0, 0, 1],
+    ),
+    (
+        "a row and the same with a pair of equal indices",
+        2,
+        &TREE,
+        &[2, 0, 3, 0, 0, 0, 0, 0, 4, 0, 1, 1, 3, 0, 0, 0],
+        [0, 0, 2],
     ),
     ("a row that isn't whole", 2, &TREE, &[1, 2], [2, 0, 0]),
     (

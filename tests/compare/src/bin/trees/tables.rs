@@ -54,7 +54,7 @@ fn every_table(random: &mut Random, kind: &'static str, modes: usize, codes: &[u
 type Damage = fn(&mut Random, usize, Vec<u16>, Vec<u16>) -> (usize, Vec<u16>, Vec<u16>);
 
 /// What is done to a good tree of 1 to 6 modes and its rows.
-const DAMAGES: [(&str, Damage); 6] = [
+const DAMAGES: [(&str, Damage); 7] = [
     ("good trees of 1 to 6 modes", |_, modes, tree, rows| {
         (modes, tree, rows)
     }),
@@ -84,7 +84,31 @@ const DAMAGES: [(&str, Damage); 6] = [
         let others = [0, 257, modes + 1, usize::MAX, usize::MAX / 3 + 1];
         (random.one_of(&others), tree, rows)
     }),
+    (
+        "rows listed again, some with a pair of equal indices more",
+        |random, modes, tree, mut rows| {
+            for _ in 0..rows.len().min(3) {
+                let again = listed_again(random, modes, &rows);
+                rows.extend(again);
+            }
+            (modes, tree, rows)
+        },
+    ),
 ];
+
+/// One of the rows, where it has room and chance will have it so with an index twice more.
+fn listed_again(random: &mut Random, modes: usize, rows: &[u16]) -> [u16; 8] {
+    let at = 8 * random.below(rows.len() / 8);
+    let mut row: [u16; 8] = rows[at..at + 8].try_into().unwrap();
+    let length = usize::from(row[0]);
+    if length <= 5 && random.below(2) == 0 {
+        let index = random.below(2 * modes) as u16;
+        row[0] += 2;
+        row[length + 1..length + 3].fill(index);
+        row[1..length + 3].sort_unstable();
+    }
+    row
+}
 
 /// Each code of 3 or 4 modes once, except one node's, in any order: cycles beside trees and wrong pairs.
 fn permuted(random: &mut Random, ask: Ask) {

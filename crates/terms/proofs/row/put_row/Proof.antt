@@ -4,8 +4,8 @@ use native.Mathlib.Omega.{arith}
 use native.Mathlib.Nat.{add-sub-cancel-left}
 use borrow.Author.Needs.{needs}
 use Rattle.lists.proofs.Written.{put-written}
-use Rattle.reduction.proofs.live_rows.put_row.Statement.{statement}
-use Rattle.reduction.proofs.live_rows.put_row.Tie as tie
+use Rattle.terms.proofs.row.put_row.Statement.{statement}
+use Rattle.terms.proofs.row.put_row.Tie as tie
 
 mul-from : tie.Need-mul-from
 mul-from c = search needs
