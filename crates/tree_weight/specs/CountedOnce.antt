@@ -22,13 +22,13 @@ SameOperatorsWeighTheSame =
     → OperatorsAmong modes terms others → OperatorsAmong modes others terms
     → tree-weight modes table terms ≡ tree-weight modes table others
 
--- So a row listed again, wherever, changes nothing.
+-- So a row that is listed again, wherever, changes nothing.
 abbrev pub ListedAgain : Type 0
 ListedAgain =
     (modes : ℕ) (table : List ℕ) (before after : List (List ℕ)) (term : List ℕ) → List·Memᴰ term (before ++ after)
     → tree-weight modes table (before ++ (term ∷ after)) ≡ tree-weight modes table (before ++ after)
 
--- And so does no other order of the rows.
+-- Nor does another order of the rows.
 abbrev pub InAnyOrder : Type 0
 InAnyOrder =
     (modes : ℕ) (table : List ℕ) (terms others : List (List ℕ))
