@@ -1,6 +1,7 @@
 -- The surviving rows, equal ones made one by a reduction that changes nothing else.
+use native.Mathlib.Omega.{arith}
 use borrow.Author.Needs.{needs}
-use Rattle.tree_weight.proofs.OperatorsOnce.{operator-rows}
+use Rattle.tree_weight.proofs.OperatorsOnce.{held-first, operator-rows}
 use Rattle.tree_weight.proofs.operators.put_operators.Statement.{statement}
 use Rattle.tree_weight.proofs.operators.put_operators.Tie as tie
 
@@ -8,7 +9,7 @@ put-surviving-requires : tie.Need-put-surviving-requires
 put-surviving-requires c κs = search needs
 
 reduce-hamiltonian-requires : tie.Need-reduce-hamiltonian-requires
-reduce-hamiltonian-requires c κs = c .before .before .before .put-surviving .ensures .held
+reduce-hamiltonian-requires c κs = held-first _ _ _ (c .before .before .before .put-surviving .ensures .held) (omega arith)
 
 same-length : tie.Need-same-length
 same-length c = search needs
