@@ -52,7 +52,7 @@ pub fn weight(rows: &[u16], count: usize, triple: Triple) -> usize
 }
 
 // 1 where the number occurs in the term an odd number of times, else 0.
-fn odd_in(term: &[u16], number: u16) -> usize
+pub fn odd_in(term: &[u16], number: u16) -> usize
     ensures { λ r. ⌜ (r ≡ occurrences number (now (term .entry)) % 2) × (r ≤ 1) ⌝ }
 {
     let mut odd: usize = 0;

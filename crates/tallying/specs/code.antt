@@ -1,0 +1,2 @@
+-- What the tables of a couple hold: no promise needs it.
+pub mod Tallies
