@@ -2,3 +2,5 @@
 pub mod Couples
 pub mod Candidates
 pub mod Seeking
+pub mod SettledBest
+pub mod CoupleAgain

@@ -6,12 +6,16 @@ ghost use Prim.Native.Nat.{ℕ, _+_, _*_, _≤_, _<_};
 ghost use lib.ListN.{getD, length};
 ghost use Rattle.entities.specs.declared.Triple.{Triple as Three};
 ghost use Rattle.entities.specs.Limits.{«most-modes», «most-terms», «row-width», «entity-room»};
-ghost use Rattle.terms.specs.code.Held.{Held, OddOf};
+ghost use Rattle.terms.specs.code.Held.{Held};
+ghost use Rattle.terms.specs.Rows.{«terms-of»};
+ghost use Rattle.tallying.specs.code.Tallies.{odds as «odds-in»};
 ghost use Rattle.history.specs.History.{«next-parent»};
 ghost use Rattle.history.specs.computed.Choosing.{candidates};
 ghost use Rattle.choosing.specs.code.Couples.{
   OpensAre,
   Tied,
+  Looked,
+  SettledBelow,
   free,
   beside,
   «beside-couple»,
@@ -23,7 +27,8 @@ ghost use Rattle.choosing.specs.code.Couples.{
 use crate::lawful;
 use crate::lawful::Couple;
 use entities::Triple;
-use terms::weight;
+use tallying::tally;
+use tallying::tally::Tally;
 
 // The lightest triple so far and its weight.
 pub struct Best {
@@ -47,16 +52,15 @@ fn lighter(best: Best, triple: Triple, weight: usize) -> Best
 // The best so far against the triple of x, y and this z, where z is free beside them.
 fn best_beside<'a>(
     opens: &'a [bool; 769],
-    rows: &'a [u16],
-    count: usize,
-    odd: &'a [u8],
+    odds: &'a [u16; 769],
+    less: &'a [u16; 769],
+    all: usize,
     triple: Triple,
     best: Best,
 ) -> Best
-    requires { ⌜ Held row-width count (now rows) ⌝ }
-    requires { ⌜ count ≤ length (now odd) ⌝ }
-    requires { ⌜ OddOf (now rows) count (triple .x) (triple .y) (now odd) ⌝ }
-    ensures { λ r. ⌜ ((modes : ℕ) (history : List Three) → next-parent modes history ≤ entity-room → OpensAre entity-room modes history (now (opens .entry)) → r ≡ seek (weight-here count (now (rows .entry))) best (cond (free modes history triple) (triple ∷ []) [])) ⌝ }
+    requires { ⌜ all ≤ most-terms ⌝ }
+    requires { ⌜ ((measure : Three → ℕ) × Looked measure (triple .x) (triple .y) all (now odds) (now less)) ⌝ }
+    ensures { λ r. ⌜ ((measure : Three → ℕ) → Looked measure (triple .x) (triple .y) all (now (odds .entry)) (now (less .entry)) → (modes : ℕ) (history : List Three) → next-parent modes history ≤ entity-room → OpensAre entity-room modes history (now (opens .entry)) → r ≡ seek measure best (cond (free modes history triple) (triple ∷ []) [])) ⌝ }
 {
     if triple.x == triple.z {
         return best;
@@ -67,63 +71,65 @@ fn best_beside<'a>(
     if !lawful::marked(opens, triple.z) {
         return best;
     }
-    lighter(
-        best,
-        triple,
-        weight::weight_beside(rows, count, odd, triple),
-    )
+    let at = entities::wide(triple.z);
+    let weight = all + entities::wide(odds[at]) - entities::wide(less[at]);
+    lighter(best, triple, weight)
 }
 
-// The best so far against the triples of x and y with every z in turn, given how many of the two are odd in each row.
+// The best so far against the triples of x and y with every z in turn, whose weights are looked up.
 fn best_of_rest<'a>(
     opens: &'a [bool; 769],
-    rows: &'a [u16],
-    count: usize,
+    odds: &'a [u16; 769],
+    less: &'a [u16; 769],
+    all: usize,
     next: u16,
-    odd: &'a [u8],
     x: u16,
     y: u16,
     start: Best,
 ) -> Best
-    requires { ⌜ Held row-width count (now rows) ⌝ }
-    requires { ⌜ count ≤ length (now odd) ⌝ }
-    requires { ⌜ OddOf (now rows) count x y (now odd) ⌝ }
-    ensures { λ r. ⌜ ((modes : ℕ) (history : List Three) → next-parent modes history ≤ entity-room → OpensAre entity-room modes history (now (opens .entry)) → r ≡ seek (weight-here count (now (rows .entry))) start (beside modes history x y 0 next)) ⌝ }
+    requires { ⌜ all ≤ most-terms ⌝ }
+    requires { ⌜ ((measure : Three → ℕ) × Looked measure x y all (now odds) (now less)) ⌝ }
+    ensures { λ r. ⌜ ((measure : Three → ℕ) → Looked measure x y all (now (odds .entry)) (now (less .entry)) → (modes : ℕ) (history : List Three) → next-parent modes history ≤ entity-room → OpensAre entity-room modes history (now (opens .entry)) → r ≡ seek measure start (beside modes history x y 0 next)) ⌝ }
 {
     let mut best = start;
     let mut z: u16 = 0;
     while z < next {
         let triple = Triple { x: x, y: y, z: z };
-        best = best_beside(opens, rows, count, odd, triple, best);
+        best = best_beside(opens, odds, less, all, triple, best);
         z += 1;
     }
     best
 }
 
-// The best so far against the triples of x and y with every z in turn; x and y are counted in the rows once.
+// The best so far against the triples of x and y with every z; the rows are read once, and no further than the best goes.
 fn best_of_couple<'a>(
     opens: &'a [bool; 769],
+    odds: &'a [u16; 769],
     rows: &'a [u16],
     count: usize,
     next: u16,
     x: u16,
     y: u16,
-    start: Best,
+    best: Best,
 ) -> Best
     requires { ⌜ Held row-width count (now rows) ⌝ }
     requires { ⌜ count ≤ most-terms ⌝ }
-    ensures { λ r. ⌜ ((modes : ℕ) (history : List Three) → next-parent modes history ≤ entity-room → OpensAre entity-room modes history (now (opens .entry)) → r ≡ seek (weight-here count (now (rows .entry))) start (beside modes history x y 0 next)) ⌝ }
+    requires { ⌜ ((n : ℕ) → n < entity-room → getD (now odds) n 0 ≡ odds-in n (terms-of row-width count (now rows))) ⌝ }
+    ensures { λ r. ⌜ ((modes : ℕ) (history : List Three) → next-parent modes history ≤ entity-room → OpensAre entity-room modes history (now (opens .entry)) → r ≡ seek (weight-here count (now (rows .entry))) best (beside modes history x y 0 next)) ⌝ }
 {
-    let mut odd = [0u8; 2048];
-    weight::count_odd(rows, count, x, y, &mut odd);
-    best_of_rest(opens, rows, count, next, &odd, x, y, start)
+    let mut less = [0u16; 769];
+    let Tally::All(all) = tally::tally_couple(rows, count, x, y, best.weight, &mut less) else {
+        return best;
+    };
+    best_of_rest(opens, odds, &less, all, next, x, y, best)
 }
 
-// The best so far against the triples that this entity names.
+// The best so far against the triples that this entity names, unless a lower one named them.
 fn best_with<'a>(
     opens: &'a [bool; 769],
     ends: &'a [u16; 769],
     holders: &'a [u16; 769],
+    odds: &'a [u16; 769],
     rows: &'a [u16],
     modes: usize,
     count: usize,
@@ -133,15 +139,62 @@ fn best_with<'a>(
 ) -> Best
     requires { ⌜ Held row-width count (now rows) ⌝ }
     requires { ⌜ (count ≤ most-terms) × (modes ≤ most-modes) × (a < entity-room) × (getD (now ends) a 0 < 3 * most-modes) ⌝ }
-    ensures { λ r. ⌜ ((history : List Three) → Tied entity-room modes history (now (opens .entry)) (now (ends .entry)) (now (holders .entry)) → r ≡ seek (weight-here count (now (rows .entry))) best (beside-couple modes history next (couple modes history a))) ⌝ }
+    requires { ⌜ ((n : ℕ) → n < entity-room → getD (now odds) n 0 ≡ odds-in n (terms-of row-width count (now rows))) ⌝ }
+    ensures { λ r. ⌜ ((history : List Three) → Tied entity-room modes history (now (opens .entry)) (now (ends .entry)) (now (holders .entry)) → SettledBelow (weight-here count (now (rows .entry))) modes history next best a → r ≡ seek (weight-here count (now (rows .entry))) best (beside-couple modes history next (couple modes history a))) ⌝ }
 {
     let Couple::Of(x, y) = lawful::couple_of(opens, ends, holders, modes, a) else {
         return best;
     };
-    best_of_couple(opens, rows, count, next, x, y, best)
+    if lawful::named_before(ends, holders, a, x, y) {
+        return best;
+    }
+    best_of_couple(opens, odds, rows, count, next, x, y, best)
 }
 
-// The least of all lawful triples, each named in ascending a, then z; no weight is above the number of rows.
+// The least of all lawful triples, each named in ascending a, then z; none is lighter than 0, nor heavier than the number of rows.
+fn least_of_all<'a>(
+    opens: &'a [bool; 769],
+    ends: &'a [u16; 769],
+    holders: &'a [u16; 769],
+    odds: &'a [u16; 769],
+    rows: &'a [u16],
+    modes: usize,
+    count: usize,
+    next: u16,
+) -> Best
+    requires { ⌜ Held row-width count (now rows) ⌝ }
+    requires { ⌜ (count ≤ most-terms) × (modes ≤ most-modes) × (next ≤ entity-room) ⌝ }
+    requires { ⌜ ((entity : ℕ) → entity < next → getD (now ends) entity 0 < 3 * most-modes) ⌝ }
+    requires { ⌜ ((n : ℕ) → n < entity-room → getD (now odds) n 0 ≡ odds-in n (terms-of row-width count (now rows))) ⌝ }
+    ensures { λ r. ⌜ ((history : List Three) → Tied entity-room modes history (now (opens .entry)) (now (ends .entry)) (now (holders .entry)) → next ≡ next-parent modes history → r ≡ seek (weight-here count (now (rows .entry))) (nothing count) (candidates modes history)) ⌝ }
+{
+    let mut best = Best {
+        weight: count + 1,
+        triple: Triple { x: 0, y: 0, z: 0 },
+    };
+    let mut a: u16 = 0;
+    while a < next {
+        if best.weight == 0 {
+            return best;
+        }
+        best = best_with(
+            opens,
+            ends,
+            holders,
+            odds,
+            rows,
+            modes,
+            count,
+            next,
+            a,
+            best,
+        );
+        a += 1;
+    }
+    best
+}
+
+// The same; in how many rows each entity is odd is counted once for all of them.
 pub fn choose<'a>(
     opens: &'a [bool; 769],
     ends: &'a [u16; 769],
@@ -156,14 +209,7 @@ pub fn choose<'a>(
     requires { ⌜ ((entity : ℕ) → entity < next → getD (now ends) entity 0 < 3 * most-modes) ⌝ }
     ensures { λ r. ⌜ ((history : List Three) → Tied entity-room modes history (now (opens .entry)) (now (ends .entry)) (now (holders .entry)) → next ≡ next-parent modes history → r ≡ seek (weight-here count (now (rows .entry))) (nothing count) (candidates modes history)) ⌝ }
 {
-    let mut best = Best {
-        weight: count + 1,
-        triple: Triple { x: 0, y: 0, z: 0 },
-    };
-    let mut a: u16 = 0;
-    while a < next {
-        best = best_with(opens, ends, holders, rows, modes, count, next, a, best);
-        a += 1;
-    }
-    best
+    let mut odds = [0u16; 769];
+    tallying::odds::count_odds(rows, count, &mut odds);
+    least_of_all(opens, ends, holders, &odds, rows, modes, count, next)
 }

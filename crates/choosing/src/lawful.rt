@@ -3,11 +3,14 @@ ghost use mathlib.Core.Path.{_≡_};
 ghost use mathlib.Core.Bool.{true};
 ghost use mathlib.Core.List.{List};
 ghost use Prim.Native.Nat.{ℕ, _*_, _≤_, _<_};
+ghost use lib.Dec.{eqb};
 ghost use lib.ListN.{getD};
 ghost use Rattle.entities.specs.declared.Triple.{Triple as Three};
 ghost use Rattle.entities.specs.Limits.{«most-modes», «entity-room»};
 ghost use Rattle.history.specs.History.{«next-parent», «is-open», «z-end»};
+ghost use Rattle.history.specs.computed.Pairs.{holder};
 ghost use Rattle.history.specs.Lawful.{«three-open», paired as «paired-in»};
+ghost use Rattle.choosing.specs.declared.lawful.Couple.the-variants.{Of};
 ghost use Rattle.choosing.specs.code.Couples.{
   «x-of»,
   «y-of»,
@@ -152,4 +155,33 @@ pub fn couple_of<'a>(
         return Couple::Nothing;
     }
     Couple::Of(pair.x, pair.y)
+}
+
+// The entity is the holder of its z-end.
+fn holds_end<'a>(ends: &'a [u16; 769], holders: &'a [u16; 769], a: u16) -> bool
+    requires { ⌜ (a < entity-room) × (getD (now ends) a 0 < 3 * most-modes) ⌝ }
+    ensures { λ r. ⌜ ((modes : ℕ) (history : List Three) → EndsAre entity-room modes history (now (ends .entry)) → HoldersAre entity-room modes history (now (holders .entry)) → r ≡ eqb (holder modes history (z-end modes history a)) a) ⌝ }
+{
+    let end = end_of(ends, a);
+    holders[end] == a
+}
+
+// The other of the two that the entity names is lower, and names the same two.
+pub fn named_before<'a>(
+    ends: &'a [u16; 769],
+    holders: &'a [u16; 769],
+    a: u16,
+    x: u16,
+    y: u16,
+) -> bool
+    requires { ⌜ (a < entity-room) × (getD (now ends) a 0 < 3 * most-modes) ⌝ }
+    ensures { λ r. ⌜ ((modes : ℕ) (history : List Three) → EndsAre entity-room modes history (now (ends .entry)) → HoldersAre entity-room modes history (now (holders .entry)) → couple modes history a ≡ Of x y → r ≡ true → (lower : ℕ) × ((lower < a) × (couple modes history lower ≡ Of x y))) ⌝ }
+{
+    if x < a {
+        return holds_end(ends, holders, a);
+    }
+    if y < a {
+        return holds_end(ends, holders, a);
+    }
+    false
 }

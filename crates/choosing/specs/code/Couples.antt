@@ -1,7 +1,7 @@
 -- How the code goes through the lawful pairs: each a with its x and y first, then every z that is free beside them.
 use mathlib.Core.Path.{_≡_}
 use mathlib.Core.Bool.{Bool, false, cond, not, _&&_}
-use mathlib.Core.List.{List, [], map}
+use mathlib.Core.List.{List, [], map, List·Memᴰ}
 use Prim.Native.Nat.{ℕ, _+_, _*_, _%_, _<_, _≤_}
 use lib.Dec.{eqb, ltb}
 use lib.ListN.{getD}
@@ -9,7 +9,7 @@ use Rattle.lists.specs.Least.{least}
 use Rattle.lists.specs.Members.{keep}
 use Rattle.lists.specs.Ranges.{listed}
 use Rattle.entities.specs.declared.Triple.{Triple}
-use Rattle.entities.specs.Limits.{row-width}
+use Rattle.entities.specs.Limits.{row-width, entity-room}
 use Rattle.terms.specs.Rows.{terms-of}
 use Rattle.terms.specs.Weight.{weight-of}
 use Rattle.history.specs.History.{next-parent, is-open, z-end}
@@ -72,6 +72,20 @@ seek measure best triples = least (λ b. b .weight) best (map (weighed measure) 
 -- Before the first triple: above every weight, since a row weighs at most 1.
 unfoldable pub nothing : ℕ → Best
 nothing count = record { weight = count + 1; triple = record { x = 0; y = 0; z = 0 } }
+
+-- What is counted of a couple gives the weight of its triple with any z of the tables.
+abbrev pub Looked : (Triple → ℕ) → ℕ → ℕ → ℕ → List ℕ → List ℕ → Type 0
+Looked measure x y all odds less =
+    (z : ℕ) → z < entity-room → all + getD odds z 0 ≡ measure (record { x = x; y = y; z = z }) + getD less z 0
+
+-- No triple of the list is lighter than the best.
+abbrev pub Settled : (Triple → ℕ) → Best → List Triple → Type 0
+Settled measure best triples = (triple : Triple) → List·Memᴰ triple triples → best .weight ≤ measure triple
+
+-- Nor is any that an entity below `a` names.
+abbrev pub SettledBelow : (Triple → ℕ) → ℕ → List Triple → ℕ → Best → ℕ → Type 0
+SettledBelow measure modes history next best a =
+    (lower : ℕ) → lower < a → Settled measure best (beside-couple modes history next (couple modes history lower))
 
 -- The tables of the entities say what the history says, as far as they reach.
 abbrev pub OpensAre : ℕ → ℕ → List Triple → List Bool → Type 0

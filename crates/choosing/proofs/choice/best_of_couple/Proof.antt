@@ -1,36 +1,71 @@
--- x and y counted in the rows first, then every z.
-use mathlib.Core.Path.{_≡_}
+-- A couple too heavy with every z changes nothing; of any other the counts give each weight.
+use mathlib.Core.Path.{_≡_, sym}
+use Prim.Native.Nat.{_≤_}
 use native.Mathlib.Omega.{arith}
-use borrow.Author.Needs.{needs}
 use lib.ListN.{length}
+use Rattle.terms.proofs.RowSteps.{length-terms}
+use Rattle.choosing.specs.code.Couples.{Looked, weight-here}
+use Rattle.choosing.proofs.SettledBest.{seek-idle, heavy-settles}
+use borrow.Author.Needs.{needs}
 use Rattle.choosing.proofs.choice.best_of_couple.Statement.{statement}
 use Rattle.choosing.proofs.choice.best_of_couple.Tie as tie
 
-slice-aggregate-count-odd : tie.Need-slice-aggregate-count-odd
-slice-aggregate-count-odd c = search needs
+slice-aggregate-tally-couple : tie.Need-slice-aggregate-tally-couple
+slice-aggregate-tally-couple c = search needs
 
-count-odd-requires : tie.Need-count-odd-requires
-count-odd-requires c κs = search needs
+tally-couple-requires : tie.Need-tally-couple-requires
+tally-couple-requires c κs = search needs
 
-slice-aggregate-best-of-rest : tie.Need-slice-aggregate-best-of-rest
-slice-aggregate-best-of-rest c = search needs
+enum-known-all : tie.Need-enum-known-all
+enum-known-all c = search needs
+
+enum-told : tie.Need-enum-told
+enum-told c = search needs
+
+returns : tie.Need-returns
+unfolding weight-here
+returns c modes history within opens =
+    let called = c .before .before .before .tally-couple in
+    let args = c .before .before .before .before .before .before .args in
+    let heavy = rw (c .enum-told .given .1) at (called .ensures) in
+    sym (seek-idle _ _ _ (heavy-settles (weight-here (args .count) (args .rows .now)) modes history (args .x) (args .y) (args .next) (args .best) heavy))
+
+module _ (c : tie.After-all) where
+  few : c .all .given .0 .0 ≤ 2048
+  few =
+      let start = c .before .before .before .before .before .before in
+      let told = rw (c .all .given .1) at (c .before .before .before .tally-couple .ensures) in
+      omega (arith, told .0, length-terms 8 (start .args .count) (start .args .rows .now))
+
+  looked : (let args = c .before .before .before .before .before .before .args in
+      Looked (weight-here (args .count) (args .rows .now)) (args .x) (args .y) (c .all .given .0 .0) (args .odds .now)
+      (c .before .before .before .tally-couple .last .1 .1 .1 .1 .1 .0))
+  unfolding weight-here
+  looked z h =
+      let start = c .before .before .before .before .before .before in
+      let called = c .before .before .before .tally-couple in
+      let told = rw (c .all .given .1) at (called .ensures) in
+      let whole : length (called .last .1 .1 .1 .1 .1 .0) ≡ 769 = called .kept .1 .1 .1 .1 .1 .0 in
+      omega (arith, told .1 z (omega arith), start .pre .1 .1 z h)
 
 best-of-rest-requires : tie.Need-best-of-rest-requires
 best-of-rest-requires c κs =
-    let start = c .before .before .before .before .before in
-    let called = c .before .before .count-odd in
-    let whole : length (called .last .1 .1 .1 .1 .0) ≡ 2048 = called .kept .1 .1 .1 .1 .0 in
-    (start .pre .0, (omega arith, called .ensures))
+    let args = c .before .before .before .before .before .before .before .before .args in
+    (few (c .before .before), (weight-here (args .count) (args .rows .now), looked (c .before .before)))
 
-returns : tie.Need-returns
-returns c = search needs
+returns-2 : tie.Need-returns-2
+returns-2 c modes history within opens =
+    let args = c .before .before .before .before .before .before .before .before .before .args in
+    c .best-of-rest .ensures (weight-here (args .count) (args .rows .now)) (looked (c .before .before .before)) modes history within opens
 
 pub best-of-couple-spec : {M : Type 1} → statement M
 best-of-couple-spec =
     tie.close
     (tie.spec
-    slice-aggregate-count-odd
-    count-odd-requires
-    slice-aggregate-best-of-rest
+    slice-aggregate-tally-couple
+    tally-couple-requires
+    enum-known-all
+    enum-told
+    returns
     best-of-rest-requires
-    returns)
+    returns-2)

@@ -7,25 +7,25 @@ use native.Mathlib.Omega.{arith}
 use borrow.Author.Needs.{needs}
 use Rattle.entities.specs.declared.Triple.{Triple}
 use Rattle.history.specs.History.{next-parent}
-use Rattle.choosing.specs.code.Couples.{OpensAre, beside, seek, weight-here}
+use Rattle.choosing.specs.code.Couples.{OpensAre, Looked, beside, seek}
 use Rattle.choosing.proofs.Candidates.{beside-step, beside-end}
 use Rattle.choosing.proofs.Seeking.{seek-joined, seek-none}
 use Rattle.choosing.proofs.choice.best_of_rest.Statement.{statement}
 use Rattle.choosing.proofs.choice.best_of_rest.Tie as tie
 
 abbrev Inv-loop : tie.InvT-loop
-Inv-loop opens rows count next odd x y best₀ z₀ best z =
+Inv-loop opens odds less all next x y best₀ z₀ best z =
     (z ≤ next)
-    × ((modes : ℕ) (history : List Triple) → next-parent modes history ≤ 769 → OpensAre 769 modes history opens
-    → seek (weight-here count rows) best₀ (beside modes history x y 0 next)
-    ≡ seek (weight-here count rows) best (beside modes history x y z (next - z)))
+    × ((measure : Triple → ℕ) → Looked measure x y all odds less → (modes : ℕ) (history : List Triple) → next-parent modes history ≤ 769 → OpensAre 769 modes history opens
+    → seek measure best₀ (beside modes history x y 0 next)
+    ≡ seek measure best (beside modes history x y z (next - z)))
 
 abbrev μ-loop : tie.MeasureT-loop
-μ-loop opens rows count next odd x y best₀ z₀ best z = next - z
+μ-loop opens odds less all next x y best₀ z₀ best z = next - z
 
 loop-holds : tie.Need-loop-holds Inv-loop μ-loop
 loop-holds c =
-    (search needs, λ modes history within opens. rw sub-zero)
+    (search needs, λ measure looked modes history within opens. rw sub-zero)
 
 best-beside-requires : tie.Need-best-beside-requires Inv-loop μ-loop
 best-beside-requires c κs = search needs
@@ -39,22 +39,22 @@ loop-less c = search needs
 loop-again : tie.Need-loop-again Inv-loop μ-loop
 loop-again c =
     let here = c .before .before in
-    let args = here .before .before .before .args in (
+    let args = here .before .args in (
       omega arith,
-      λ modes history within opens.
-          here .loop .inv .1 modes history within opens
+      λ measure looked modes history within opens.
+          here .loop .inv .1 measure looked modes history within opens
           ∙ rw (beside-step modes history (args .x) (args .y) (here .loop .z) (args .next) (omega arith))
-          (seek-joined (weight-here (args .count) (args .rows .now)) (here .loop .best) _ _
-          ∙ ap (λ b. seek (weight-here (args .count) (args .rows .now)) b (beside modes history (args .x) (args .y) (here .loop .z + 1) (args .next - (here .loop .z + 1))))
-          (sym (c .best-beside .ensures modes history within opens))),
+          (seek-joined measure (here .loop .best) _ _
+          ∙ ap (λ b. seek measure b (beside modes history (args .x) (args .y) (here .loop .z + 1) (args .next - (here .loop .z + 1))))
+          (sym (c .best-beside .ensures measure looked modes history within opens))),
     )
 
 returns : tie.Need-returns Inv-loop μ-loop
-returns c modes history within opens =
+returns c measure looked modes history within opens =
     let here = c .before in
-    let args = here .before .before .before .args in
+    let args = here .before .args in
     sym
-    (here .loop .inv .1 modes history within opens
+    (here .loop .inv .1 measure looked modes history within opens
     ∙ rw (beside-end modes history (args .x) (args .y) (here .loop .z) (args .next) (omega arith)) (seek-none _ _))
 
 pub best-of-rest-spec : {M : Type 1} → statement M
