@@ -1,5 +1,5 @@
 -- Seeking the best goes list by list, and a better one is ahead by weight, then by z, y, x.
-use mathlib.Core.Path.{_≡_, refl}
+use mathlib.Core.Path.{_≡_, refl, ap, _∙_}
 use mathlib.Core.Bool.{true, false, cond, not}
 use mathlib.Core.List.{List, [], _∷_, _++_, map, flatMap, append-nil, map-append}
 use Prim.Native.Nat.{ℕ, _+_, _<_, _≤_}
@@ -14,6 +14,7 @@ use Rattle.lists.proofs.Kept.{keep-joined}
 use Rattle.lists.proofs.Joined.{flatMap-joined}
 use Rattle.lists.proofs.Least.{best-joined, least-map-joined}
 use Rattle.entities.specs.declared.Triple.{Triple}
+use Rattle.terms.specs.Weight.{weight-of}
 use Rattle.slots.specs.code.Numbers.{number-leaf}
 use Rattle.choice.specs.declared.Selection.{Selection}
 use Rattle.choice.specs.Choices.{with-z, without, choices-at}
@@ -97,3 +98,16 @@ module _ (modes : ℕ) (table assigned : List ℕ) (rows : List (List ℕ)) wher
       → sought-over modes table assigned rows best (drop i nodes)
       ≡ sought-over modes table assigned rows (sought-over modes table assigned rows best (getD nodes i 0 ∷ [])) (drop (i + 1) nodes)
   over-step best nodes i h = rw (drop-step nodes i 0 h) (over-joined best (getD nodes i 0 ∷ []) (drop (i + 1) nodes))
+
+-- A couple that is heavier than the best with every z leaves the best as it is.
+pub heavy-idle : (rows : List (List ℕ)) (node : ℕ) (best : Selection) (x y : ℕ)
+    → ((z : ℕ) → best .«min_weight» < weight-of (record { x = x; y = y; z = z }) rows) → (zs : List ℕ)
+    → sought rows node best (with-z x y zs) ≡ best
+unfolding with-z weighed
+heavy-idle rows node best x y heavy [] = sought-none rows node best
+heavy-idle rows node best x y heavy (z ∷ zs) =
+    let first : Triple = record { x = x; y = y; z = z } in
+    sought-joined rows node best (first ∷ []) (with-z x y zs)
+    ∙ ap (λ b. sought rows node b (with-z x y zs))
+    (sought-one rows node best first ∙ rw (by-weight-not best (weighed rows node first) (heavy z)))
+    ∙ heavy-idle rows node best x y heavy zs

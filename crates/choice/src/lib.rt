@@ -9,14 +9,17 @@ ghost use Rattle.lists.specs.Members.{every, «some-of»};
 ghost use Rattle.lists.specs.Least.{lighter};
 ghost use Rattle.entities.specs.Limits.{«most-modes», «most-terms», «row-width»};
 ghost use Rattle.terms.specs.Rows.{«terms-of»};
-ghost use Rattle.terms.specs.code.Held.{Held, OddOf};
+ghost use Rattle.terms.specs.code.Held.{Held};
 ghost use Rattle.terms.specs.Weight.{«weight-of»};
+ghost use Rattle.tallying.specs.code.Tallies.{Looked};
 ghost use Rattle.slots.specs.code.Numbers.{«number-leaf»};
 ghost use Rattle.choice.specs.Choices.{unassigned, without, «with-z»};
 ghost use Rattle.choice.specs.code.Numbered.{numbered, «numbered-choices»};
-ghost use Rattle.choice.specs.code.Seeking.{packed as «packed-number», standing, worst, sought, «sought-over»};
+ghost use Rattle.choice.specs.code.Seeking.{packed as «packed-number», standing, worst, sought, «sought-over», Counted};
 use entities::Triple;
 use slots::nodes;
+use tallying::tally;
+use tallying::tally::Tally;
 use terms::weight;
 
 // The best choice so far: its weight, its node, and the numbers that the node's three slots are to stand as.
@@ -99,29 +102,11 @@ fn better_of(node: u16, triple: Triple, weight: usize, best: Selection) -> Selec
     )
 }
 
-// The best so far against one choice, given how many of its x and y are odd in each row.
-fn best_beside<'a>(
-    rows: &'a [u16],
-    count: usize,
-    odd: &'a [u8],
-    node: u16,
-    triple: Triple,
-    best: Selection,
-) -> Selection
-    requires { ⌜ Held row-width count (now rows) ⌝ }
-    requires { ⌜ count ≤ length (now odd) ⌝ }
-    requires { ⌜ OddOf (now rows) count (triple .x) (triple .y) (now odd) ⌝ }
-    ensures { λ r. ⌜ r ≡ sought (terms-of row-width count (now (rows .entry))) node best (triple ∷ []) ⌝ }
-{
-    let weight = weight::weight_beside(rows, count, odd, triple);
-    better_of(node, triple, weight, best)
-}
-
-// The best so far against the choice whose Z leaf takes this mode, unless it is the pair's.
+// The best so far against the choice whose Z leaf takes this mode, unless it is the pair's; its weight is looked up.
 fn best_of_mode<'a>(
-    rows: &'a [u16],
-    count: usize,
-    odd: &'a [u8],
+    odds: &'a [u16; 512],
+    less: &'a [u16; 512],
+    all: usize,
     modes: usize,
     node: u16,
     slots: Triple,
@@ -129,11 +114,9 @@ fn best_of_mode<'a>(
     mode: u16,
     best: Selection,
 ) -> Selection
-    requires { ⌜ Held row-width count (now rows) ⌝ }
-    requires { ⌜ count ≤ length (now odd) ⌝ }
-    requires { ⌜ OddOf (now rows) count (slots .x) (slots .y) (now odd) ⌝ }
-    requires { ⌜ (modes ≤ most-modes) × (mode < modes) × (3 * modes < slots .z) × (slots .z ≤ 3 * modes + 2) ⌝ }
-    ensures { λ r. ⌜ r ≡ sought (terms-of row-width count (now (rows .entry))) node best (with-z (slots .x) (slots .y) (map (number-leaf modes (slots .z)) (without pair (mode ∷ [])))) ⌝ }
+    requires { ⌜ ((rows : List (List ℕ)) × Looked (2 * most-modes) (λ triple. weight-of triple rows) (slots .x) (slots .y) all (now odds) (now less)) ⌝ }
+    requires { ⌜ (all ≤ most-terms) × (modes ≤ most-modes) × (mode < modes) × (3 * modes < slots .z) × (slots .z ≤ 3 * modes + 2) ⌝ }
+    ensures { λ r. ⌜ ((rows : List (List ℕ)) → Looked (2 * most-modes) (λ triple. weight-of triple rows) (slots .x) (slots .y) all (now (odds .entry)) (now (less .entry)) → r ≡ sought rows node best (with-z (slots .x) (slots .y) (map (number-leaf modes (slots .z)) (without pair (mode ∷ []))))) ⌝ }
 {
     if mode == pair {
         return best;
@@ -143,14 +126,16 @@ fn best_of_mode<'a>(
         y: slots.y,
         z: slots::leaf_of(modes, slots.z, mode),
     };
-    best_beside(rows, count, odd, node, triple, best)
+    let at = entities::wide(triple.z);
+    let weight = all + entities::wide(odds[at]) - entities::wide(less[at]);
+    better_of(node, triple, weight, best)
 }
 
 // The best so far against the choices whose Z leaf takes each of these modes but the pair's.
 fn best_of_modes<'a>(
-    rows: &'a [u16],
-    count: usize,
-    odd: &'a [u8],
+    odds: &'a [u16; 512],
+    less: &'a [u16; 512],
+    all: usize,
     free: &'a [u16],
     modes: usize,
     node: u16,
@@ -158,26 +143,36 @@ fn best_of_modes<'a>(
     pair: u16,
     start: Selection,
 ) -> Selection
-    requires { ⌜ Held row-width count (now rows) ⌝ }
-    requires { ⌜ count ≤ length (now odd) ⌝ }
-    requires { ⌜ OddOf (now rows) count (slots .x) (slots .y) (now odd) ⌝ }
-    requires { ⌜ (modes ≤ most-modes) × (3 * modes < slots .z) × (slots .z ≤ 3 * modes + 2) ⌝ }
+    requires { ⌜ ((rows : List (List ℕ)) × Looked (2 * most-modes) (λ triple. weight-of triple rows) (slots .x) (slots .y) all (now odds) (now less)) ⌝ }
+    requires { ⌜ (all ≤ most-terms) × (modes ≤ most-modes) × (3 * modes < slots .z) × (slots .z ≤ 3 * modes + 2) ⌝ }
     requires { ⌜ every (λ mode. ltb mode modes) (now free) ≡ true ⌝ }
-    ensures { λ r. ⌜ r ≡ sought (terms-of row-width count (now (rows .entry))) node start (with-z (slots .x) (slots .y) (map (number-leaf modes (slots .z)) (without pair (now (free .entry))))) ⌝ }
+    ensures { λ r. ⌜ ((rows : List (List ℕ)) → Looked (2 * most-modes) (λ triple. weight-of triple rows) (slots .x) (slots .y) all (now (odds .entry)) (now (less .entry)) → r ≡ sought rows node start (with-z (slots .x) (slots .y) (map (number-leaf modes (slots .z)) (without pair (now (free .entry)))))) ⌝ }
 {
     let mut best = start;
     let mut at = 0;
     while at < free.len() {
-        best = best_of_mode(rows, count, odd, modes, node, slots, pair, free[at], best);
+        best = best_of_mode(odds, less, all, modes, node, slots, pair, free[at], best);
         at += 1;
     }
     best
 }
 
-// The best so far against x and y with each number that the Z slot may stand as; where these are many, x and y are counted in the rows once.
+// A limit for which a couple may be left: whatever reaches it in so many rows is heavier than the best so far, and no tie.
+fn limit_past(weight: usize, count: usize) -> usize
+    requires { ⌜ count ≤ most-terms ⌝ }
+    ensures { λ r. ⌜ ((heavy : ℕ) → r ≤ heavy → heavy ≤ count → weight < heavy) ⌝ }
+{
+    if count < weight {
+        return count + 1;
+    }
+    weight + 1
+}
+
+// The best so far against x and y with each number that the Z slot may stand as; where these are many, the rows are read once for all of them.
 fn best_of_pair<'a>(
     rows: &'a [u16],
     count: usize,
+    odds: &'a [u16; 512],
     free: &'a [u16],
     modes: usize,
     node: u16,
@@ -185,7 +180,7 @@ fn best_of_pair<'a>(
     pair: u16,
     start: Selection,
 ) -> Selection
-    requires { ⌜ Held row-width count (now rows) ⌝ }
+    requires { ⌜ Counted count (now rows) (now odds) ⌝ }
     requires { ⌜ (count ≤ most-terms) × (modes ≤ most-modes) × (slots .z ≤ 3 * modes + 2) ⌝ }
     requires { ⌜ every (λ mode. ltb mode modes) (now free) ≡ true ⌝ }
     ensures { λ r. ⌜ r ≡ sought (terms-of row-width count (now (rows .entry))) node start (with-z (slots .x) (slots .y) (numbered modes (slots .z) (without pair (now (free .entry))))) ⌝ }
@@ -193,15 +188,20 @@ fn best_of_pair<'a>(
     if !slots::unfixed(modes, slots.z) {
         return better_of(node, slots, weight::weight(rows, count, slots), start);
     }
-    let mut odd = [0u8; 2048];
-    weight::count_odd(rows, count, slots.x, slots.y, &mut odd);
-    best_of_modes(rows, count, &odd, free, modes, node, slots, pair, start)
+    let limit = limit_past(start.min_weight, count);
+    let mut less = [0u16; 512];
+    let Tally::All(all) = tally::tally_couple(rows, count, slots.x, slots.y, limit, &mut less)
+    else {
+        return start;
+    };
+    best_of_modes(odds, &less, all, free, modes, node, slots, pair, start)
 }
 
 // The best so far against the choices in which the X and Y leaves take this mode.
 fn best_of_leaves<'a>(
     rows: &'a [u16],
     count: usize,
+    odds: &'a [u16; 512],
     free: &'a [u16],
     modes: usize,
     node: u16,
@@ -209,7 +209,7 @@ fn best_of_leaves<'a>(
     mode: u16,
     best: Selection,
 ) -> Selection
-    requires { ⌜ Held row-width count (now rows) ⌝ }
+    requires { ⌜ Counted count (now rows) (now odds) ⌝ }
     requires { ⌜ (count ≤ most-terms) × (modes ≤ most-modes) × (mode < modes) ⌝ }
     requires { ⌜ (3 * modes < slots .x) × (slots .x ≤ 3 * modes + 2) × (3 * modes < slots .y) × (slots .y ≤ 3 * modes + 2) × (slots .z ≤ 3 * modes + 2) ⌝ }
     requires { ⌜ every (λ mode. ltb mode modes) (now free) ≡ true ⌝ }
@@ -220,20 +220,21 @@ fn best_of_leaves<'a>(
         y: slots::leaf_of(modes, slots.y, mode),
         z: slots.z,
     };
-    best_of_pair(rows, count, free, modes, node, leaves, mode, best)
+    best_of_pair(rows, count, odds, free, modes, node, leaves, mode, best)
 }
 
 // The best so far against the choices in which the X and Y leaves take each free mode in turn.
 fn best_of_pairs<'a>(
     rows: &'a [u16],
     count: usize,
+    odds: &'a [u16; 512],
     free: &'a [u16],
     modes: usize,
     node: u16,
     slots: Triple,
     start: Selection,
 ) -> Selection
-    requires { ⌜ Held row-width count (now rows) ⌝ }
+    requires { ⌜ Counted count (now rows) (now odds) ⌝ }
     requires { ⌜ (count ≤ most-terms) × (modes ≤ most-modes) ⌝ }
     requires { ⌜ (3 * modes < slots .x) × (slots .x ≤ 3 * modes + 2) × (3 * modes < slots .y) × (slots .y ≤ 3 * modes + 2) × (slots .z ≤ 3 * modes + 2) ⌝ }
     requires { ⌜ every (λ mode. ltb mode modes) (now free) ≡ true ⌝ }
@@ -242,7 +243,7 @@ fn best_of_pairs<'a>(
     let mut best = start;
     let mut at = 0;
     while at < free.len() {
-        best = best_of_leaves(rows, count, free, modes, node, slots, free[at], best);
+        best = best_of_leaves(rows, count, odds, free, modes, node, slots, free[at], best);
         at += 1;
     }
     best
@@ -252,13 +253,14 @@ fn best_of_pairs<'a>(
 fn best_of_slots<'a>(
     rows: &'a [u16],
     count: usize,
+    odds: &'a [u16; 512],
     free: &'a [u16],
     modes: usize,
     node: u16,
     slots: Triple,
     best: Selection,
 ) -> Selection
-    requires { ⌜ Held row-width count (now rows) ⌝ }
+    requires { ⌜ Counted count (now rows) (now odds) ⌝ }
     requires { ⌜ (count ≤ most-terms) × (modes ≤ most-modes) × (slots .x ≤ 3 * modes + 2) × (slots .y ≤ 3 * modes + 2) × (slots .z ≤ 3 * modes + 2) ⌝ }
     requires { ⌜ every (λ mode. ltb mode modes) (now free) ≡ true ⌝ }
     ensures { λ r. ⌜ r ≡ sought (terms-of row-width count (now (rows .entry))) node best (numbered-choices modes (now (free .entry)) (slots .x) (slots .y) (slots .z)) ⌝ }
@@ -266,18 +268,19 @@ fn best_of_slots<'a>(
     // a mode that no leaf takes, so that Z may take any
     let none = modes as u16;
     if !slots::unfixed(modes, slots.x) {
-        return best_of_pair(rows, count, free, modes, node, slots, none, best);
+        return best_of_pair(rows, count, odds, free, modes, node, slots, none, best);
     }
     if !slots::unfixed(modes, slots.y) {
-        return best_of_pair(rows, count, free, modes, node, slots, none, best);
+        return best_of_pair(rows, count, odds, free, modes, node, slots, none, best);
     }
-    best_of_pairs(rows, count, free, modes, node, slots, best)
+    best_of_pairs(rows, count, odds, free, modes, node, slots, best)
 }
 
 // The best so far against the choices of a node.
 fn best_at<'a>(
     rows: &'a [u16],
     count: usize,
+    odds: &'a [u16; 512],
     tree: &'a [u16],
     assigned: &'a [u16],
     free: &'a [u16],
@@ -285,16 +288,56 @@ fn best_at<'a>(
     node: u16,
     best: Selection,
 ) -> Selection
-    requires { ⌜ Held row-width count (now rows) ⌝ }
+    requires { ⌜ Counted count (now rows) (now odds) ⌝ }
     requires { ⌜ (count ≤ most-terms) × (modes ≤ most-modes) × (length (now assigned) ≡ modes) × (length (now tree) ≡ 3 * modes) × (node < modes) ⌝ }
     requires { ⌜ now free ≡ unassigned modes (now assigned) ⌝ }
     ensures { λ r. ⌜ r ≡ sought-over modes (now (tree .entry)) (now (assigned .entry)) (terms-of row-width count (now (rows .entry))) best (node ∷ []) ⌝ }
 {
     let at = slots::slots(modes, tree, assigned, entities::wide(node));
-    best_of_slots(rows, count, free, modes, node, at, best)
+    best_of_slots(rows, count, odds, free, modes, node, at, best)
 }
 
 // The best of all choices of these nodes; no weight is above the rows.
+fn best_of_nodes<'a>(
+    rows: &'a [u16],
+    count: usize,
+    odds: &'a [u16; 512],
+    tree: &'a [u16],
+    assigned: &'a [u16],
+    free: &'a [u16],
+    active: &'a [u16],
+    modes: usize,
+) -> Selection
+    requires { ⌜ Counted count (now rows) (now odds) ⌝ }
+    requires { ⌜ (count ≤ most-terms) × (modes ≤ most-modes) × (length (now assigned) ≡ modes) × (length (now tree) ≡ 3 * modes) ⌝ }
+    requires { ⌜ now free ≡ unassigned modes (now assigned) ⌝ }
+    requires { ⌜ every (λ node. ltb node modes) (now active) ≡ true ⌝ }
+    ensures { λ r. ⌜ r ≡ sought-over modes (now (tree .entry)) (now (assigned .entry)) (terms-of row-width count (now (rows .entry))) (worst count) (now (active .entry)) ⌝ }
+{
+    let mut best = Selection {
+        min_weight: count + 1,
+        min_parent: 0,
+        leaf_indices: Triple { x: 0, y: 0, z: 0 },
+    };
+    let mut at = 0;
+    while at < active.len() {
+        best = best_at(
+            rows,
+            count,
+            odds,
+            tree,
+            assigned,
+            free,
+            modes,
+            active[at],
+            best,
+        );
+        at += 1;
+    }
+    best
+}
+
+// The same; in how many rows each leaf is odd is counted once for all of them.
 pub fn select<'a>(
     rows: &'a [u16],
     count: usize,
@@ -310,15 +353,7 @@ pub fn select<'a>(
     requires { ⌜ every (λ node. ltb node modes) (now active) ≡ true ⌝ }
     ensures { λ r. ⌜ r ≡ sought-over modes (now (tree .entry)) (now (assigned .entry)) (terms-of row-width count (now (rows .entry))) (worst count) (now (active .entry)) ⌝ }
 {
-    let mut best = Selection {
-        min_weight: count + 1,
-        min_parent: 0,
-        leaf_indices: Triple { x: 0, y: 0, z: 0 },
-    };
-    let mut at = 0;
-    while at < active.len() {
-        best = best_at(rows, count, tree, assigned, free, modes, active[at], best);
-        at += 1;
-    }
-    best
+    let mut odds = [0u16; 512];
+    tallying::odds::count_odds(rows, count, &mut odds);
+    best_of_nodes(rows, count, &odds, tree, assigned, free, active, modes)
 }

@@ -1,9 +1,9 @@
 -- A couple that an entity names is named by both of its entities, where the entity holds its own z-end.
 use mathlib.Core.Path.{_≡_, refl, ap, sym, _∙_}
-use mathlib.Core.Bool.{Bool, true, false, cond, not, _&&_}
+use mathlib.Core.Bool.{Bool, true, false, cond, not}
 use mathlib.Core.List.{List}
 use mathlib.Core.Logic.{_⊎_, ⊎-elim}
-use Prim.Native.Nat.{ℕ, _+_, _-_, _*_, _%_, _<_, _≤_}
+use Prim.Native.Nat.{ℕ, _+_, _-_, _*_, _%_}
 use native.Mathlib.Omega.{arith}
 use borrow.Author.Tests.{eqb-true}
 use lib.Dec.{eqb, ltb}
@@ -11,7 +11,6 @@ use Rattle.lists.proofs.Tests.{both, same-or-not}
 use Rattle.entities.specs.declared.Triple.{Triple}
 use Rattle.history.specs.History.{is-open, z-end}
 use Rattle.history.specs.computed.Pairs.{holder}
-use Rattle.choosing.specs.declared.lawful.Couple.{Couple}
 use Rattle.choosing.specs.declared.lawful.Couple.the-variants.{Of, Nothing}
 use Rattle.choosing.specs.code.Couples.{x-of, y-of, ends-pair, coupled, couple}
 use Rattle.choosing.proofs.Couples.{named-even, named-odd}

@@ -3,18 +3,17 @@ ghost use mathlib.Core.Path.{_≡_};
 ghost use mathlib.Core.Bool.{cond};
 ghost use mathlib.Core.List.{List, [], _∷_};
 ghost use Prim.Native.Nat.{ℕ, _+_, _*_, _≤_, _<_};
-ghost use lib.ListN.{getD, length};
+ghost use lib.ListN.{getD};
 ghost use Rattle.entities.specs.declared.Triple.{Triple as Three};
 ghost use Rattle.entities.specs.Limits.{«most-modes», «most-terms», «row-width», «entity-room»};
 ghost use Rattle.terms.specs.code.Held.{Held};
 ghost use Rattle.terms.specs.Rows.{«terms-of»};
-ghost use Rattle.tallying.specs.code.Tallies.{odds as «odds-in»};
+ghost use Rattle.tallying.specs.code.Tallies.{OddsAre, Looked};
 ghost use Rattle.history.specs.History.{«next-parent»};
 ghost use Rattle.history.specs.computed.Choosing.{candidates};
 ghost use Rattle.choosing.specs.code.Couples.{
   OpensAre,
   Tied,
-  Looked,
   SettledBelow,
   free,
   beside,
@@ -59,8 +58,8 @@ fn best_beside<'a>(
     best: Best,
 ) -> Best
     requires { ⌜ all ≤ most-terms ⌝ }
-    requires { ⌜ ((measure : Three → ℕ) × Looked measure (triple .x) (triple .y) all (now odds) (now less)) ⌝ }
-    ensures { λ r. ⌜ ((measure : Three → ℕ) → Looked measure (triple .x) (triple .y) all (now (odds .entry)) (now (less .entry)) → (modes : ℕ) (history : List Three) → next-parent modes history ≤ entity-room → OpensAre entity-room modes history (now (opens .entry)) → r ≡ seek measure best (cond (free modes history triple) (triple ∷ []) [])) ⌝ }
+    requires { ⌜ ((measure : Three → ℕ) × Looked entity-room measure (triple .x) (triple .y) all (now odds) (now less)) ⌝ }
+    ensures { λ r. ⌜ ((measure : Three → ℕ) → Looked entity-room measure (triple .x) (triple .y) all (now (odds .entry)) (now (less .entry)) → (modes : ℕ) (history : List Three) → next-parent modes history ≤ entity-room → OpensAre entity-room modes history (now (opens .entry)) → r ≡ seek measure best (cond (free modes history triple) (triple ∷ []) [])) ⌝ }
 {
     if triple.x == triple.z {
         return best;
@@ -88,8 +87,8 @@ fn best_of_rest<'a>(
     start: Best,
 ) -> Best
     requires { ⌜ all ≤ most-terms ⌝ }
-    requires { ⌜ ((measure : Three → ℕ) × Looked measure x y all (now odds) (now less)) ⌝ }
-    ensures { λ r. ⌜ ((measure : Three → ℕ) → Looked measure x y all (now (odds .entry)) (now (less .entry)) → (modes : ℕ) (history : List Three) → next-parent modes history ≤ entity-room → OpensAre entity-room modes history (now (opens .entry)) → r ≡ seek measure start (beside modes history x y 0 next)) ⌝ }
+    requires { ⌜ ((measure : Three → ℕ) × Looked entity-room measure x y all (now odds) (now less)) ⌝ }
+    ensures { λ r. ⌜ ((measure : Three → ℕ) → Looked entity-room measure x y all (now (odds .entry)) (now (less .entry)) → (modes : ℕ) (history : List Three) → next-parent modes history ≤ entity-room → OpensAre entity-room modes history (now (opens .entry)) → r ≡ seek measure start (beside modes history x y 0 next)) ⌝ }
 {
     let mut best = start;
     let mut z: u16 = 0;
@@ -114,7 +113,7 @@ fn best_of_couple<'a>(
 ) -> Best
     requires { ⌜ Held row-width count (now rows) ⌝ }
     requires { ⌜ count ≤ most-terms ⌝ }
-    requires { ⌜ ((n : ℕ) → n < entity-room → getD (now odds) n 0 ≡ odds-in n (terms-of row-width count (now rows))) ⌝ }
+    requires { ⌜ OddsAre entity-room (terms-of row-width count (now rows)) (now odds) ⌝ }
     ensures { λ r. ⌜ ((modes : ℕ) (history : List Three) → next-parent modes history ≤ entity-room → OpensAre entity-room modes history (now (opens .entry)) → r ≡ seek (weight-here count (now (rows .entry))) best (beside modes history x y 0 next)) ⌝ }
 {
     let mut less = [0u16; 769];
@@ -139,7 +138,7 @@ fn best_with<'a>(
 ) -> Best
     requires { ⌜ Held row-width count (now rows) ⌝ }
     requires { ⌜ (count ≤ most-terms) × (modes ≤ most-modes) × (a < entity-room) × (getD (now ends) a 0 < 3 * most-modes) ⌝ }
-    requires { ⌜ ((n : ℕ) → n < entity-room → getD (now odds) n 0 ≡ odds-in n (terms-of row-width count (now rows))) ⌝ }
+    requires { ⌜ OddsAre entity-room (terms-of row-width count (now rows)) (now odds) ⌝ }
     ensures { λ r. ⌜ ((history : List Three) → Tied entity-room modes history (now (opens .entry)) (now (ends .entry)) (now (holders .entry)) → SettledBelow (weight-here count (now (rows .entry))) modes history next best a → r ≡ seek (weight-here count (now (rows .entry))) best (beside-couple modes history next (couple modes history a))) ⌝ }
 {
     let Couple::Of(x, y) = lawful::couple_of(opens, ends, holders, modes, a) else {
@@ -165,7 +164,7 @@ fn least_of_all<'a>(
     requires { ⌜ Held row-width count (now rows) ⌝ }
     requires { ⌜ (count ≤ most-terms) × (modes ≤ most-modes) × (next ≤ entity-room) ⌝ }
     requires { ⌜ ((entity : ℕ) → entity < next → getD (now ends) entity 0 < 3 * most-modes) ⌝ }
-    requires { ⌜ ((n : ℕ) → n < entity-room → getD (now odds) n 0 ≡ odds-in n (terms-of row-width count (now rows))) ⌝ }
+    requires { ⌜ OddsAre entity-room (terms-of row-width count (now rows)) (now odds) ⌝ }
     ensures { λ r. ⌜ ((history : List Three) → Tied entity-room modes history (now (opens .entry)) (now (ends .entry)) (now (holders .entry)) → next ≡ next-parent modes history → r ≡ seek (weight-here count (now (rows .entry))) (nothing count) (candidates modes history)) ⌝ }
 {
     let mut best = Best {

@@ -9,7 +9,8 @@ use Rattle.terms.specs.Rows.{term, terms-of}
 use Rattle.terms.specs.Weight.{weight-of}
 use Rattle.terms.proofs.RowSteps.{terms-start, length-terms}
 use Rattle.terms.proofs.Weighing.{weight-step, weight-end}
-use Rattle.tallying.specs.code.Tallies.{odds, RowTallied}
+use Rattle.tallying.specs.code.Tallies.{odds, OddsAre, RowTallied, Tallied, Looked}
+use Rattle.tallying.specs.declared.tally.Tally.the-variants.{All}
 use Rattle.tallying.proofs.OddRows.{odds-step, odds-end}
 
 module _ (count : ℕ) (rows : List ℕ) (x y : ℕ) where
@@ -71,3 +72,8 @@ module _ (count : ℕ) (rows : List ℕ) (x y : ℕ) where
       omega (arith, so-far .few, so-far .within, length-terms 8 count rows),
       λ z k. omega (arith, so-far .counts z k, weight-end (with z) count place rows h, odds-end z count place rows h),
     )
+
+-- A couple's tally and the odds of all rows give its weight with any z that both tables reach.
+pub looked-up : (terms : List (List ℕ)) (x y limit all room : ℕ) (table less : List ℕ) → OddsAre room terms table → length less ≡ room
+    → Tallied terms x y limit less (All all) → Looked room (λ triple. weight-of triple terms) x y all table less
+looked-up terms x y limit all room table less counted whole tallied z h = omega (arith, tallied .1 z (omega arith), counted z h)

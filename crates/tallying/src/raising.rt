@@ -1,5 +1,4 @@
 // A table of numbers raised by one row: at each number that is odd in it.
-ghost use mathlib.Core.Path.{_≡_};
 ghost use Prim.Native.Nat.{ℕ, _+_, _%_, _≤_, _<_};
 ghost use lib.ListN.{length, getD, take};
 ghost use Rattle.lists.specs.Counting.{occurrences};

@@ -1,5 +1,4 @@
 // A couple's tally: what its triples weigh in the rows, but for z's own part, which is looked up.
-ghost use mathlib.Core.Path.{_≡_};
 ghost use Prim.Native.Nat.{ℕ, _+_, _%_, _≤_, _<_};
 ghost use lib.ListN.{length, getD};
 ghost use Rattle.entities.specs.Limits.{«most-terms», «row-width»};

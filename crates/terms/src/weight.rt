@@ -1,11 +1,10 @@
 // The letter that a triple gives a term, and its weight in all rows.
 ghost use mathlib.Core.Path.{_≡_};
 ghost use Prim.Native.Nat.{_%_, _≤_};
-ghost use lib.ListN.{length};
 ghost use Rattle.lists.specs.Counting.{same as «one-if-same», occurrences};
 ghost use Rattle.entities.specs.Limits.{«row-width»};
 ghost use Rattle.terms.specs.Rows.{«terms-of»};
-ghost use Rattle.terms.specs.code.Held.{Held, OddOf};
+ghost use Rattle.terms.specs.code.Held.{Held};
 ghost use Rattle.terms.specs.Weight.{«term-letter», «weight-of»};
 use crate::letters;
 use crate::letters::Letter;
@@ -62,36 +61,4 @@ pub fn odd_in(term: &[u16], number: u16) -> usize
         at += 1;
     }
     odd
-}
-
-// For each row, how many of x and y occur in it an odd number of times.
-pub fn count_odd(rows: &[u16], count: usize, x: u16, y: u16, odd: &mut [u8])
-    requires { ⌜ Held row-width count (now rows) ⌝ }
-    requires { ⌜ count ≤ length (now odd) ⌝ }
-    ensures { λ r. ⌜ OddOf (now (rows .entry)) count x y (now (odd .exit)) ⌝ }
-{
-    let mut place = 0;
-    while place < count {
-        let term = row::term_at(rows, place);
-        odd[place] = (odd_in(term, x) + odd_in(term, y)) as u8;
-        place += 1;
-    }
-}
-
-// The weight of the triple, where it is known how many of its x and y are odd in each row.
-pub fn weight_beside<'a>(rows: &'a [u16], count: usize, odd: &'a [u8], triple: Triple) -> usize
-    requires { ⌜ Held row-width count (now rows) ⌝ }
-    requires { ⌜ count ≤ length (now odd) ⌝ }
-    requires { ⌜ OddOf (now rows) count (triple .x) (triple .y) (now odd) ⌝ }
-    ensures { λ r. ⌜ (r ≡ weight-of triple (terms-of row-width count (now (rows .entry)))) × (r ≤ count) ⌝ }
-{
-    let mut sum: usize = 0;
-    let mut place = 0;
-    while place < count {
-        let all = odd[place] as usize + odd_in(row::term_at(rows, place), triple.z);
-        // 0, 1, 2, 3 to 0, 1, 1, 0
-        sum += (all + 1) / 2 % 2;
-        place += 1;
-    }
-    sum
 }

@@ -1,4 +1,4 @@
-//! Times HATT and assign on the same input by the proved library, ferrmion's Rust and the plain program; prints medians of five and ratios.
+//! Times HATT and assign on the same input by the proved library, ferrmion's Rust and the plain program; prints medians and ratios.
 
 use compare::cases::{any_tree, flat, terms, Random, Shape};
 use compare::proved;
@@ -6,6 +6,9 @@ use std::hint::black_box;
 
 /// Runs of each; the median of them counts.
 const RUNS: usize = 5;
+
+/// Modes above which one run of each must do: the Rust takes half a minute there.
+const SHORT_MODES: usize = 64;
 
 extern "C" {
     fn clock() -> i64;
@@ -31,12 +34,13 @@ fn median(mut times: Vec<f64>) -> f64 {
 /// The three take turns, so that a slow moment of the machine falls on all of them.
 fn compare(
     name: &str,
+    runs: usize,
     ours: impl Fn() -> u64,
     theirs: impl Fn() -> u64,
     plainly: impl Fn() -> u64,
 ) {
     let (mut our_times, mut their_times, mut plain_times) = (vec![], vec![], vec![]);
-    for _ in 0..RUNS {
+    for _ in 0..runs {
         let (our_weight, our_time) = timed(&ours);
         let (their_weight, their_time) = timed(&theirs);
         let (plain_weight, plain_time) = timed(&plainly);
@@ -48,7 +52,7 @@ fn compare(
     }
     let (ours, theirs, plainly) = (median(our_times), median(their_times), median(plain_times));
     println!(
-        "{name}: ours {ours:.0} ms, Rust {theirs:.0} ms, plain {plainly:.0} ms; ours / Rust {:.2}, ours / plain {:.2}",
+        "{name}: ours {ours:.1} ms, Rust {theirs:.0} ms, plain {plainly:.0} ms; ours / Rust {:.4}, ours / plain {:.4}",
         ours / theirs,
         ours / plainly
     );
@@ -63,6 +67,7 @@ fn hatt(kind: &str, modes: usize, count: usize, shape: Shape) {
     };
     compare(
         &format!("HATT, {modes} modes, {count} terms, {kind}"),
+        if modes > SHORT_MODES { 1 } else { RUNS },
         || {
             let (mut work, mut rows, mut journal) = lent();
             proved::resume(modes, &numbers, &[], &mut work, &mut rows, &mut journal)[2]
@@ -85,6 +90,7 @@ fn assign(kind: &str, modes: usize, count: usize, shape: Shape) {
     let lent = || (vec![0; numbers.len()], vec![0; 3 * modes]);
     compare(
         &format!("assign, {modes} modes, {count} terms, {kind}"),
+        RUNS,
         || {
             let (mut work, mut table) = lent();
             proved::assign(modes, &tree, 0, &numbers, &mut work, &mut table)[2]
@@ -102,6 +108,7 @@ fn main() {
     for (kind, shape) in [("chemistry", Shape::Chemistry), ("mixed", Shape::Mixed)] {
         hatt(kind, 16, 512, shape);
         hatt(kind, 64, 2048, shape);
+        hatt(kind, 128, 2048, shape);
         assign(kind, 32, 512, shape);
         assign(kind, 64, 2048, shape);
     }

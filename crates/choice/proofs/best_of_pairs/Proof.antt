@@ -18,12 +18,12 @@ use Rattle.choice.proofs.best_of_pairs.Statement.{statement}
 use Rattle.choice.proofs.best_of_pairs.Tie as tie
 
 abbrev Inv-loop : tie.InvT-loop
-Inv-loop rows count free modes node slots best₀ at₀ best at = (at ≤ length free)
+Inv-loop rows count odds free modes node slots best₀ at₀ best at = (at ≤ length free)
     × (sought (terms-of 8 count rows) node best₀ (flatMap (λ mode. with-z (number-leaf modes (slots .x) mode) (number-leaf modes (slots .y) mode) (numbered modes (slots .z) (without mode free))) free)
     ≡ sought (terms-of 8 count rows) node best (flatMap (λ mode. with-z (number-leaf modes (slots .x) mode) (number-leaf modes (slots .y) mode) (numbered modes (slots .z) (without mode free))) (drop at free)))
 
 abbrev μ-loop : tie.MeasureT-loop
-μ-loop rows count free modes node slots best₀ at₀ best at = length free - at
+μ-loop rows count odds free modes node slots best₀ at₀ best at = length free - at
 
 loop-holds : tie.Need-loop-holds Inv-loop μ-loop
 loop-holds c = search needs

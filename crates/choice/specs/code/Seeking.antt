@@ -3,7 +3,11 @@ use mathlib.Core.List.{List, map, flatMap}
 use Prim.Native.Nat.{ℕ, _+_, _-_, _*_}
 use Rattle.lists.specs.Least.{least}
 use Rattle.entities.specs.declared.Triple.{Triple}
+use Rattle.entities.specs.Limits.{most-modes, row-width}
+use Rattle.terms.specs.Rows.{terms-of}
 use Rattle.terms.specs.Weight.{weight-of}
+use Rattle.terms.specs.code.Held.{Held}
+use Rattle.tallying.specs.code.Tallies.{OddsAre}
 use Rattle.choice.specs.declared.Selection.{Selection}
 use Rattle.choice.specs.Choices.{choices-at}
 use Rattle.choice.specs.Choice.{Choice}
@@ -33,6 +37,11 @@ sought rows node best triples = least standing best (map (weighed rows node) tri
 unfoldable pub sought-over : ℕ → List ℕ → List ℕ → List (List ℕ) → Selection → List ℕ → Selection
 sought-over modes table assigned rows best nodes =
     least standing best (flatMap (λ node. map (weighed rows node) (choices-at modes table assigned node)) nodes)
+
+-- Rows that are held, and in how many of them each leaf is odd.
+pub record Counted (count : ℕ) (rows odds : List ℕ) : Type 0 where
+  pub held : Held row-width count rows
+  pub odds-are : OddsAre (2 * most-modes) (terms-of row-width count rows) odds
 
 -- The choice without its weight.
 unfoldable pub choice-of : Selection → Choice

@@ -9,7 +9,7 @@ use Rattle.lists.specs.Least.{least}
 use Rattle.lists.specs.Members.{keep}
 use Rattle.lists.specs.Ranges.{listed}
 use Rattle.entities.specs.declared.Triple.{Triple}
-use Rattle.entities.specs.Limits.{row-width, entity-room}
+use Rattle.entities.specs.Limits.{row-width}
 use Rattle.terms.specs.Rows.{terms-of}
 use Rattle.terms.specs.Weight.{weight-of}
 use Rattle.history.specs.History.{next-parent, is-open, z-end}
@@ -72,11 +72,6 @@ seek measure best triples = least (λ b. b .weight) best (map (weighed measure) 
 -- Before the first triple: above every weight, since a row weighs at most 1.
 unfoldable pub nothing : ℕ → Best
 nothing count = record { weight = count + 1; triple = record { x = 0; y = 0; z = 0 } }
-
--- What is counted of a couple gives the weight of its triple with any z of the tables.
-abbrev pub Looked : (Triple → ℕ) → ℕ → ℕ → ℕ → List ℕ → List ℕ → Type 0
-Looked measure x y all odds less =
-    (z : ℕ) → z < entity-room → all + getD odds z 0 ≡ measure (record { x = x; y = y; z = z }) + getD less z 0
 
 -- No triple of the list is lighter than the best.
 abbrev pub Settled : (Triple → ℕ) → Best → List Triple → Type 0

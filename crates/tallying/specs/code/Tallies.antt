@@ -13,6 +13,10 @@ use Rattle.tallying.specs.declared.tally.Tally.the-variants.{Heavy, All}
 unfoldable pub odds : ℕ → List (List ℕ) → ℕ
 odds number terms = sum (map (λ term. occurrences number term % 2) terms)
 
+-- A table has, for each number below a room, in how many terms it is odd.
+abbrev pub OddsAre : ℕ → List (List ℕ) → List ℕ → Type 0
+OddsAre room terms table = (n : ℕ) → n < room → getD table n 0 ≡ odds n terms
+
 -- The table was raised by the parities of the numbers up to a place, and now is by those of one number more.
 pub record Turned (term : List ℕ) (at : ℕ) (before after : List ℕ) : Type 0 where
   pub same-length : length after ≡ length before
@@ -39,3 +43,8 @@ Tallied terms x y limit less Heavy = (z : ℕ) → limit ≤ weight-of (record {
 Tallied terms x y limit less (All all) =
     (all ≤ length terms)
     × ((z : ℕ) → z < length less → all + odds z terms ≡ weight-of (record { x = x; y = y; z = z }) terms + getD less z 0)
+
+-- What was counted gives the weight of the couple with any z below a room.
+abbrev pub Looked : ℕ → (Triple → ℕ) → ℕ → ℕ → ℕ → List ℕ → List ℕ → Type 0
+Looked room measure x y all table less =
+    (z : ℕ) → z < room → all + getD table z 0 ≡ measure (record { x = x; y = y; z = z }) + getD less z 0

@@ -1,10 +1,11 @@
 -- A couple too heavy with every z changes nothing; of any other the counts give each weight.
-use mathlib.Core.Path.{_≡_, sym}
+use mathlib.Core.Path.{sym}
 use Prim.Native.Nat.{_≤_}
 use native.Mathlib.Omega.{arith}
-use lib.ListN.{length}
 use Rattle.terms.proofs.RowSteps.{length-terms}
-use Rattle.choosing.specs.code.Couples.{Looked, weight-here}
+use Rattle.tallying.specs.code.Tallies.{Looked}
+use Rattle.tallying.proofs.RowsTallied.{looked-up}
+use Rattle.choosing.specs.code.Couples.{weight-here}
 use Rattle.choosing.proofs.SettledBest.{seek-idle, heavy-settles}
 use borrow.Author.Needs.{needs}
 use Rattle.choosing.proofs.choice.best_of_couple.Statement.{statement}
@@ -38,15 +39,15 @@ module _ (c : tie.After-all) where
       omega (arith, told .0, length-terms 8 (start .args .count) (start .args .rows .now))
 
   looked : (let args = c .before .before .before .before .before .before .args in
-      Looked (weight-here (args .count) (args .rows .now)) (args .x) (args .y) (c .all .given .0 .0) (args .odds .now)
+      Looked 769 (weight-here (args .count) (args .rows .now)) (args .x) (args .y) (c .all .given .0 .0) (args .odds .now)
       (c .before .before .before .tally-couple .last .1 .1 .1 .1 .1 .0))
   unfolding weight-here
   looked z h =
       let start = c .before .before .before .before .before .before in
       let called = c .before .before .before .tally-couple in
       let told = rw (c .all .given .1) at (called .ensures) in
-      let whole : length (called .last .1 .1 .1 .1 .1 .0) ≡ 769 = called .kept .1 .1 .1 .1 .1 .0 in
-      omega (arith, told .1 z (omega arith), start .pre .1 .1 z h)
+      looked-up _ (start .args .x) (start .args .y) (start .args .best .weight) (c .all .given .0 .0) 769 (start .args .odds .now) (called .last .1 .1 .1 .1 .1 .0) (start .pre .1 .1)
+      (called .kept .1 .1 .1 .1 .1 .0) told z h
 
 best-of-rest-requires : tie.Need-best-of-rest-requires
 best-of-rest-requires c κs =

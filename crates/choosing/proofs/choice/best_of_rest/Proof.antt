@@ -6,8 +6,9 @@ use native.Mathlib.Nat.{sub-zero}
 use native.Mathlib.Omega.{arith}
 use borrow.Author.Needs.{needs}
 use Rattle.entities.specs.declared.Triple.{Triple}
+use Rattle.tallying.specs.code.Tallies.{Looked}
 use Rattle.history.specs.History.{next-parent}
-use Rattle.choosing.specs.code.Couples.{OpensAre, Looked, beside, seek}
+use Rattle.choosing.specs.code.Couples.{OpensAre, beside, seek}
 use Rattle.choosing.proofs.Candidates.{beside-step, beside-end}
 use Rattle.choosing.proofs.Seeking.{seek-joined, seek-none}
 use Rattle.choosing.proofs.choice.best_of_rest.Statement.{statement}
@@ -16,7 +17,7 @@ use Rattle.choosing.proofs.choice.best_of_rest.Tie as tie
 abbrev Inv-loop : tie.InvT-loop
 Inv-loop opens odds less all next x y best₀ z₀ best z =
     (z ≤ next)
-    × ((measure : Triple → ℕ) → Looked measure x y all odds less → (modes : ℕ) (history : List Triple) → next-parent modes history ≤ 769 → OpensAre 769 modes history opens
+    × ((measure : Triple → ℕ) → Looked 769 measure x y all odds less → (modes : ℕ) (history : List Triple) → next-parent modes history ≤ 769 → OpensAre 769 modes history opens
     → seek measure best₀ (beside modes history x y 0 next)
     ≡ seek measure best (beside modes history x y z (next - z)))
 

@@ -1,5 +1,5 @@
 -- An entity without a couple names nothing; a couple that a lower one named is settled; of any other the couple's triples follow.
-use mathlib.Core.Path.{_≡_, sym, _∙_}
+use mathlib.Core.Path.{sym, _∙_}
 use Rattle.choosing.specs.code.Couples.{beside-couple}
 use Rattle.choosing.proofs.Seeking.{seek-none}
 use Rattle.choosing.proofs.SettledBest.{seek-idle}

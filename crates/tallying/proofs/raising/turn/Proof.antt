@@ -1,5 +1,5 @@
 -- A number beyond the table is passed over; any other turns its entry.
-use mathlib.Core.Path.{_≡_, sym}
+use mathlib.Core.Path.{_≡_}
 use Prim.Native.Nat.{_%_}
 use native.Mathlib.Nat.{sub-zero}
 use native.Mathlib.Omega.{arith}

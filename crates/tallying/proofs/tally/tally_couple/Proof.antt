@@ -1,5 +1,4 @@
 -- The rows passed are tallied; the bound leaves the couple, or all rows are passed.
-use mathlib.Core.Path.{_≡_, refl}
 use Prim.Native.Nat.{_+_, _-_, _/_, _%_}
 use native.Mathlib.Omega.{arith}
 use borrow.Author.Needs.{needs}
