@@ -190,7 +190,7 @@ fn best_of_pair<'a>(
     }
     let limit = limit_past(start.min_weight, count);
     let mut less = [0u16; 512];
-    let Tally::All(all) = tally::tally_couple(rows, count, slots.x, slots.y, limit, &mut less)
+    let Tally::All(all, _) = tally::tally_couple(rows, count, slots.x, slots.y, limit, &mut less)
     else {
         return start;
     };

@@ -66,9 +66,9 @@ module _ (measure : Triple → ℕ) where
   settled-listed best rule heavy from (suc count) t m =
       ⊎-elim (λ e. rw e (heavy from)) (settled-listed best rule heavy (suc from) count t) (List·Memᴰ·cases-cons m)
 
-  pub heavy-settles : (modes : ℕ) (history : List Triple) (x y count : ℕ) (best : Best)
-      → ((z : ℕ) → best .weight ≤ measure (record { x = x; y = y; z = z })) → Settled measure best (beside modes history x y 0 count)
+  pub heavy-settles : (modes : ℕ) (history : List Triple) (x y from count : ℕ) (best : Best)
+      → ((z : ℕ) → best .weight ≤ measure (record { x = x; y = y; z = z })) → Settled measure best (beside modes history x y from count)
   unfolding beside
-  heavy-settles modes history x y count best heavy t m =
-      settled-listed best (λ z. record { x = x; y = y; z = z }) heavy 0 count t
-      (of-kept (free modes history) (listed (λ z. record { x = x; y = y; z = z }) 0 count) m .0)
+  heavy-settles modes history x y from count best heavy t m =
+      settled-listed best (λ z. record { x = x; y = y; z = z }) heavy from count t
+      (of-kept (free modes history) (listed (λ z. record { x = x; y = y; z = z }) from count) m .0)

@@ -75,12 +75,13 @@ fn best_beside<'a>(
     lighter(best, triple, weight)
 }
 
-// The best so far against the triples of x and y with every z in turn, whose weights are looked up.
+// The best so far against the triples of x and y with every z in turn, whose weights are looked up; none is below the bound, so one that reaches it ends the search.
 fn best_of_rest<'a>(
     opens: &'a [bool; 769],
     odds: &'a [u16; 769],
     less: &'a [u16; 769],
     all: usize,
+    bound: usize,
     next: u16,
     x: u16,
     y: u16,
@@ -88,11 +89,14 @@ fn best_of_rest<'a>(
 ) -> Best
     requires { ⌜ all ≤ most-terms ⌝ }
     requires { ⌜ ((measure : Three → ℕ) × Looked entity-room measure x y all (now odds) (now less)) ⌝ }
-    ensures { λ r. ⌜ ((measure : Three → ℕ) → Looked entity-room measure x y all (now (odds .entry)) (now (less .entry)) → (modes : ℕ) (history : List Three) → next-parent modes history ≤ entity-room → OpensAre entity-room modes history (now (opens .entry)) → r ≡ seek measure start (beside modes history x y 0 next)) ⌝ }
+    ensures { λ r. ⌜ ((measure : Three → ℕ) → Looked entity-room measure x y all (now (odds .entry)) (now (less .entry)) → ((z : ℕ) → bound ≤ measure (record { x = x; y = y; z = z })) → (modes : ℕ) (history : List Three) → next-parent modes history ≤ entity-room → OpensAre entity-room modes history (now (opens .entry)) → r ≡ seek measure start (beside modes history x y 0 next)) ⌝ }
 {
     let mut best = start;
     let mut z: u16 = 0;
     while z < next {
+        if best.weight <= bound {
+            return best;
+        }
         let triple = Triple { x: x, y: y, z: z };
         best = best_beside(opens, odds, less, all, triple, best);
         z += 1;
@@ -117,10 +121,11 @@ fn best_of_couple<'a>(
     ensures { λ r. ⌜ ((modes : ℕ) (history : List Three) → next-parent modes history ≤ entity-room → OpensAre entity-room modes history (now (opens .entry)) → r ≡ seek (weight-here count (now (rows .entry))) best (beside modes history x y 0 next)) ⌝ }
 {
     let mut less = [0u16; 769];
-    let Tally::All(all) = tally::tally_couple(rows, count, x, y, best.weight, &mut less) else {
+    let Tally::All(all, bound) = tally::tally_couple(rows, count, x, y, best.weight, &mut less)
+    else {
         return best;
     };
-    best_of_rest(opens, odds, &less, all, next, x, y, best)
+    best_of_rest(opens, odds, &less, all, bound, next, x, y, best)
 }
 
 // The best so far against the triples that this entity names, unless a lower one named them.

@@ -68,12 +68,14 @@ module _ (count : ℕ) (rows : List ℕ) (x y : ℕ) where
   module _ (length₀ : ℕ) (less : List ℕ) (all apart place : ℕ) (so-far : Tallying length₀ less all apart place) (h : count ≤ place) where
     pub tallying-ends : (all ≤ length whole)
         × ((z : ℕ) → z < length₀ → all + odds z whole ≡ weight-of (with z) whole + getD less z 0)
+        × ((z : ℕ) → apart ≤ weight-of (with z) whole)
     tallying-ends = (
       omega (arith, so-far .few, so-far .within, length-terms 8 count rows),
       λ z k. omega (arith, so-far .counts z k, weight-end (with z) count place rows h, odds-end z count place rows h),
+      λ z. omega (arith, so-far .bound z),
     )
 
 -- A couple's tally and the odds of all rows give its weight with any z that both tables reach.
-pub looked-up : (terms : List (List ℕ)) (x y limit all room : ℕ) (table less : List ℕ) → OddsAre room terms table → length less ≡ room
-    → Tallied terms x y limit less (All all) → Looked room (λ triple. weight-of triple terms) x y all table less
-looked-up terms x y limit all room table less counted whole tallied z h = omega (arith, tallied .1 z (omega arith), counted z h)
+pub looked-up : (terms : List (List ℕ)) (x y limit all bound room : ℕ) (table less : List ℕ) → OddsAre room terms table → length less ≡ room
+    → Tallied terms x y limit less (All all bound) → Looked room (λ triple. weight-of triple terms) x y all table less
+looked-up terms x y limit all bound room table less counted whole tallied z h = omega (arith, tallied .1 z (omega arith), counted z h)

@@ -10,10 +10,10 @@ use terms::row;
 use terms::slices;
 use terms::weight;
 
-// Every triple of the couple weighs at least the limit; or the number of rows in which one of the two is odd.
+// Every triple of the couple weighs at least the limit; or the number of rows in which one of the two is odd, or both are, and of those in which only one is.
 pub enum Tally {
     Heavy,
-    All(usize),
+    All(usize, usize),
 }
 
 // How many of x and y are odd in the term; the table goes up as many times at each number that is odd in it.
@@ -59,5 +59,5 @@ pub fn tally_couple(
         }
         place += 1;
     }
-    Tally::All(all)
+    Tally::All(all, apart)
 }

@@ -77,7 +77,7 @@ module _ (c : tie.After-all) where
       let called = c .before .before .before in
       let start = called .before .before .before .before .before .before .before in
       let told = rw (c .all .given .1) at (called .tally-couple .ensures) in
-      looked-up _ (start .args .slots .x) (start .args .slots .y) (called .before .before .limit-past .result) (c .all .given .0 .0) 512 (start .args .odds .now)
+      looked-up _ (start .args .slots .x) (start .args .slots .y) (called .before .before .limit-past .result) (c .all .given .0 .0) (c .all .given .0 .1 .0) 512 (start .args .odds .now)
       (called .tally-couple .last .1 .1 .1 .1 .1 .0) (start .pre .0 .odds-are) (called .tally-couple .kept .1 .1 .1 .1 .1 .0) told z h
 
 best-of-modes-requires : tie.Need-best-of-modes-requires

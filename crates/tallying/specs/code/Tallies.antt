@@ -37,12 +37,13 @@ pub record RowTallied (term : List ℕ) (x y : ℕ) (before after : List ℕ) (o
   pub weighs : (z : ℕ) → z < length before
       → (odd + 1) / 2 + occurrences z term % 2 + getD before z 0 ≡ term-weight (record { x = x; y = y; z = z }) term + getD after z 0
 
--- The weights of the couple with all z: none below the limit, or each from the counts.
+-- The weights of the couple with all z: none below the limit; or each from the counts, and none below a bound.
 abbrev pub Tallied : List (List ℕ) → ℕ → ℕ → ℕ → List ℕ → Tally → Type 0
 Tallied terms x y limit less Heavy = (z : ℕ) → limit ≤ weight-of (record { x = x; y = y; z = z }) terms
-Tallied terms x y limit less (All all) =
+Tallied terms x y limit less (All all bound) =
     (all ≤ length terms)
     × ((z : ℕ) → z < length less → all + odds z terms ≡ weight-of (record { x = x; y = y; z = z }) terms + getD less z 0)
+    × ((z : ℕ) → bound ≤ weight-of (record { x = x; y = y; z = z }) terms)
 
 -- What was counted gives the weight of the couple with any z below a room.
 abbrev pub Looked : ℕ → (Triple → ℕ) → ℕ → ℕ → ℕ → List ℕ → List ℕ → Type 0

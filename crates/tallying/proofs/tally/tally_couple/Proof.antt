@@ -80,7 +80,7 @@ returns-2 c =
     let here = c .before in
     let args = here .before .before .before .before .before .before .before .args in
     let done = tallying-ends (args .count) (args .rows .now) (args .x) (args .y) _ _ _ _ _ (here .loop .inv) (omega arith) in
-    (done .0, λ z h. done .1 z (omega (arith, here .loop .inv .same-length)))
+    (done .0, λ z h. done .1 z (omega (arith, here .loop .inv .same-length)), done .2)
 
 pub tally-couple-spec : {M : Type 1} → statement M
 tally-couple-spec =
