@@ -155,7 +155,18 @@ fn best_with<'a>(
     best_of_couple(opens, odds, rows, count, next, x, y, best)
 }
 
-// The least of all lawful triples, each named in ascending a, then z; none is lighter than 0, nor heavier than the number of rows.
+// Before any triple: none is heavier than the number of rows.
+fn none_yet(count: usize) -> Best
+    requires { ⌜ count ≤ most-terms ⌝ }
+    ensures { λ r. ⌜ r ≡ nothing count ⌝ }
+{
+    Best {
+        weight: count + 1,
+        triple: Triple { x: 0, y: 0, z: 0 },
+    }
+}
+
+// The least of all lawful triples, each named in ascending a, then z; none is lighter than 0.
 fn least_of_all<'a>(
     opens: &'a [bool; 769],
     ends: &'a [u16; 769],
@@ -172,10 +183,7 @@ fn least_of_all<'a>(
     requires { ⌜ OddsAre entity-room (terms-of row-width count (now rows)) (now odds) ⌝ }
     ensures { λ r. ⌜ ((history : List Three) → Tied entity-room modes history (now (opens .entry)) (now (ends .entry)) (now (holders .entry)) → next ≡ next-parent modes history → r ≡ seek (weight-here count (now (rows .entry))) (nothing count) (candidates modes history)) ⌝ }
 {
-    let mut best = Best {
-        weight: count + 1,
-        triple: Triple { x: 0, y: 0, z: 0 },
-    };
+    let mut best = none_yet(count);
     let mut a: u16 = 0;
     while a < next {
         if best.weight == 0 {

@@ -4,7 +4,7 @@ use mathlib.Core.List.{List, [], _∷_, _++_, flatMap, append-nil}
 use Prim.Native.Nat.{ℕ, zero, suc, _+_, _-_, _<_, _≤_}
 use native.Mathlib.Omega.{arith}
 use borrow.Author.Tests.{eq-eqb, ne-eqb}
-use lib.ListN.{length, length-drop, length-append}
+use lib.ListN.{length, length-append}
 use Rattle.lists.specs.Ranges.{listed}
 use Rattle.lists.proofs.Joined.{flatMap-joined}
 use Rattle.lists.proofs.Listed.{listed-more}
@@ -15,6 +15,7 @@ use Rattle.history.specs.Choice.{weight-in}
 use Rattle.history.specs.computed.Choosing.{chosen}
 use Rattle.history.specs.computed.Greedy.{greedy, finished}
 use Rattle.history.proofs.RunLawful.{greedy-length}
+use Rattle.history.proofs.HistoryBefore.{length-before}
 use Rattle.history.proofs.GreedySteps.{before-step, step-chosen}
 use Rattle.merging.specs.declared.run.Run.{Run}
 use Rattle.merging.specs.code.State.{history-of}
@@ -52,8 +53,7 @@ pub noted-as : (job : Job) (history : List Triple) (step : ℕ) (triple : Triple
     → merge-text step triple weight ≡ noted-line job history step
 unfolding noted-line line-of
 noted-as job history step triple weight made merges weighs =
-    let size : length (history-before history step) ≡ step = omega (arith, length-drop (length history - step) history) in
-    rw (size, merges, weighs)
+    rw (length-before history step (omega arith), merges, weighs)
 
 -- The merges of a run that went so many greedy steps from a history.
 module _ (job : Job) (history : List Triple) (steps : ℕ) where

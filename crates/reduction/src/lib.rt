@@ -112,7 +112,6 @@ fn settle_row(rows: &mut [u16], marks: &mut [bool], place: usize, parent: u16)
         return;
     }
     clear_row(rows, place);
-    // the empty term's mark is 0
     marks[0] = true;
 }
 
@@ -125,7 +124,7 @@ fn reduce_row(rows: &mut [u16], marks: &mut [bool], place: usize, triple: Triple
     ensures { λ r. ⌜ Marked mark-room (terms-of row-width (place + 1) (now (rows .exit))) (now (marks .exit)) ⌝ }
 {
     let from = 8 * place;
-    // a row that is gone stays gone
+    // a row that is gone stays gone; the empty term's mark is 0
     if rows[from] == 0 {
         marks[0] = true;
         return;

@@ -26,13 +26,12 @@ Inv-loop opens ends holders odds rows modes count next best₀ a₀ best a =
 abbrev μ-loop : tie.MeasureT-loop
 μ-loop opens ends holders odds rows modes count next best₀ a₀ best a = next - a
 
-add-t11 : tie.Need-add-t11 Inv-loop μ-loop
-add-t11 c = search needs
+none-yet-requires : tie.Need-none-yet-requires Inv-loop μ-loop
+none-yet-requires c κs = search needs
 
 loop-holds : tie.Need-loop-holds Inv-loop μ-loop
-unfolding nothing
 loop-holds c =
-    (search needs, λ history tied all. (rw (candidates-all _ history, all), λ lower h. absurd (omega arith)))
+    (search needs, λ history tied all. (rw (c .none-yet .ensures, candidates-all _ history, all), λ lower h. absurd (omega arith)))
 
 returns : tie.Need-returns Inv-loop μ-loop
 returns c history tied all =
@@ -42,7 +41,7 @@ returns c history tied all =
 best-with-requires : tie.Need-best-with-requires Inv-loop μ-loop
 best-with-requires c κs =
     let here = c .before .before .before in
-    let start = here .before .before in
+    let start = here .before .before .before in
     let low = start .pre .1 .1 .0 (here .loop .a) (c .before .before .loop-test .taken) in
     (start .pre .0, ((omega arith, omega arith, omega arith, low), start .pre .1 .1 .1))
 
@@ -55,7 +54,7 @@ loop-less c = search needs
 loop-again : tie.Need-loop-again Inv-loop μ-loop
 loop-again c =
     let here = c .before .before .before .before in
-    let args = here .before .before .args in
+    let args = here .before .before .before .args in
     let measure = weight-here (args .count) (args .rows .now) in
     let a = here .loop .a in
     let best = here .loop .best in (
@@ -81,7 +80,7 @@ loop-again c =
 returns-2 : tie.Need-returns-2 Inv-loop μ-loop
 returns-2 c history tied all =
     let here = c .before in
-    let args = here .before .before .args in
+    let args = here .before .before .before .args in
     sym
     (here .loop .inv .1 history tied all .0
     ∙ rw (candidates-end (args .modes) history (here .loop .a) (args .next) (omega arith)) (seek-none _ _))
@@ -92,7 +91,7 @@ least-of-all-spec =
     (tie.spec
     Inv-loop
     μ-loop
-    add-t11
+    none-yet-requires
     loop-holds
     returns
     best-with-requires
