@@ -107,6 +107,9 @@ fn assign(kind: &str, modes: usize, count: usize, shape: Shape) {
 fn main() {
     for (kind, shape) in [("chemistry", Shape::Chemistry), ("mixed", Shape::Mixed)] {
         hatt(kind, 16, 512, shape);
+        // how the time grows with the modes, and with the terms
+        hatt(kind, 32, 2048, shape);
+        hatt(kind, 64, 512, shape);
         hatt(kind, 64, 2048, shape);
         hatt(kind, 128, 2048, shape);
         assign(kind, 32, 512, shape);
