@@ -1,7 +1,7 @@
 -- Seeking the best goes list by list, and a better one is ahead by weight, then by z, y, x.
-use mathlib.Core.Path.{_≡_, refl, ap, _∙_}
+use mathlib.Core.Path.{_≡_, refl, ap}
 use mathlib.Core.Bool.{true, false, cond, not}
-use mathlib.Core.List.{List, [], _∷_, _++_, map, flatMap, append-nil, map-append}
+use mathlib.Core.List.{List, [], _∷_, _++_, map, flatMap, append-nil, map-append, map-map}
 use Prim.Native.Nat.{ℕ, _+_, _<_, _≤_}
 use native.Mathlib.Omega.{arith}
 use borrow.Author.Tests.{lt-ltb, le-ltb}
@@ -12,7 +12,7 @@ use Rattle.lists.specs.Least.{least, lighter}
 use Rattle.lists.proofs.Steps.{drop-step}
 use Rattle.lists.proofs.Kept.{keep-joined}
 use Rattle.lists.proofs.Joined.{flatMap-joined}
-use Rattle.lists.proofs.Least.{best-joined, least-map-joined}
+use Rattle.lists.proofs.Least.{best-idle, best-joined, least-map-joined}
 use Rattle.entities.specs.declared.Triple.{Triple}
 use Rattle.terms.specs.Weight.{weight-of}
 use Rattle.slots.specs.code.Numbers.{number-leaf}
@@ -103,11 +103,8 @@ module _ (modes : ℕ) (table assigned : List ℕ) (rows : List (List ℕ)) wher
 pub heavy-idle : (rows : List (List ℕ)) (node : ℕ) (best : Selection) (x y : ℕ)
     → ((z : ℕ) → best .«min_weight» < weight-of (record { x = x; y = y; z = z }) rows) → (zs : List ℕ)
     → sought rows node best (with-z x y zs) ≡ best
-unfolding with-z weighed
-heavy-idle rows node best x y heavy [] = sought-none rows node best
-heavy-idle rows node best x y heavy (z ∷ zs) =
-    let first : Triple = record { x = x; y = y; z = z } in
-    sought-joined rows node best (first ∷ []) (with-z x y zs)
-    ∙ ap (λ b. sought rows node b (with-z x y zs))
-    (sought-one rows node best first ∙ rw (by-weight-not best (weighed rows node first) (heavy z)))
-    ∙ heavy-idle rows node best x y heavy zs
+unfolding with-z weighed sought least
+heavy-idle rows node best x y heavy zs =
+    rw (map-map (weighed rows node) (λ z. record { x = x; y = y; z = z }) zs)
+    (best-idle (lighter standing) (λ z. weighed rows node (record { x = x; y = y; z = z })) best zs
+    (λ z m. by-weight-not best (weighed rows node (record { x = x; y = y; z = z })) (heavy z)))

@@ -1,31 +1,23 @@
 -- Seeking on where nothing is lighter leaves the best as it is; what was found is lighter than nothing that was passed.
-use mathlib.Core.Path.{_≡_, refl}
-use mathlib.Core.Bool.{Bool, true, false, cond}
-use mathlib.Core.List.{List, [], _∷_, List·Memᴰ, List·Memᴰ·head, List·Memᴰ·tail, List·Memᴰ·cases-cons, List·Memᴰ·not-nil}
+use mathlib.Core.Path.{_≡_}
+use mathlib.Core.List.{List, List·Memᴰ·cases-cons, List·Memᴰ·not-nil}
 use mathlib.Core.Logic.{⊎-elim}
 use Prim.Native.Nat.{ℕ, zero, suc, _≤_}
 use native.Mathlib.Omega.{arith}
-use borrow.Author.Tests.{ltb-true, ltb-false, le-ltb}
-use lib.Dec.{ltb}
-use Rattle.lists.specs.Least.{least, lighter, best-after}
+use borrow.Author.Tests.{le-ltb}
+use Rattle.lists.specs.Least.{least, lighter}
 use Rattle.lists.specs.Ranges.{listed}
+use Rattle.lists.proofs.Least.{best-idle, least-below, least-settles}
 use Rattle.lists.proofs.Membership.{of-kept}
 use Rattle.entities.specs.declared.Triple.{Triple}
 use Rattle.choosing.specs.declared.choice.Best.{Best}
 use Rattle.choosing.specs.code.Couples.{weighed, seek, free, beside, Settled}
 
 module _ (measure : Triple → ℕ) where
-  seek-step : (best : Best) (triple : Triple) (l : List Triple)
-      → seek measure best (triple ∷ l) ≡ seek measure (cond (ltb (measure triple) (best .weight)) (weighed measure triple) best) l
-  unfolding seek least lighter best-after weighed
-  seek-step best triple l = refl
-
   pub seek-idle : (best : Best) (l : List Triple) → Settled measure best l → seek measure best l ≡ best
-  unfolding seek least best-after
-  seek-idle best [] settled = refl
-  seek-idle best (triple ∷ l) settled =
-      rw (seek-step best triple l, le-ltb (measure triple) (best .weight) (settled triple (List·Memᴰ·head refl)))
-      (seek-idle best l (λ t m. settled t (List·Memᴰ·tail m)))
+  unfolding seek least lighter weighed
+  seek-idle best l settled =
+      best-idle (lighter (λ b. b .weight)) (weighed measure) best l (λ t m. le-ltb (measure t) (best .weight) (settled t m))
 
   -- A best that is no heavier settles what the other settled; one of weight 0 settles anything.
   pub settled-on : (best lower : Best) (l : List Triple) → lower .weight ≤ best .weight → Settled measure best l → Settled measure lower l
@@ -34,29 +26,14 @@ module _ (measure : Triple → ℕ) where
   pub nought-settles : (best : Best) (l : List Triple) → best .weight ≡ 0 → Settled measure best l
   nought-settles best l e triple m = omega arith
 
-  -- The lighter of two is no heavier than either.
-  lighter-below : (best : Best) (triple : Triple) (test : Bool) → ltb (measure triple) (best .weight) ≡ test
-      → (cond {A = Best} test (weighed measure triple) best .weight ≤ best .weight)
-      × (cond {A = Best} test (weighed measure triple) best .weight ≤ measure triple)
-  unfolding weighed
-  lighter-below best triple true e = let h = ltb-true (measure triple) (best .weight) e in (omega arith, omega arith)
-  lighter-below best triple false e = let h = ltb-false (measure triple) (best .weight) e in (omega arith, h)
-
+  -- What was found is no heavier than the best before it, nor than what it was sought among.
   pub sought-below : (best : Best) (l : List Triple) → seek measure best l .weight ≤ best .weight
-  unfolding seek least best-after
-  sought-below best [] = omega arith
-  sought-below best (triple ∷ l) =
-      let next = cond {A = Best} (ltb (measure triple) (best .weight)) (weighed measure triple) best in
-      let first = lighter-below best triple (ltb (measure triple) (best .weight)) refl in
-      rw (seek-step best triple l) (omega (arith, first .0, sought-below next l))
+  unfolding seek
+  sought-below best l = least-below (λ b. b .weight) (weighed measure) best l
 
   pub sought-settles : (best : Best) (l : List Triple) → Settled measure (seek measure best l) l
-  sought-settles best [] t m = absurd (List·Memᴰ·not-nil m)
-  sought-settles best (triple ∷ l) t m =
-      let next = cond {A = Best} (ltb (measure triple) (best .weight)) (weighed measure triple) best in
-      let first = lighter-below best triple (ltb (measure triple) (best .weight)) refl in
-      rw (seek-step best triple l)
-      (⊎-elim (λ e. rw e (omega (arith, first .1, sought-below next l))) (sought-settles next l t) (List·Memᴰ·cases-cons m))
+  unfolding seek weighed
+  sought-settles best l = least-settles (λ b. b .weight) (weighed measure) best l
 
   -- A couple that is too heavy with every z.
   settled-listed : (best : Best) (rule : ℕ → Triple) → ((z : ℕ) → best .weight ≤ measure (rule z)) → (from count : ℕ)

@@ -13,7 +13,6 @@ use Rattle.obeying.specs.Obeying.{Obeyed, went, refused, obeyed}
 use Rattle.obeying.proofs.LineRefused.{journal-refusal}
 use Rattle.terms_text.specs.Jobs.{JobSaid, a-job, no-job, job-said}
 use Rattle.terms_text.proofs.JobsRead.{job-not-five}
-use Rattle.text.specs.Running.{program-rooms}
 use Rattle.letters_text.specs.declared.steps.Asked.{Asked}
 use Rattle.letters_text.specs.declared.steps.Asked.the-variants.{Step, NoStep}
 use Rattle.letters_text.specs.Lettering.{

@@ -1,20 +1,19 @@
 -- The lines with a letter are as many as the step's triple weighs.
-use mathlib.Core.Path.{_≡_, refl, ap, _∙_, sym}
+use mathlib.Core.Path.{_≡_, refl, _∙_}
 use mathlib.Core.Bool.{Bool, true, false, cond}
-use mathlib.Core.List.{List, [], _∷_, _++_, flatMap}
+use mathlib.Core.List.{List, [], _∷_}
 use Prim.Native.Nat.{ℕ, suc, _+_}
 use native.Mathlib.Omega.{arith}
 use lib.ListN.{length}
-use Rattle.lists.specs.Counting.{sum, occurrences}
+use Rattle.lists.specs.Counting.{sum}
 use Rattle.lists.specs.Members.{every, keep}
 use Rattle.lists.proofs.Every.{every-cons}
 use Rattle.entities.specs.declared.Triple.{Triple}
 use Rattle.fields.specs.Lines.{is-line, lines}
 use Rattle.fields.proofs.LinesJoined.{lines-read-back}
-use Rattle.terms.specs.Job.{Job}
-use Rattle.terms.specs.Letters.{letter-of, counted-letter, not-none}
 use Rattle.terms.specs.Weight.{term-letter, term-weight, weight-of}
 use Rattle.reduction.specs.Reduction.{is-there}
+use Rattle.reduction.proofs.AsTold.{gone-weighs-nothing}
 use Rattle.history.specs.History.{merge-of, history-before, rows-after}
 use Rattle.history.specs.Choice.{weight-in}
 use Rattle.letters_text.specs.Lettering.{letter-line, letter-lines, step-lines, letters-printed, has-letter, LettersWeigh}
@@ -35,14 +34,10 @@ module _ (triple : Triple) where
   with-letters line rest true e = rw e (omega arith)
   with-letters line rest false e = rw e (omega arith)
 
-  gone-weighs-nothing : (terms : List (List ℕ)) → weight-of triple terms ≡ weight-of triple ([] ∷ terms)
-  unfolding weight-of sum term-weight term-letter counted-letter letter-of occurrences
-  gone-weighs-nothing terms = omega arith
-
   lines-weigh : (place : ℕ) (terms : List (List ℕ)) → length (keep has-letter (letter-lines triple place terms)) ≡ weight-of triple terms
   unfolding letter-lines is-there keep weight-of sum term-weight
   lines-weigh place [] = refl
-  lines-weigh place ([] ∷ terms) = lines-weigh (suc place) terms ∙ gone-weighs-nothing terms
+  lines-weigh place ([] ∷ terms) = omega (arith, lines-weigh (suc place) terms, gone-weighs-nothing triple)
   lines-weigh place ((index ∷ term) ∷ terms) =
       let letter = term-letter triple (index ∷ term) in
       with-letters (letter-line place letter) (letter-lines triple (suc place) terms) (has-letter (letter-line place letter)) refl

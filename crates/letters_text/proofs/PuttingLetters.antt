@@ -1,11 +1,12 @@
 -- The lines of rows written one behind the other.
-use mathlib.Core.Path.{_≡_, refl, ap, _∙_, sym}
-use mathlib.Core.List.{List, [], _∷_, _++_, flatMap, map, append-assoc, append-nil, map-append}
+use mathlib.Core.Path.{_≡_, refl, ap, _∙_}
+use mathlib.Core.List.{List, [], _∷_, _++_, flatMap, append-assoc, append-nil}
 use Prim.Native.Nat.{ℕ, zero, suc, _+_, _-_, _*_, _<_, _≤_}
 use native.Mathlib.Nat.{zero-add, add-zero}
 use native.Mathlib.Omega.{arith}
 use lib.ListN.{length, take, drop}
-use Rattle.lists.proofs.Behind.{Wrote, wrote-none, then-wrote}
+use Rattle.lists.proofs.Behind.{Wrote}
+use Rattle.lists.proofs.PieceByPiece.{Pieces, pieces-start, pieces-go, pieces-end}
 use Rattle.lists.proofs.Joined.{flatMap-joined}
 use Rattle.entities.specs.declared.Triple.{Triple}
 use Rattle.terms.specs.Rows.{rows-of, term, terms-of}
@@ -39,16 +40,13 @@ module _ (triple : Triple) where
   there-line place (index ∷ term) some = append-nil (letter-line place (term-letter triple (index ∷ term)))
 
   -- The lines of the first rows are written.
-  pub record PuttingLetters (count : ℕ) (rows before after : List ℕ) (at place : ℕ) : Type 0 where
-    pub some : place ≤ count
-    pub near : at ≤ 8 * place
-    pub size : length after ≡ length before
-    pub wrote : Wrote 0 (lines-text triple 0 (terms-of 8 place rows)) before after at
+  abbrev pub PuttingLetters : ℕ → List ℕ → List ℕ → List ℕ → ℕ → ℕ → Type 0
+  PuttingLetters count rows before after at place = Pieces (λ n. lines-text triple 0 (terms-of 8 n rows)) 8 0 count before after at place
 
-  module _ (count : ℕ) (rows before : List ℕ) (room : 8 * count ≤ length before) where
+  module _ (count : ℕ) (rows before : List ℕ) (room : 0 + 8 * count ≤ length before) where
     pub letters-start : PuttingLetters count rows before before 0 0
     unfolding terms-of rows-of letter-lines flatMap
-    letters-start = record { some = omega arith; near = omega arith; size = refl; wrote = wrote-none 0 before }
+    letters-start = pieces-start (λ n. lines-text triple 0 (terms-of 8 n rows)) 8 0 count before room refl
 
     module _ (after : List ℕ) (at place : ℕ) (p : PuttingLetters count rows before after at place) where
       pub letters-go : (next : List ℕ) (end : ℕ) → place < count
@@ -56,19 +54,12 @@ module _ (triple : Triple) where
           → PuttingLetters count rows before next end (place + 1)
       letters-go next end h w near same =
           let row = term (take 8 (drop (8 * place) rows)) in
-          let all : lines-text triple 0 (terms-of 8 (place + 1) rows) ≡ lines-text triple 0 (terms-of 8 place rows) ++ lines-text triple place (row ∷ []) =
+          let more : lines-text triple 0 (terms-of 8 (place + 1) rows) ≡ lines-text triple 0 (terms-of 8 place rows) ++ lines-text triple place (row ∷ []) =
           ap (lines-text triple 0) (terms-more 8 place rows)
           ∙ ap (flatMap (λ line. line)) (lines-joined 0 (terms-of 8 place rows) (row ∷ []))
           ∙ flatMap-joined (λ line. line) (letter-lines triple 0 (terms-of 8 place rows)) (letter-lines triple (0 + length (terms-of 8 place rows)) (row ∷ []))
           ∙ ap (λ n. lines-text triple 0 (terms-of 8 place rows) ++ lines-text triple n (row ∷ [])) (zero-add _ ∙ length-terms 8 place rows) in
-          record {
-            some = omega arith;
-            near = omega (arith, p .near);
-            size = same ∙ p .size;
-            wrote = rw all (then-wrote (p .wrote) w (omega (arith, p .near)));
-          }
+          pieces-go (λ n. lines-text triple 0 (terms-of 8 n rows)) 8 0 count before room after at place p next (lines-text triple place (row ∷ [])) end h more w near same
 
       pub letters-end : count ≤ place → Wrote 0 (lines-text triple 0 (terms-of 8 count rows)) before after at
-      letters-end h =
-          let e : count ≡ place = omega (arith, p .some) in
-          rw e (p .wrote)
+      letters-end h = pieces-end (λ n. lines-text triple 0 (terms-of 8 n rows)) 8 0 count before room after at place p h

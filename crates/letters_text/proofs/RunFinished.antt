@@ -20,7 +20,7 @@ use Rattle.obeying.specs.declared.Verdict.the-variants.{Fine, Refused}
 use Rattle.obeying.specs.Obeying.{Obeyed}
 use Rattle.obeying.specs.code.Obeys.{came-to}
 use Rattle.letters_text.specs.Lettering.{asked, refuses, lettered-at, lettered-after}
-use Rattle.letters_text.specs.code.Replaying.{RowsAre, Finished}
+use Rattle.letters_text.specs.code.Replaying.{Finished}
 
 -- Finished on rows of its own, while other numbers begin with the same terms.
 module _ (modes count : ℕ) (own terms now-own end-own : List ℕ) (run end : Run) where

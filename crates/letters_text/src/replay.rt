@@ -1,8 +1,6 @@
 // The rows before a step: the terms, reduced by the merges that came before it.
-ghost use mathlib.Core.Path.{_≡_};
-ghost use mathlib.Core.List.{List, []};
+ghost use mathlib.Core.List.{List};
 ghost use Prim.Native.Nat.{ℕ, _≤_};
-ghost use lib.ListN.{length};
 ghost use Rattle.terms.specs.Job.{Job};
 ghost use Rattle.history.specs.History.{«history-before»};
 ghost use Rattle.merging.specs.code.State.{«history-of»};

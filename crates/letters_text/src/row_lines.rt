@@ -1,7 +1,7 @@
 // The lines of rows: the place of each and the letter that a triple gives it.
 ghost use mathlib.Core.Path.{_≡_};
 ghost use mathlib.Core.List.{[], _∷_, flatMap};
-ghost use Prim.Native.Nat.{_+_, _*_, _≤_, _<_};
+ghost use Prim.Native.Nat.{_+_, _≤_, _<_};
 ghost use lib.ListN.{length};
 ghost use Rattle.lists.specs.Written.{«written-at»};
 ghost use Rattle.entities.specs.Limits.{«most-terms», «row-width»};

@@ -1,11 +1,12 @@
 -- The best of a list stands in it, none is better, and it comes first among those as good; it is sought part by part. The least by a measure is the best by the test of that measure.
 use mathlib.Core.Path.{_≡_, refl, ap, _∙_}
 use mathlib.Core.Bool.{Bool, true, false, cond, not, _&&_, _||_}
-use mathlib.Core.List.{List, [], _∷_, _++_, map, map-append, List·Memᴰ, List·Memᴰ·head, List·Memᴰ·tail, List·Memᴰ·cases-cons, List·Memᴰ·eq-of-singleton}
+use mathlib.Core.List.{List, [], _∷_, _++_, map, map-append, List·Memᴰ, List·Memᴰ·head, List·Memᴰ·tail, List·Memᴰ·cases-cons, List·Memᴰ·not-nil, List·Memᴰ·eq-of-singleton}
 use mathlib.Core.Logic.{_⊎_, inl, inr, ⊎-elim}
 use Prim.Native.Nat.{ℕ, _<_, _≤_}
 use native.Mathlib.Omega.{arith}
 use borrow.Author.Tests.{ltb-true, ltb-false, lt-ltb, le-ltb}
+use lib.Dec.{ltb}
 use lib.ListN.{length}
 use Rattle.lists.specs.Least.{best-after, best-of, lighter, least}
 use Rattle.lists.specs.Members.{every}
@@ -85,6 +86,15 @@ module _ {A : Type 0} (better : A → A → Bool) where
   unfolding best-after
   best-joined best [] m = refl
   best-joined best (a ∷ l) m = best-joined (cond (better a best) a best) l m
+
+  -- Where none of a list is better than the best, the best stays.
+  pub best-idle : {B : Type 0} (f : B → A) (best : A) (l : List B) → ((b : B) → List·Memᴰ b l → better (f b) best ≡ false)
+      → best-after better best (map f l) ≡ best
+  unfolding best-after
+  best-idle f best [] none = refl
+  best-idle f best (b ∷ l) none =
+      ap (λ test. best-after better (cond test (f b) best) (map f l)) (none b (List·Memᴰ·head refl))
+      ∙ best-idle f best l (λ c m. none c (List·Memᴰ·tail m))
 
   -- Two tests that agree on what is compared find the same best.
   pub best-map : {B : Type 0} (finer : B → B → Bool) (f : B → A) (Compared : B → Type 0)
@@ -216,6 +226,27 @@ module _ {A : Type 0} (measure : A → ℕ) where
       → least measure (f best) (map f l) ≡ f (least (λ b. measure (f b)) best l)
   unfolding least lighter
   least-map f best l = best-map (lighter measure) (lighter (λ b. measure (f b))) f (λ b. Unit) (λ a b h k. refl) best l tt (λ b m. tt)
+
+  -- The least measures no more than what it started from, and no more than any of the list.
+  smaller-of : (a best : A) (test : Bool) → ltb (measure a) (measure best) ≡ test
+      → (measure (cond test a best) ≤ measure best) × (measure (cond test a best) ≤ measure a)
+  smaller-of a best true e = let h = ltb-true (measure a) (measure best) e in (omega arith, omega arith)
+  smaller-of a best false e = let h = ltb-false (measure a) (measure best) e in (omega arith, h)
+
+  pub least-below : {B : Type 0} (f : B → A) (best : A) (l : List B) → measure (least measure best (map f l)) ≤ measure best
+  unfolding least lighter best-after
+  least-below f best [] = omega arith
+  least-below f best (b ∷ l) =
+      let test = ltb (measure (f b)) (measure best) in
+      omega (arith, smaller-of (f b) best test refl .0, least-below f (cond test (f b) best) l)
+
+  pub least-settles : {B : Type 0} (f : B → A) (best : A) (l : List B) (b : B) → List·Memᴰ b l → measure (least measure best (map f l)) ≤ measure (f b)
+  unfolding least lighter best-after
+  least-settles f best [] b m = absurd (List·Memᴰ·not-nil m)
+  least-settles f best (first ∷ l) b m =
+      let test = ltb (measure (f first)) (measure best) in
+      let next = cond test (f first) best in
+      ⊎-elim (λ e. rw e (omega (arith, smaller-of (f first) best test refl .1, least-below f next l))) (least-settles f next l b) (List·Memᴰ·cases-cons m)
 
   -- From a start that measures more than the first, the least is found.
   pub least-found : {B : Type 0} (f : B → A) (start : A) (first : B) (rest : List B) → measure (f first) < measure start

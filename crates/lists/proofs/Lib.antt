@@ -27,6 +27,7 @@ pub mod Narrowing
 pub mod Onto
 pub mod Replaced
 pub mod Partway
+pub mod PieceByPiece
 pub mod SumOnce
-pub mod Tallied
+pub mod NumberByNumber
 pub mod FirstsWeighed

@@ -1,14 +1,14 @@
 -- The meaning is document 01's: without their places, the rows of a reduction are those that its sentence tells.
-use mathlib.Core.Path.{_≡_, refl, ap, _∙_, sym}
+use mathlib.Core.Path.{_≡_, refl, ap, _∙_}
 use mathlib.Core.Bool.{Bool, true, false, not, _||_}
 use mathlib.Core.List.{List, [], _∷_, _++_, map, append-nil}
 use Prim.Native.Nat.{ℕ, _+_, _<_}
-use native.Mathlib.Nat.{zero-add}
 use native.Mathlib.Omega.{arith}
 use lib.ListN.{length}
 use Rattle.lists.specs.Counting.{sum, occurrences}
 use Rattle.lists.specs.Members.{every, keep, some-of, alike, firsts, firsts-after}
 use Rattle.lists.specs.Renewed.{renewed-after, renewed}
+use Rattle.lists.proofs.Sums.{sum-of}
 use Rattle.lists.proofs.Kept.{keep-joined}
 use Rattle.entities.specs.declared.Triple.{Triple}
 use Rattle.terms.specs.Letters.{letter-of, counted-letter}
@@ -16,12 +16,21 @@ use Rattle.terms.specs.Weight.{term-letter, term-weight, weight-of}
 use Rattle.reduction.specs.Reduction.{sorted, rewriting, dropped, stays, settled, reduced-row, reduction, is-there, live, told-reduction}
 use Rattle.reduction.proofs.Sorting.{length-rewriting}
 
+-- What weighs the empty term as nothing weighs those that are there as all.
+pub live-weighs : (weight : List ℕ → ℕ) → weight [] ≡ 0 → (terms : List (List ℕ)) → sum-of weight (live terms) ≡ sum-of weight terms
+unfolding live is-there keep sum
+live-weighs weight none [] = refl
+live-weighs weight none ([] ∷ terms) = omega (arith, none, live-weighs weight none terms)
+live-weighs weight none ((index ∷ term) ∷ terms) = ap (λ n. weight (index ∷ term) + n) (live-weighs weight none terms)
+
 -- A row that is gone weighs nothing.
+pub gone-weighs-nothing : (triple : Triple) → term-weight triple [] ≡ 0
+unfolding term-weight term-letter counted-letter letter-of occurrences
+gone-weighs-nothing triple = refl
+
 pub live-weight : (triple : Triple) (terms : List (List ℕ)) → weight-of triple (live terms) ≡ weight-of triple terms
-unfolding live is-there keep weight-of sum term-weight term-letter counted-letter letter-of occurrences
-live-weight triple [] = refl
-live-weight triple ([] ∷ terms) = live-weight triple terms ∙ sym (zero-add (weight-of triple terms))
-live-weight triple ((index ∷ term) ∷ terms) = ap (λ n. term-weight triple (index ∷ term) + n) (live-weight triple terms)
+unfolding weight-of
+live-weight triple terms = live-weighs (term-weight triple) (gone-weighs-nothing triple) terms
 
 -- No row that is gone has the term of one that is there.
 some-live : (term : List ℕ) → 0 < length term → (terms : List (List ℕ)) → some-of (alike term) (live terms) ≡ some-of (alike term) terms

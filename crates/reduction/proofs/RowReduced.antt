@@ -125,7 +125,7 @@ module _ (place : ℕ) (rows : List ℕ) (held : Held 8 (place + 1) rows) where
 
   pub cleared-terms : terms-of 8 (place + 1) (written-at (8 * place) (replicate 8 0) rows) ≡ terms-of 8 place rows ++ ([] ∷ [])
   unfolding term
-  cleared-terms = put-terms place rows (replicate 8 0) (held-fewer 8 place rows held) room-here refl
+  cleared-terms = put-terms place rows (replicate 8 0) (held-fewer 8 place (place + 1) rows (omega arith) held) room-here refl
 
   module _ (triple : Triple) (parent : ℕ) where
     -- Where it is gone already, it is reduced as it is.
@@ -147,17 +147,17 @@ module _ (place : ℕ) (rows : List ℕ) (held : Held 8 (place + 1) rows) where
 
       pub between-held : Held 8 (place + 1) between
       between-held =
-          put-held place rows row (held-fewer 8 place rows held) room-here whole
+          put-held place rows row (held-fewer 8 place (place + 1) rows (omega arith) held) room-here whole
           (rw (r .same-length, first-here) (held .within place (omega arith)))
           (λ none. absurd (some (sym first-here ∙ sym (r .same-length) ∙ none)))
 
       pub between-terms : terms-of 8 place between ≡ terms-of 8 place rows
       unfolding after
-      between-terms = terms-front 8 place between rows (same-front place rows row (held-fewer 8 place rows held) room-here whole)
+      between-terms = terms-front 8 place between rows (same-front place rows row (held-fewer 8 place (place + 1) rows (omega arith) held) room-here whole)
 
       between-row : take 8 (drop (8 * place) between) ≡ row
       unfolding after
-      between-row = row-there place rows row (held-fewer 8 place rows held) room-here whole
+      between-row = row-there place rows row (held-fewer 8 place (place + 1) rows (omega arith) held) room-here whole
 
       pub then-settled : (later : List ℕ) → RowSettled parent place between later → RowReduced triple parent place rows later
       unfolding reduced-row

@@ -27,7 +27,7 @@ use Rattle.journal.specs.Writing.{journal-text}
 use Rattle.journal.proofs.CallDone.{rooms-fit, done-in}
 use Rattle.journal.proofs.JournalText.{journal-obeyed}
 use Rattle.terms_text.specs.Input.{Said, given, malformed, said}
-use Rattle.terms_text.specs.Jobs.{a-job, no-job, counted, job-with, job-by, job-said}
+use Rattle.terms_text.specs.Jobs.{counted, job-with, job-by, job-said}
 use Rattle.text.specs.Running.{program-rooms, ran-by, ran}
 use Rattle.steering.specs.Steering.{writes, refuses, steered-as, steered-by, steered, AsWritten, Steers, SteeredIsObeyed}
 use Rattle.terms_text.proofs.JobCounted.{counted-good}

@@ -1,12 +1,12 @@
 -- The letter of three counts: all eight cases, and where there is none.
-use mathlib.Core.Path.{_≡_, refl, ap, _∙_, sym}
-use mathlib.Core.Bool.{Bool, true, false, cond, _&&_, _||_}
+use mathlib.Core.Path.{_≡_, refl, ap, _∙_}
+use mathlib.Core.Bool.{cond, _&&_, _||_}
 use Prim.Native.Nat.{ℕ, zero, suc, _+_, _%_, _≤_, _<_}
 use native.Mathlib.Omega.{arith}
 use lib.Dec.{eqb}
 use Rattle.terms.specs.declared.letters.Letter.{Letter}
 use Rattle.terms.specs.declared.letters.Letter.the-variants.{None, X, Y, Z}
-use Rattle.terms.specs.Letters.{letter-of, counted-letter, not-none, LetterOf, EightCases}
+use Rattle.terms.specs.Letters.{letter-of, counted-letter, not-none, EightCases}
 
 -- From the three remainders.
 pub by-remainders : (xs ys zs a b c : ℕ) → xs % 2 ≡ a → ys % 2 ≡ b → zs % 2 ≡ c → counted-letter xs ys zs ≡ letter-of (eqb a 1) (eqb b 1) (eqb c 1)

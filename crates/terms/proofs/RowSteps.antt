@@ -4,7 +4,7 @@ use mathlib.Core.Bool.{Bool, true}
 use mathlib.Core.List.{List, [], _∷_, _++_, map, map-append}
 use Prim.Native.Nat.{ℕ, zero, suc, _+_, _-_, _*_, _<_, _≤_}
 use native.Mathlib.Omega.{arith}
-use native.Mathlib.Nat.{mul-zero, sub-zero, add-zero}
+use native.Mathlib.Nat.{mul-zero, sub-zero, add-zero, mul-le-mul-left}
 use lib.ListN.{length, getD, take, drop, length-take, length-drop, length-map, List·getD-map}
 use lib.Seq.{drop-drop, take-take, getD-take, getD-drop}
 use Rattle.lists.specs.Members.{every}
@@ -112,11 +112,11 @@ pub terms-more : (w count : ℕ) (s : List ℕ) → terms-of w (count + 1) s ≡
 unfolding terms-of
 terms-more w count s = ap (map term) (rows-more w count s) ∙ map-append term (rows-of w count s) _
 
--- Rows that are held are held without the last one too.
-pub held-fewer : (w count : ℕ) (s : List ℕ) → Held w (count + 1) s → Held w count s
-held-fewer w count s held =
+-- Of rows that are held, any first ones are.
+pub held-fewer : (w fewer count : ℕ) (s : List ℕ) → fewer ≤ count → Held w count s → Held w fewer s
+held-fewer w fewer count s h held =
     record {
-      room = omega (arith, held .room);
-      within = λ place h. held .within place (omega arith);
-      zeros = λ place h. held .zeros place (omega arith);
+      room = omega (arith, mul-le-mul-left w h, held .room);
+      within = λ place k. held .within place (omega arith);
+      zeros = λ place k. held .zeros place (omega arith);
     }

@@ -9,15 +9,14 @@ use Rattle.refusal.specs.declared.Refusal.{Refusal}
 use Rattle.refusal.specs.declared.Refusal.the-variants.{Malformed}
 use Rattle.refusal.specs.Numbers.{numberOf}
 use Rattle.entities.specs.Limits.{most-modes}
-use Rattle.terms.specs.Job.{job-of}
 use Rattle.terms.specs.declared.checking.Checked.{Checked}
 use Rattle.terms.specs.declared.checking.Checked.the-variants.{Good, Refused as BadTerms}
 use Rattle.terms.proofs.GoodTerms.{accepted}
 use Rattle.terms_text.specs.declared.jobs.JobRead.{JobRead}
 use Rattle.terms_text.specs.declared.jobs.JobRead.the-variants.{Is, Refused}
 use Rattle.terms_text.specs.Input.{Said, given, malformed, said}
-use Rattle.terms_text.specs.Jobs.{JobSaid, a-job, no-job, counted, job-with, job-by, job-said}
-use Rattle.terms_text.specs.code.JobsRead.{JobFits, ReadsJob}
+use Rattle.terms_text.specs.Jobs.{JobSaid, no-job, counted, job-with, job-by, job-said}
+use Rattle.terms_text.specs.code.JobsRead.{ReadsJob}
 use Rattle.terms_text.proofs.JobCounted.{counted-good, counted-refusal}
 
 pub reads-refusal : (meant : JobSaid) (numbers : List ℕ) (why : Refusal) → meant ≡ no-job why → ReadsJob meant numbers (Refused why)

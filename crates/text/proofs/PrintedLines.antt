@@ -8,7 +8,8 @@ use lib.ListN.{length, getD, take, drop, replicate, length-replicate, take-appen
 use lib.Seq.{drop-append-le, length-take-le}
 use Rattle.lists.specs.Written.{written-at}
 use Rattle.lists.proofs.Written.{length-written}
-use Rattle.lists.proofs.Behind.{Wrote, wrote-none, then-wrote}
+use Rattle.lists.proofs.Behind.{Wrote, then-wrote}
+use Rattle.lists.proofs.PieceByPiece.{Pieces, pieces-start, pieces-go, pieces-end}
 use Rattle.lists.proofs.Joined.{flatMap-joined}
 use Rattle.refusal.specs.declared.Refusal.{Refusal}
 use Rattle.refusal.specs.Numbers.{numberOf, placeOf}
@@ -27,12 +28,12 @@ use Rattle.text.specs.Output.{line-of, code-text, node-line, node-lines,
 pub wrote-puts : {text before after : List ℕ} {end : ℕ} → Wrote 0 text before after end → end ≤ length before → Puts text before after end
 wrote-puts wrote room = record { count = omega (arith, wrote .behind); fits = omega (arith, wrote .behind); bytes = wrote .written }
 
--- Written over the front of a list's front, a part is written over the list's.
 -- Nothing printed leaves what is lent as it was.
 pub puts-none : (before : List ℕ) → Puts [] before before 0
 unfolding written-at
 puts-none before = record { count = refl; fits = omega arith; bytes = refl }
 
+-- Written over the front of a list's front, a part is written over the list's.
 pub front-over : (part s : List ℕ) (room : ℕ) → length part ≤ room → room ≤ length s → written-at 0 part (take room s) ++ drop room s ≡ written-at 0 part s
 unfolding written-at
 front-over part s room h k =
@@ -95,16 +96,13 @@ unfolding done-text
 done-parts weight trials rows = values-joined (spelt "weight") (decimal weight) (spelt "trials") (decimal trials) (node-lines rows)
 
 -- The lines of so many rows are written.
-pub record PuttingRows (start count : ℕ) (rows before after : List ℕ) (at done : ℕ) : Type 0 where
-  pub some : done ≤ count
-  pub near : at ≤ start + 29 * done
-  pub size : length after ≡ length before
-  pub wrote : Wrote start (flatMap node-line (rows-of 4 done rows)) before after at
+abbrev pub PuttingRows : ℕ → ℕ → List ℕ → List ℕ → List ℕ → ℕ → ℕ → Type 0
+PuttingRows start count rows before after at done = Pieces (λ n. flatMap node-line (rows-of 4 n rows)) 29 start count before after at done
 
 module _ (start : ℕ) (rows before : List ℕ) (room : start + 29 * (length rows / 4) ≤ length before) where
   pub rows-start : PuttingRows start (length rows / 4) rows before before start 0
   unfolding rows-of flatMap
-  rows-start = record { some = omega arith; near = omega arith; size = refl; wrote = wrote-none start before }
+  rows-start = pieces-start (λ n. flatMap node-line (rows-of 4 n rows)) 29 start (length rows / 4) before room refl
 
   module _ (after : List ℕ) (at done : ℕ) (p : PuttingRows start (length rows / 4) rows before after at done) where
     pub rows-go : (next : List ℕ) (end : ℕ) → done < length rows / 4
@@ -112,22 +110,17 @@ module _ (start : ℕ) (rows before : List ℕ) (room : start + 29 * (length row
         → PuttingRows start (length rows / 4) rows before next end (done + 1)
     unfolding flatMap
     rows-go next end h w near same =
-        let all : flatMap node-line (rows-of 4 (done + 1) rows) ≡ flatMap node-line (rows-of 4 done rows) ++ node-line (take 4 (drop (4 * done) rows)) =
-        ap (flatMap node-line) (rows-more 4 done rows) ∙ flatMap-joined node-line (rows-of 4 done rows) (take 4 (drop (4 * done) rows) ∷ [])
-        ∙ ap (λ l. flatMap node-line (rows-of 4 done rows) ++ l) (append-nil (node-line (take 4 (drop (4 * done) rows)))) in
+        let row = take 4 (drop (4 * done) rows) in
+        let more : flatMap node-line (rows-of 4 (done + 1) rows) ≡ flatMap node-line (rows-of 4 done rows) ++ node-line row =
+        ap (flatMap node-line) (rows-more 4 done rows) ∙ flatMap-joined node-line (rows-of 4 done rows) (row ∷ [])
+        ∙ ap (λ l. flatMap node-line (rows-of 4 done rows) ++ l) (append-nil (node-line row)) in
         let width : 4 * done + 4 - 4 * done ≡ 4 = omega arith in
-        record {
-          some = omega arith;
-          near = omega (arith, p .near);
-          size = same ∙ p .size;
-          wrote = rw all (then-wrote (p .wrote) (rw width at w) (omega (arith, p .near)));
-        }
+        pieces-go (λ n. flatMap node-line (rows-of 4 n rows)) 29 start (length rows / 4) before room after at done p next (node-line row) end h more
+        (rw width at w) near same
 
     pub rows-end : length rows / 4 ≤ done → Wrote start (node-lines rows) before after at
     unfolding node-lines
-    rows-end h =
-        let e : length rows / 4 ≡ done = omega (arith, p .some) in
-        rw e (p .wrote)
+    rows-end h = pieces-end (λ n. flatMap node-line (rows-of 4 n rows)) 29 start (length rows / 4) before room after at done p h
 
 -- A row's line, part by part.
 module _ (row before : List ℕ) (at : ℕ) (size : length row ≡ 4) (room : at + 29 ≤ length before) where

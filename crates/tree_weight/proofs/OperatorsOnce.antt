@@ -14,7 +14,6 @@ use Rattle.lists.proofs.Sums.{same-none}
 use Rattle.entities.specs.Codes.{absent}
 use Rattle.entities.specs.declared.Triple.{Triple}
 use Rattle.terms.specs.Rows.{terms-of}
-use Rattle.terms.specs.code.Held.{Held}
 use Rattle.reduction.specs.Reduction.{rewriting, dropped, is-there, live, reduction, told-reduction}
 use Rattle.reduction.specs.code.Promises.{Reduced}
 use Rattle.reduction.proofs.AsTold.{as-told}
@@ -22,14 +21,6 @@ use Rattle.reduction.proofs.Unchanged.{unchanged}
 use Rattle.tree_weight.specs.Operators.{surviving}
 use Rattle.tree_weight.specs.code.Promises.{SurvivingRows, OperatorRows}
 use Rattle.tree_weight.proofs.Survivors.{surviving-below, surviving-ascends}
-
--- Of rows that are held, any first ones are.
-pub held-first : (fewer count : ℕ) (s : List ℕ) → Held 8 count s → fewer ≤ count → Held 8 fewer s
-held-first fewer count s held h = record {
-  room = omega (arith, held .room);
-  within = λ place k. held .within place (omega arith);
-  zeros = λ place k none. held .zeros place (omega arith) none;
-}
 
 -- Three numbers that stand in no row.
 abbrev pub nothing : Triple

@@ -3,7 +3,7 @@ use mathlib.Core.Path.{_≡_, refl, _∙_, sym, ap}
 use mathlib.Core.Bool.{Bool, true}
 use mathlib.Core.List.{List, [], _∷_, map, List·Memᴰ, List·Memᴰ·head, List·Memᴰ·tail, List·Memᴰ·cases-cons}
 use mathlib.Core.Logic.{⊎-elim}
-use Prim.Native.Nat.{ℕ, _+_, _*_, _≤_}
+use Prim.Native.Nat.{ℕ, _*_, _≤_}
 use native.Mathlib.Omega.{arith}
 use lib.Dec.{ltb}
 use Rattle.lists.specs.Counting.{sum}
@@ -17,6 +17,7 @@ use Rattle.lists.proofs.Sums.{sum-of}
 use Rattle.terms.specs.Good.{good-term}
 use Rattle.terms.specs.Rows.{terms-of}
 use Rattle.terms.proofs.GoodTerms.{good-term-says}
+use Rattle.reduction.proofs.AsTold.{live-weighs}
 use Rattle.reduction.specs.Reduction.{is-there, live}
 use Rattle.tree_weight.specs.Operators.{surviving, operators}
 use Rattle.tree_weight.specs.Weight.{row-weight, listed-weight, tree-weight}
@@ -25,12 +26,6 @@ use Rattle.tree_weight.proofs.Survivors.{surviving-below}
 use Rattle.tree_weight.proofs.SurvivingWeigh.{empty-weighs}
 
 module _ (weight : List ℕ → ℕ) (none : weight [] ≡ 0) where
-  live-weighs : (terms : List (List ℕ)) → sum-of weight (live terms) ≡ sum-of weight terms
-  unfolding live is-there keep sum
-  live-weighs [] = refl
-  live-weighs ([] ∷ terms) = omega (arith, none, live-weighs terms)
-  live-weighs ((index ∷ term) ∷ terms) = ap (λ n. weight (index ∷ term) + n) (live-weighs terms)
-
   -- The empty row and those that are there have every row among them.
   there-or-empty : (term : List ℕ) (terms : List (List ℕ)) → List·Memᴰ term terms → List·Memᴰ term ([] ∷ live terms)
   unfolding live is-there keep

@@ -6,7 +6,7 @@ use Prim.Native.Nat.{ℕ, suc, _+_, _*_, _%_, _<_}
 use lib.Dec.{eqb, ltb}
 use Rattle.lists.specs.Counting.{sum, occurrences}
 use Rattle.lists.specs.Members.{every}
-use Rattle.lists.proofs.Tallied.{total-parity, tallied}
+use Rattle.lists.proofs.NumberByNumber.{total-parity, tallied}
 use Rattle.terms.specs.Letters.{letter-of, counted-letter, not-none}
 use Rattle.tree.specs.Table.{nodes}
 use Rattle.tree_weight.specs.Operators.{surviving}

@@ -14,7 +14,7 @@ use Rattle.lists.proofs.Every.{every-kept}
 use Rattle.lists.proofs.Ordered.{counted-ascends, kept-ascends}
 use Rattle.lists.proofs.Ranges.{every-from, keep-within}
 use Rattle.lists.proofs.Sums.{one-if}
-use Rattle.lists.proofs.Tallied.{occurs-kept}
+use Rattle.lists.proofs.NumberByNumber.{occurs-kept}
 use Rattle.terms.specs.Letters.{odd}
 use Rattle.tree_weight.specs.Operators.{surviving, ParitySurvives}
 

@@ -1,5 +1,4 @@
 -- What obeying came to is refused, or the run goes on from it to its end.
-use native.Mathlib.Omega.{arith}
 use borrow.Author.Needs.{needs}
 use Rattle.terms.specs.Job.{job-of}
 use Rattle.letters_text.specs.Lettering.{letters-printed}

@@ -1,4 +1,5 @@
 -- Both returns are the definition of staying, with the two tests' answers put in.
+use Prim.Native.Nat.{_+_}
 use native.Mathlib.Omega.{arith}
 use borrow.Author.Needs.{needs}
 use Rattle.terms.proofs.RowSteps.{held-fewer}
@@ -21,7 +22,7 @@ returns c = rw (← c .before .before .term-at .ensures, ← c .before .all-are 
 is-kept-requires : tie.Need-is-kept-requires
 is-kept-requires c κs =
     let start = c .before .before .before .before .before in
-    (held-fewer 8 (start .args .place) (start .args .rows .now) (start .pre .0), start .pre .1)
+    (held-fewer 8 (start .args .place) (start .args .place + 1) (start .args .rows .now) (omega arith) (start .pre .0), start .pre .1)
 
 returns-2 : tie.Need-returns-2
 unfolding stays dropped

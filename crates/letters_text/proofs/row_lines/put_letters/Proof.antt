@@ -1,12 +1,11 @@
 -- The lines of the rows passed stand at the front; at the end they are all.
-use mathlib.Core.Path.{_≡_}
-use Prim.Native.Nat.{_-_, _*_, _≤_}
+use Prim.Native.Nat.{_-_}
 use native.Mathlib.Omega.{arith}
 use borrow.Author.Needs.{needs}
 use lib.ListN.{length}
 use Rattle.lists.proofs.Behind.{Wrote}
 use Rattle.text.proofs.PrintedLines.{wrote-puts}
-use Rattle.letters_text.proofs.PuttingLetters.{lines-text, PuttingLetters, letters-start, letters-go, letters-end}
+use Rattle.letters_text.proofs.PuttingLetters.{PuttingLetters, letters-start, letters-go, letters-end}
 use Rattle.letters_text.proofs.row_lines.put_letters.Statement.{statement}
 use Rattle.letters_text.proofs.row_lines.put_letters.Tie as tie
 

@@ -1,7 +1,6 @@
 -- A row that is gone has no line, and one that is there has its own.
-use mathlib.Core.Path.{_≡_, sym}
-use mathlib.Core.List.{List, [], _∷_, flatMap}
-use Prim.Native.Nat.{_+_, _≤_}
+use mathlib.Core.Path.{sym}
+use mathlib.Core.List.{List}
 use native.Mathlib.Omega.{arith}
 use borrow.Author.Needs.{needs}
 use lib.ListN.{length}

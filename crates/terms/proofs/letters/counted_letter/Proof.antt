@@ -1,5 +1,4 @@
 -- Each arm's number says which parities are odd.
-use Prim.Native.Nat.{_+_, _*_, _%_}
 use mathlib.Core.Path.{sym}
 use native.Mathlib.Omega.{arith}
 use borrow.Author.Needs.{needs}

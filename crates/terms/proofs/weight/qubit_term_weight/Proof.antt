@@ -1,5 +1,5 @@
 -- Each count and what is ahead of it make all the occurrences; at the end the three counts decide the letter.
-use mathlib.Core.Path.{_≡_, _∙_}
+use mathlib.Core.Path.{_≡_}
 use Prim.Native.Nat.{_<_, _≤_, _-_, _+_}
 use native.Mathlib.Omega.{arith}
 use borrow.Author.Needs.{needs}

@@ -1,7 +1,8 @@
 -- The surviving rows, equal ones made one by a reduction that changes nothing else.
 use native.Mathlib.Omega.{arith}
 use borrow.Author.Needs.{needs}
-use Rattle.tree_weight.proofs.OperatorsOnce.{held-first, operator-rows}
+use Rattle.terms.proofs.RowSteps.{held-fewer}
+use Rattle.tree_weight.proofs.OperatorsOnce.{operator-rows}
 use Rattle.tree_weight.proofs.operators.put_operators.Statement.{statement}
 use Rattle.tree_weight.proofs.operators.put_operators.Tie as tie
 
@@ -9,7 +10,7 @@ put-surviving-requires : tie.Need-put-surviving-requires
 put-surviving-requires c κs = search needs
 
 reduce-hamiltonian-requires : tie.Need-reduce-hamiltonian-requires
-reduce-hamiltonian-requires c κs = held-first _ _ _ (c .before .before .before .put-surviving .ensures .held) (omega arith)
+reduce-hamiltonian-requires c κs = held-fewer 8 _ _ _ (omega arith) (c .before .before .before .put-surviving .ensures .held)
 
 same-length : tie.Need-same-length
 same-length c = search needs
