@@ -12,12 +12,14 @@ ghost use Rattle.terms.specs.Rows.{«terms-of»};
 ghost use Rattle.terms.specs.code.Held.{Held};
 ghost use Rattle.terms.specs.Weight.{«weight-of»};
 ghost use Rattle.tallying.specs.code.Tallies.{Looked};
+ghost use Rattle.tallying.specs.code.Pairs.{PairsWeighed};
 ghost use Rattle.slots.specs.code.Numbers.{«number-leaf»};
 ghost use Rattle.choice.specs.Choices.{unassigned, without, «with-z»};
 ghost use Rattle.choice.specs.code.Numbered.{numbered, «numbered-choices»};
 ghost use Rattle.choice.specs.code.Seeking.{packed as «packed-number», standing, worst, sought, «sought-over», Counted};
 use entities::Triple;
 use slots::nodes;
+use tallying::pairs;
 use tallying::tally;
 use tallying::tally::Tally;
 use terms::weight;
@@ -249,6 +251,96 @@ fn best_of_pairs<'a>(
     best
 }
 
+// The best so far against the choice in which the X and Y leaves take this mode beside a fixed z; its weight is looked up.
+fn best_of_couple(
+    weights: &[u16; 256],
+    modes: usize,
+    node: u16,
+    slots: Triple,
+    mode: u16,
+    best: Selection,
+) -> Selection
+    requires { ⌜ (modes ≤ most-modes) × (mode < modes) × (slots .x ≡ 3 * modes + 1) × (slots .y ≡ 3 * modes + 2) ⌝ }
+    ensures { λ r. ⌜ ((rows : List (List ℕ)) → PairsWeighed most-modes rows (slots .z) (now (weights .entry)) → r ≡ sought rows node best (with-z (number-leaf modes (slots .x) mode) (number-leaf modes (slots .y) mode) (slots .z ∷ []))) ⌝ }
+{
+    let triple = Triple {
+        x: slots::leaf_of(modes, slots.x, mode),
+        y: slots::leaf_of(modes, slots.y, mode),
+        z: slots.z,
+    };
+    let weight = entities::wide(weights[entities::wide(mode)]);
+    better_of(node, triple, weight, best)
+}
+
+// The best so far against the choices in which the X and Y leaves take each free mode in turn beside a fixed z.
+fn best_of_couples<'a>(
+    weights: &'a [u16; 256],
+    free: &'a [u16],
+    modes: usize,
+    node: u16,
+    slots: Triple,
+    start: Selection,
+) -> Selection
+    requires { ⌜ (modes ≤ most-modes) × (slots .x ≡ 3 * modes + 1) × (slots .y ≡ 3 * modes + 2) ⌝ }
+    requires { ⌜ every (λ mode. ltb mode modes) (now free) ≡ true ⌝ }
+    ensures { λ r. ⌜ ((rows : List (List ℕ)) → PairsWeighed most-modes rows (slots .z) (now (weights .entry)) → r ≡ sought rows node start (flatMap (λ mode. with-z (number-leaf modes (slots .x) mode) (number-leaf modes (slots .y) mode) (slots .z ∷ [])) (now (free .entry)))) ⌝ }
+{
+    let mut best = start;
+    let mut at = 0;
+    while at < free.len() {
+        best = best_of_couple(weights, modes, node, slots, free[at], best);
+        at += 1;
+    }
+    best
+}
+
+// The same; the rows are read once for all modes.
+fn best_beside<'a>(
+    rows: &'a [u16],
+    count: usize,
+    free: &'a [u16],
+    modes: usize,
+    node: u16,
+    slots: Triple,
+    start: Selection,
+) -> Selection
+    requires { ⌜ Held row-width count (now rows) ⌝ }
+    requires { ⌜ (count ≤ most-terms) × (modes ≤ most-modes) × (slots .x ≡ 3 * modes + 1) × (slots .y ≡ 3 * modes + 2) ⌝ }
+    requires { ⌜ every (λ mode. ltb mode modes) (now free) ≡ true ⌝ }
+    ensures { λ r. ⌜ r ≡ sought (terms-of row-width count (now (rows .entry))) node start (flatMap (λ mode. with-z (number-leaf modes (slots .x) mode) (number-leaf modes (slots .y) mode) (slots .z ∷ [])) (now (free .entry))) ⌝ }
+{
+    let mut weights = [0u16; 256];
+    pairs::weigh_pairs(rows, count, slots.z, &mut weights);
+    best_of_couples(&weights, free, modes, node, slots, start)
+}
+
+// The best so far against the choices of three slots of which X and Y are unfixed.
+fn best_of_unfixed<'a>(
+    rows: &'a [u16],
+    count: usize,
+    odds: &'a [u16; 512],
+    free: &'a [u16],
+    modes: usize,
+    node: u16,
+    slots: Triple,
+    start: Selection,
+) -> Selection
+    requires { ⌜ Counted count (now rows) (now odds) ⌝ }
+    requires { ⌜ (count ≤ most-terms) × (modes ≤ most-modes) ⌝ }
+    requires { ⌜ (3 * modes < slots .x) × (slots .x ≤ 3 * modes + 2) × (3 * modes < slots .y) × (slots .y ≤ 3 * modes + 2) × (slots .z ≤ 3 * modes + 2) ⌝ }
+    requires { ⌜ every (λ mode. ltb mode modes) (now free) ≡ true ⌝ }
+    ensures { λ r. ⌜ r ≡ sought (terms-of row-width count (now (rows .entry))) node start (flatMap (λ mode. with-z (number-leaf modes (slots .x) mode) (number-leaf modes (slots .y) mode) (numbered modes (slots .z) (without mode (now (free .entry))))) (now (free .entry))) ⌝ }
+{
+    if slots::unfixed(modes, slots.z) {
+        return best_of_pairs(rows, count, odds, free, modes, node, slots, start);
+    }
+    // in an accepted tree X's leaf is the even one
+    if slots.x < slots.y {
+        return best_beside(rows, count, free, modes, node, slots, start);
+    }
+    best_of_pairs(rows, count, odds, free, modes, node, slots, start)
+}
+
 // The best so far against the choices of three slots.
 fn best_of_slots<'a>(
     rows: &'a [u16],
@@ -273,7 +365,7 @@ fn best_of_slots<'a>(
     if !slots::unfixed(modes, slots.y) {
         return best_of_pair(rows, count, odds, free, modes, node, slots, none, best);
     }
-    best_of_pairs(rows, count, odds, free, modes, node, slots, best)
+    best_of_unfixed(rows, count, odds, free, modes, node, slots, best)
 }
 
 // The best so far against the choices of a node.

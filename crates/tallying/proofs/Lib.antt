@@ -2,3 +2,5 @@
 pub mod Parities
 pub mod OddRows
 pub mod RowsTallied
+pub mod PairsTurned
+pub mod PairsWeighed

@@ -1,2 +1,3 @@
 -- What the tables of a couple hold: no promise needs it.
 pub mod Tallies
+pub mod Pairs

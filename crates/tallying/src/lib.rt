@@ -1,4 +1,5 @@
-// The weights of a couple with every z, from one reading of the rows.
+// The weights of many triples from one reading of the rows: of a couple with every z, and of every mode's leaves with one z.
 pub mod odds;
+pub mod pairs;
 mod raising;
 pub mod tally;

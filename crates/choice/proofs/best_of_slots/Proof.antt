@@ -41,8 +41,8 @@ returns-2 c =
     )
     (rw (without-none (start .args .modes) (start .args .free .now) (start .pre .1 .1)) at (c .best-of-pair2 .ensures))
 
-best-of-pairs-requires : tie.Need-best-of-pairs-requires
-best-of-pairs-requires c κs =
+best-of-unfixed-requires : tie.Need-best-of-unfixed-requires
+best-of-unfixed-requires c κs =
     let start = c .before .before .before .before .before .before in
     let x = unfixed-above (start .args .modes) (start .args .slots .x) (sym (c .before .before .before .unfixed .ensures) ∙ not-false _ (c .before .before .if1 .left)) in
     let y = unfixed-above (start .args .modes) (start .args .slots .y) (sym (c .before .unfixed2 .ensures) ∙ not-false _ (c .if2 .left)) in
@@ -55,7 +55,7 @@ returns-3 c =
       sym (c .before .before .before .before .unfixed .ensures) ∙ not-false _ (c .before .before .before .if1 .left),
       sym (c .before .before .unfixed2 .ensures) ∙ not-false _ (c .before .if2 .left),
     )
-    (c .best-of-pairs .ensures)
+    (c .best-of-unfixed .ensures)
 
 pub best-of-slots-spec : {M : Type 1} → statement M
 best-of-slots-spec =
@@ -68,5 +68,5 @@ best-of-slots-spec =
     unfixed-requires-2
     best-of-pair-requires-2
     returns-2
-    best-of-pairs-requires
+    best-of-unfixed-requires
     returns-3)
