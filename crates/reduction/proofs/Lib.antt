@@ -2,9 +2,8 @@
 pub mod SortedRight
 pub mod Sorting
 pub mod RowRewritten
-pub mod Reducing
 pub mod RowReduced
-pub mod MarkedRows
+pub mod ChainedRows
 pub mod ReducedRows
 pub mod Unchanged
 pub mod ByPlace

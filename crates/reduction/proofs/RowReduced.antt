@@ -14,7 +14,7 @@ use Rattle.lists.proofs.Written.{length-written, take-written, part-written, dr
 use Rattle.entities.specs.declared.Triple.{Triple}
 use Rattle.terms.specs.Rows.{term, terms-of}
 use Rattle.terms.specs.code.Held.{Held}
-use Rattle.terms.proofs.RowSteps.{row-length, row-first, row-front, terms-front, terms-more, held-fewer}
+use Rattle.terms.proofs.RowSteps.{row-length, row-first, length-term, row-front, terms-front, terms-more, held-fewer}
 use Rattle.reduction.specs.Reduction.{sorted, rewriting, dropped, stays, settled, reduced-row}
 use Rattle.reduction.specs.code.Promises.{Rewritten, RowBecame, RowSettled, RowReduced}
 
@@ -158,6 +158,12 @@ module _ (place : ℕ) (rows : List ℕ) (held : Held 8 (place + 1) rows) where
       between-row : take 8 (drop (8 * place) between) ≡ row
       unfolding after
       between-row = row-there place rows row (held-fewer 8 place (place + 1) rows (omega arith) held) room-here whole
+
+      -- A term that is rewritten is as long as it was, so it is not empty.
+      pub between-there : 0 < length (term (take 8 (drop (8 * place) between)))
+      between-there =
+          let long = length-term row (rw (whole, r .same-length, first-here) (held .within place (omega arith))) in
+          rw between-row (omega (arith, long, r .same-length, first-here, some))
 
       pub then-settled : (later : List ℕ) → RowSettled parent place between later → RowReduced triple parent place rows later
       unfolding reduced-row

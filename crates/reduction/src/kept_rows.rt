@@ -1,13 +1,12 @@
-// The rows passed: whether one of them has a term. Marks tell most new terms from them without a search.
-ghost use mathlib.Core.Bool.{true};
+// The rows passed: whether one of them has a term. Those with the same mark stand on a chain, and no others are compared with it.
 ghost use mathlib.Core.Path.{_≡_};
-ghost use Prim.Native.Nat.{_<_};
-ghost use lib.ListN.{length, set};
+ghost use Prim.Native.Nat.{_+_, _<_};
+ghost use lib.ListN.{length};
 ghost use Rattle.lists.specs.Members.{«some-of», alike};
-ghost use Rattle.entities.specs.Limits.{«row-width»};
+ghost use Rattle.entities.specs.Limits.{«most-terms», «row-width»};
 ghost use Rattle.terms.specs.Rows.{«terms-of»};
 ghost use Rattle.terms.specs.code.Held.{Held};
-ghost use Rattle.reduction.specs.code.Marks.{«mark-room», «mark-of», Marked};
+ghost use Rattle.reduction.specs.code.Marks.{«mark-room», «mark-of», Chained, «put-first»};
 use terms::row;
 use terms::slices;
 
@@ -24,40 +23,32 @@ fn mark_of(term: &[u16]) -> usize
     mark
 }
 
-// One of the first rows has this term.
-fn has_term(rows: &[u16], count: usize, term: &[u16]) -> bool
+// One of the first `count` rows has this term: down the chain of its mark, from the last row put on it.
+pub fn is_kept<'a>(rows: &'a [u16], count: usize, chains: &'a [u16], term: &[u16]) -> bool
     requires { ⌜ Held row-width count (now rows) ⌝ }
+    requires { ⌜ Chained mark-room most-terms (terms-of row-width count (now rows)) (now chains) ⌝ }
+    requires { ⌜ 0 < length (now term) ⌝ }
     ensures { λ r. ⌜ r ≡ some-of (alike (now (term .entry))) (terms-of row-width count (now (rows .entry))) ⌝ }
 {
-    let mut place = 0;
-    while place < count {
+    let mark = mark_of(term);
+    let mut at = entities::wide(chains[mark]);
+    while 0 < at {
+        let place = at - 1;
         if slices::same(term, row::term_at(rows, place)) {
             return true;
         }
-        place += 1;
+        at = entities::wide(chains[16384 + place]);
     }
     false
 }
 
-// One of the first `count` rows has this term. Their marks are set, so a term whose mark is not is none of theirs, and they aren't searched.
-pub fn is_kept<'a>(rows: &'a [u16], count: usize, marks: &'a [bool], term: &[u16]) -> bool
-    requires { ⌜ Held row-width count (now rows) ⌝ }
-    requires { ⌜ length (now marks) ≡ mark-room ⌝ }
-    requires { ⌜ Marked mark-room (terms-of row-width count (now rows)) (now marks) ⌝ }
-    ensures { λ r. ⌜ r ≡ some-of (alike (now (term .entry))) (terms-of row-width count (now (rows .entry))) ⌝ }
+// The row at this place, which has this term, put first on the chain of the term's mark.
+pub fn set_mark(chains: &mut [u16], term: &[u16], place: usize)
+    requires { ⌜ length (now chains) ≡ mark-room + most-terms ⌝ }
+    requires { ⌜ place < most-terms ⌝ }
+    ensures { λ r. ⌜ now (chains .exit) ≡ put-first mark-room (mark-of mark-room (now (term .entry))) place (now (chains .entry)) ⌝ }
 {
     let mark = mark_of(term);
-    if !marks[mark] {
-        return false;
-    }
-    has_term(rows, count, term)
-}
-
-// The term's mark set.
-pub fn set_mark(marks: &mut [bool], term: &[u16])
-    requires { ⌜ length (now marks) ≡ mark-room ⌝ }
-    ensures { λ r. ⌜ now (marks .exit) ≡ set (now (marks .entry)) (mark-of mark-room (now (term .entry))) true ⌝ }
-{
-    let mark = mark_of(term);
-    marks[mark] = true;
+    chains[16384 + place] = chains[mark];
+    chains[mark] = (place + 1) as u16;
 }

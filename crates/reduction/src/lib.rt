@@ -5,12 +5,12 @@ ghost use Prim.Native.Nat.{_+_, _*_, _≤_, _<_};
 ghost use lib.ListN.{length, getD, drop, replicate};
 ghost use Rattle.lists.specs.Ranges.{ascends};
 ghost use Rattle.lists.specs.Written.{«written-at»};
-ghost use Rattle.entities.specs.Limits.{«row-width»};
+ghost use Rattle.entities.specs.Limits.{«most-terms», «row-width»};
 ghost use Rattle.terms.specs.Rows.{«terms-of»};
 ghost use Rattle.terms.specs.code.Held.{Held};
 ghost use Rattle.reduction.specs.Reduction.{replacement, «put-in», rewriting, stays};
 ghost use Rattle.reduction.specs.code.Promises.{«term-at», Rewritten, RowSettled, RowReduced, Reduced};
-ghost use Rattle.reduction.specs.code.Marks.{«mark-room», Marked};
+ghost use Rattle.reduction.specs.code.Marks.{«mark-room», Chained};
 use entities::Triple;
 use terms::row;
 use terms::slices;
@@ -76,17 +76,17 @@ fn rewrite_row(row: &mut [u16], triple: Triple, parent: u16)
 }
 
 // The term of the row at this place is not all parent, and none of the rows before it has it.
-fn survives<'a>(rows: &'a [u16], place: usize, marks: &'a [bool], parent: u16) -> bool
+fn survives<'a>(rows: &'a [u16], place: usize, chains: &'a [u16], parent: u16) -> bool
     requires { ⌜ Held row-width (place + 1) (now rows) ⌝ }
-    requires { ⌜ length (now marks) ≡ mark-room ⌝ }
-    requires { ⌜ Marked mark-room (terms-of row-width place (now rows)) (now marks) ⌝ }
+    requires { ⌜ Chained mark-room most-terms (terms-of row-width place (now rows)) (now chains) ⌝ }
+    requires { ⌜ 0 < length (term-at place (now rows)) ⌝ }
     ensures { λ r. ⌜ r ≡ stays parent (terms-of row-width place (now (rows .entry))) (term-at place (now (rows .entry))) ⌝ }
 {
     let term = row::term_at(rows, place);
     if slices::all_are(term, parent) {
         return false;
     }
-    !kept_rows::is_kept(rows, place, marks, term)
+    !kept_rows::is_kept(rows, place, chains, term)
 }
 
 // Zeros written over the row at this place.
@@ -99,51 +99,51 @@ fn clear_row(rows: &mut [u16], place: usize)
     slices::fill(&mut rows[from..end], 0);
 }
 
-// The row at this place left as it is where its term stays, else made zeros; the mark of what stands there then is set.
-fn settle_row(rows: &mut [u16], marks: &mut [bool], place: usize, parent: u16)
+// The row at this place left as it is where its term stays, and put on its mark's chain; else made zeros.
+fn settle_row(rows: &mut [u16], chains: &mut [u16], place: usize, parent: u16)
     requires { ⌜ Held row-width (place + 1) (now rows) ⌝ }
-    requires { ⌜ length (now marks) ≡ mark-room ⌝ }
-    requires { ⌜ Marked mark-room (terms-of row-width place (now rows)) (now marks) ⌝ }
+    requires { ⌜ Chained mark-room most-terms (terms-of row-width place (now rows)) (now chains) ⌝ }
+    requires { ⌜ 0 < length (term-at place (now rows)) ⌝ }
+    requires { ⌜ place < most-terms ⌝ }
     ensures { λ r. ⌜ RowSettled parent place (now (rows .entry)) (now (rows .exit)) ⌝ }
-    ensures { λ r. ⌜ Marked mark-room (terms-of row-width (place + 1) (now (rows .exit))) (now (marks .exit)) ⌝ }
+    ensures { λ r. ⌜ Chained mark-room most-terms (terms-of row-width (place + 1) (now (rows .exit))) (now (chains .exit)) ⌝ }
 {
-    if survives(rows, place, marks, parent) {
-        kept_rows::set_mark(marks, row::term_at(rows, place));
+    if survives(rows, place, chains, parent) {
+        kept_rows::set_mark(chains, row::term_at(rows, place), place);
         return;
     }
     clear_row(rows, place);
-    marks[0] = true;
 }
 
-// The row at this place reduced where it stands, and the mark of what it becomes set.
-fn reduce_row(rows: &mut [u16], marks: &mut [bool], place: usize, triple: Triple, parent: u16)
+// The row at this place reduced where it stands, and put on a chain where it stays.
+fn reduce_row(rows: &mut [u16], chains: &mut [u16], place: usize, triple: Triple, parent: u16)
     requires { ⌜ Held row-width (place + 1) (now rows) ⌝ }
-    requires { ⌜ length (now marks) ≡ mark-room ⌝ }
-    requires { ⌜ Marked mark-room (terms-of row-width place (now rows)) (now marks) ⌝ }
+    requires { ⌜ Chained mark-room most-terms (terms-of row-width place (now rows)) (now chains) ⌝ }
+    requires { ⌜ place < most-terms ⌝ }
     ensures { λ r. ⌜ RowReduced triple parent place (now (rows .entry)) (now (rows .exit)) ⌝ }
-    ensures { λ r. ⌜ Marked mark-room (terms-of row-width (place + 1) (now (rows .exit))) (now (marks .exit)) ⌝ }
+    ensures { λ r. ⌜ Chained mark-room most-terms (terms-of row-width (place + 1) (now (rows .exit))) (now (chains .exit)) ⌝ }
 {
     let from = 8 * place;
-    // a row that is gone stays gone; the empty term's mark is 0
+    // a row that is gone stays gone, and on no chain: no row that is there is like it
     if rows[from] == 0 {
-        marks[0] = true;
         return;
     }
     let end = from + 8;
     rewrite_row(&mut rows[from..end], triple, parent);
-    settle_row(rows, marks, place, parent);
+    settle_row(rows, chains, place, parent);
 }
 
 // The first rows reduced to the parent, each where it stands; a row that is dropped or merged is zeros there.
 pub fn reduce_hamiltonian(rows: &mut [u16], count: usize, parent: u16, selection: Triple)
     requires { ⌜ Held row-width count (now rows) ⌝ }
+    requires { ⌜ count ≤ most-terms ⌝ }
     ensures { λ r. ⌜ Reduced selection parent count (now (rows .entry)) (now (rows .exit)) ⌝ }
 {
-    // no row is passed yet, so no mark is set
-    let mut marks = [false; 16384];
+    // a number for each mark and one for each place; no row is passed yet, so no chain has begun
+    let mut chains = [0u16; 18432];
     let mut place = 0;
     while place < count {
-        reduce_row(rows, &mut marks, place, selection, parent);
+        reduce_row(rows, &mut chains, place, selection, parent);
         place += 1;
     }
 }

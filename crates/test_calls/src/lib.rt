@@ -1,5 +1,6 @@
 // What the tests call from Rust: the calls `resume`, `assign` and the Newick calls, one merge of rows, and what the tree calls answer.
-ghost use Rattle.entities.specs.Limits.{«row-width»};
+ghost use Prim.Native.Nat.{_≤_};
+ghost use Rattle.entities.specs.Limits.{«most-terms», «row-width»};
 ghost use Rattle.terms.specs.code.Held.{Held};
 use entities::Triple;
 use journal::resuming;
@@ -36,6 +37,7 @@ pub extern "C" fn test_merge(
 // The same, of so many rows.
 fn put_merge(rows: &mut [u16], count: usize, triple: Triple, parent: u16, answer: &mut [u64])
     requires { ⌜ Held row-width count (now rows) ⌝ }
+    requires { ⌜ count ≤ most-terms ⌝ }
 {
     let weighed = weight::weight(rows, count, triple);
     reduction::reduce_hamiltonian(rows, count, parent, triple);

@@ -1,6 +1,5 @@
--- A row that is gone is left, with the empty term's mark; any other is rewritten where it stands, and then settled.
+-- A row that is gone is left, and on no chain; any other is rewritten where it stands, and then settled.
 use mathlib.Core.Path.{_≡_, _∙_, sym}
-use mathlib.Core.List.{[]}
 use Prim.Native.Nat.{_+_, _-_, _*_}
 use native.Mathlib.Nat.{add-sub-cancel-left}
 use native.Mathlib.Omega.{arith}
@@ -9,12 +8,10 @@ use borrow.Rule.Slice.PartMut.{putMid}
 use lib.ListN.{length, take, drop}
 use Rattle.lists.specs.Written.{written-at}
 use Rattle.lists.proofs.Written.{put-written}
-use Rattle.terms.specs.Rows.{terms-of}
 use Rattle.terms.proofs.RowSteps.{row-length, row-first, terms-more}
-use Rattle.reduction.specs.code.Marks.{mark-after, mark-of}
 use Rattle.reduction.specs.code.Promises.{Rewritten}
-use Rattle.reduction.proofs.RowReduced.{room-here, gone-term, stays-gone, between-held, between-terms, then-settled}
-use Rattle.reduction.proofs.MarkedRows.{marked-more}
+use Rattle.reduction.proofs.RowReduced.{room-here, gone-term, stays-gone, between-held, between-terms, between-there, then-settled}
+use Rattle.reduction.proofs.ChainedRows.{row-gone}
 use Rattle.reduction.proofs.reduce_row.Statement.{statement}
 use Rattle.reduction.proofs.reduce_row.Tie as tie
 
@@ -48,23 +45,15 @@ mul-if1 c = let start = c .before .before in omega (arith, start .pre .0 .room)
 slice-read-if1 : tie.Need-slice-read-if1
 slice-read-if1 c = let start = c .before .before .before in omega (arith, start .pre .0 .room)
 
-slice-write-marks : tie.Need-slice-write-marks
-slice-write-marks c = search needs
-
-same-length : tie.Need-same-length
-same-length c = search needs
-
 returns : tie.Need-returns
-unfolding mark-of mark-after
 returns c =
     let start = c .before .before .before .before in
     let args = start .args in
     let rows = args .rows .now in
-    let none = c .if1 .taken in
-    let marks = start .pre .1 in (
+    let none = c .if1 .taken in (
       stays-gone (args .place) rows (start .pre .0) (args .triple) (args .parent) none,
-      rw (terms-more 8 (args .place) rows, gone-term (args .place) rows (start .pre .0) (args .triple) (args .parent) none)
-          (marked-more 16384 (terms-of 8 (args .place) rows) (args .marks .now) (marks .1) [] (omega (arith, marks .0))),
+      row-gone 16384 2048 8 (args .place) rows (args .chains .now) (start .pre .1 .0) (start .pre .1 .1) rows
+          (rw (terms-more 8 (args .place) rows, gone-term (args .place) rows (start .pre .0) (args .triple) (args .parent) none)),
     )
 
 add-end : tie.Need-add-end
@@ -102,16 +91,16 @@ settle-row-requires c κs =
     rw (put-back made) (
       between-held (args .place) rows held (args .triple) (args .parent) some row (whole-row made) (row-rewritten made),
       (
-        start .pre .1 .0,
-        rw (between-terms (args .place) rows held (args .triple) (args .parent) some row (whole-row made) (row-rewritten made)) (start .pre .1 .1),
+        rw (between-terms (args .place) rows held (args .triple) (args .parent) some row (whole-row made) (row-rewritten made)) (start .pre .1 .0),
+        (between-there (args .place) rows held (args .triple) (args .parent) some row (whole-row made) (row-rewritten made), start .pre .1 .1),
       ),
     )
 
+same-length : tie.Need-same-length
+same-length c = search needs
+
 same-length-2 : tie.Need-same-length-2
 same-length-2 c = search needs
-
-same-length-3 : tie.Need-same-length-3
-same-length-3 c = search needs
 
 returns-2 : tie.Need-returns-2
 returns-2 c =
@@ -132,8 +121,6 @@ reduce-row-spec =
     mul-from
     mul-if1
     slice-read-if1
-    slice-write-marks
-    same-length
     returns
     add-end
     mul-rewrite-row
@@ -142,6 +129,6 @@ reduce-row-spec =
     part-rewrite-row-end
     rewrite-row-requires
     settle-row-requires
+    same-length
     same-length-2
-    same-length-3
     returns-2)

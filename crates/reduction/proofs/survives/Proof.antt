@@ -21,8 +21,10 @@ returns c = rw (← c .before .before .term-at .ensures, ← c .before .all-are 
 
 is-kept-requires : tie.Need-is-kept-requires
 is-kept-requires c κs =
-    let start = c .before .before .before .before .before in
-    (held-fewer 8 (start .args .place) (start .args .place + 1) (start .args .rows .now) (omega arith) (start .pre .0), start .pre .1)
+    let start = c .before .before .before .before .before in (
+      held-fewer 8 (start .args .place) (start .args .place + 1) (start .args .rows .now) (omega arith) (start .pre .0),
+      (start .pre .1 .0, rw (c .before .before .term-at .ensures) (start .pre .1 .1)),
+    )
 
 returns-2 : tie.Need-returns-2
 unfolding stays dropped

@@ -1,10 +1,9 @@
--- Marks of terms: a number made from a term's indices, and a table of the marks that are set. Every mark is below `size`.
+-- Marks of terms: a number made from a term's indices, and a chain through the places of those with the same mark. Every mark is below `size`.
 use mathlib.Core.Path.{_≡_}
-use mathlib.Core.Bool.{Bool, true, false}
 use mathlib.Core.List.{List, [], _∷_}
-use Prim.Native.Nat.{ℕ, _+_, _*_, _%_}
-use lib.ListN.{getD}
-use Rattle.lists.specs.Members.{every}
+use Prim.Native.Nat.{ℕ, _+_, _-_, _*_, _%_, _<_, _≤_}
+use lib.ListN.{length, getD, take, set}
+use Rattle.lists.specs.Members.{some-of, alike}
 
 -- How many marks there are.
 abbrev pub mark-room : ℕ
@@ -23,10 +22,24 @@ mark-after size mark (number ∷ rest) = mark-after size (next-mark size mark nu
 unfoldable pub mark-of : ℕ → List ℕ → ℕ
 mark-of size term = mark-after size 0 term
 
--- The term's mark is set.
-unfoldable pub has-mark : ℕ → List Bool → List ℕ → Bool
-has-mark size marks term = getD marks (mark-of size term) false
+-- Of the first `count` terms, a number leads to those with a mark: it is 0, or 1 + the place of one that has it and is not empty, and
+-- which of them a term with this mark is like is decided among the first `last`.
+pub record Leads (size : ℕ) (terms : List (List ℕ)) (count mark last : ℕ) : Type 0 where
+  pub inside : last ≤ count
+  pub there : 0 < last → 0 < length (getD terms (last - 1) [])
+  pub marked : 0 < last → mark-of size (getD terms (last - 1) []) ≡ mark
+  pub all : (term : List ℕ) → 0 < length term → mark-of size term ≡ mark
+      → some-of (alike term) (take count terms) ≡ some-of (alike term) (take last terms)
 
--- The mark of every one of the terms is set.
-abbrev pub Marked : ℕ → List (List ℕ) → List Bool → Type 0
-Marked size terms marks = every (has-mark size marks) terms ≡ true
+-- The chains of terms, at most so many: at each mark the number that leads to its terms, and behind the marks, for the place of each term
+-- that is not empty, the number that leads to those before it with its mark.
+pub record Chained (size most : ℕ) (terms : List (List ℕ)) (chains : List ℕ) : Type 0 where
+  pub room : length chains ≡ size + most
+  pub fits : length terms ≤ most
+  pub last : (mark : ℕ) → mark < size → Leads size terms (length terms) mark (getD chains mark 0)
+  pub link : (place : ℕ) → place < length terms → 0 < length (getD terms place [])
+      → Leads size terms place (mark-of size (getD terms place [])) (getD chains (size + place) 0)
+
+-- A place put first on the chain of a mark.
+unfoldable pub put-first : ℕ → ℕ → ℕ → List ℕ → List ℕ
+put-first size mark place chains = set (set chains (size + place) (getD chains mark 0)) mark (place + 1)

@@ -14,8 +14,10 @@ enum-known-count c = search needs
 put-merge-requires : tie.Need-put-merge-requires
 put-merge-requires c κs =
     let args = c .before .before .before .before .before .before .before .before .before .args in
+    let good =
     accepted (args .modes) (args .rows .now) (c .before .before .before .count .given .0 .0)
-    (sym (c .before .before .before .before .before .check-terms .ensures .answer) ∙ c .before .before .before .count .given .1) .held
+    (sym (c .before .before .before .before .before .check-terms .ensures .answer) ∙ c .before .before .before .count .given .1) in
+    (good .held, good .at-most)
 
 enum-known-refusal : tie.Need-enum-known-refusal
 enum-known-refusal c = search needs

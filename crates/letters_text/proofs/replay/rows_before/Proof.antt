@@ -43,7 +43,7 @@ reduce-hamiltonian-requires : tie.Need-reduce-hamiltonian-requires Inv-loop μ-l
 reduce-hamiltonian-requires c κs =
     let start = c .before .before .before .before .before .before in
     let finished = start .pre .1 .1 .0 in
-    rw (finished .count-is) at (c .before .before .before .before .loop .inv .2 (start .pre .0) (start .pre .1 .0) finished .held)
+    (rw (finished .count-is) at (c .before .before .before .before .loop .inv .2 (start .pre .0) (start .pre .1 .0) finished .held), rw (finished .count-is) at (finished .holds .light))
 
 add-at : tie.Need-add-at Inv-loop μ-loop
 add-at c = search needs

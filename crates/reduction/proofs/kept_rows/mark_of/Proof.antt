@@ -5,7 +5,7 @@ use native.Mathlib.Omega.{arith}
 use borrow.Author.Needs.{needs}
 use lib.ListN.{length, drop}
 use Rattle.reduction.specs.code.Marks.{next-mark, mark-after, mark-of}
-use Rattle.reduction.proofs.MarkedRows.{mark-start, mark-step, mark-end}
+use Rattle.reduction.proofs.ChainedRows.{mark-start, mark-step, mark-end}
 use Rattle.reduction.proofs.kept_rows.mark_of.Statement.{statement}
 use Rattle.reduction.proofs.kept_rows.mark_of.Tie as tie
 

@@ -57,7 +57,9 @@ parent-number-requires : tie.Need-parent-number-requires
 parent-number-requires c κs = search needs
 
 reduce-hamiltonian-requires : tie.Need-reduce-hamiltonian-requires
-reduce-hamiltonian-requires c κs = c .before .before .before .before .before .before .before .before .before .before .before .before .before .before .before .before .before .before .before .before .pre .0 .held
+reduce-hamiltonian-requires c κs =
+    let pre = c .before .before .before .before .before .before .before .before .before .before .before .before .before .before .before .before .before .before .before .before .pre .0 in
+    (pre .held, pre .fits)
 
 add-t27 : tie.Need-add-t27
 add-t27 c =

@@ -10,7 +10,10 @@ put-surviving-requires : tie.Need-put-surviving-requires
 put-surviving-requires c κs = search needs
 
 reduce-hamiltonian-requires : tie.Need-reduce-hamiltonian-requires
-reduce-hamiltonian-requires c κs = held-fewer 8 _ _ _ (omega arith) (c .before .before .before .put-surviving .ensures .held)
+reduce-hamiltonian-requires c κs =
+    let put = c .before .before .before in
+    let start = put .before .before .before .before in
+    (held-fewer 8 _ _ _ (omega arith) (put .put-surviving .ensures .held), start .pre .0 .few)
 
 same-length : tie.Need-same-length
 same-length c = search needs
