@@ -253,15 +253,15 @@ fn best_of_pairs<'a>(
 
 // The best so far against the choice in which the X and Y leaves take this mode beside a fixed z; its weight is looked up.
 fn best_of_couple(
-    weights: &[u16; 256],
+    weights: &[u16],
     modes: usize,
     node: u16,
     slots: Triple,
     mode: u16,
     best: Selection,
 ) -> Selection
-    requires { ⌜ (modes ≤ most-modes) × (mode < modes) × (slots .x ≡ 3 * modes + 1) × (slots .y ≡ 3 * modes + 2) ⌝ }
-    ensures { λ r. ⌜ ((rows : List (List ℕ)) → PairsWeighed most-modes rows (slots .z) (now (weights .entry)) → r ≡ sought rows node best (with-z (number-leaf modes (slots .x) mode) (number-leaf modes (slots .y) mode) (slots .z ∷ []))) ⌝ }
+    requires { ⌜ (modes ≤ most-modes) × (length (now weights) ≡ modes) × (mode < modes) × (slots .x ≡ 3 * modes + 1) × (slots .y ≡ 3 * modes + 2) ⌝ }
+    ensures { λ r. ⌜ ((rows : List (List ℕ)) → PairsWeighed modes rows (slots .z) (now (weights .entry)) → r ≡ sought rows node best (with-z (number-leaf modes (slots .x) mode) (number-leaf modes (slots .y) mode) (slots .z ∷ []))) ⌝ }
 {
     let triple = Triple {
         x: slots::leaf_of(modes, slots.x, mode),
@@ -274,16 +274,16 @@ fn best_of_couple(
 
 // The best so far against the choices in which the X and Y leaves take each free mode in turn beside a fixed z.
 fn best_of_couples<'a>(
-    weights: &'a [u16; 256],
+    weights: &'a [u16],
     free: &'a [u16],
     modes: usize,
     node: u16,
     slots: Triple,
     start: Selection,
 ) -> Selection
-    requires { ⌜ (modes ≤ most-modes) × (slots .x ≡ 3 * modes + 1) × (slots .y ≡ 3 * modes + 2) ⌝ }
+    requires { ⌜ (modes ≤ most-modes) × (length (now weights) ≡ modes) × (slots .x ≡ 3 * modes + 1) × (slots .y ≡ 3 * modes + 2) ⌝ }
     requires { ⌜ every (λ mode. ltb mode modes) (now free) ≡ true ⌝ }
-    ensures { λ r. ⌜ ((rows : List (List ℕ)) → PairsWeighed most-modes rows (slots .z) (now (weights .entry)) → r ≡ sought rows node start (flatMap (λ mode. with-z (number-leaf modes (slots .x) mode) (number-leaf modes (slots .y) mode) (slots .z ∷ [])) (now (free .entry)))) ⌝ }
+    ensures { λ r. ⌜ ((rows : List (List ℕ)) → PairsWeighed modes rows (slots .z) (now (weights .entry)) → r ≡ sought rows node start (flatMap (λ mode. with-z (number-leaf modes (slots .x) mode) (number-leaf modes (slots .y) mode) (slots .z ∷ [])) (now (free .entry)))) ⌝ }
 {
     let mut best = start;
     let mut at = 0;
@@ -294,24 +294,24 @@ fn best_of_couples<'a>(
     best
 }
 
-// The same; the rows are read once for all modes.
+// The same; the rows are read once for all modes, in lent room for a weight of each.
 fn best_beside<'a>(
     rows: &'a [u16],
     count: usize,
     free: &'a [u16],
     modes: usize,
+    weights: &mut [u16],
     node: u16,
     slots: Triple,
     start: Selection,
 ) -> Selection
     requires { ⌜ Held row-width count (now rows) ⌝ }
-    requires { ⌜ (count ≤ most-terms) × (modes ≤ most-modes) × (slots .x ≡ 3 * modes + 1) × (slots .y ≡ 3 * modes + 2) ⌝ }
+    requires { ⌜ (count ≤ most-terms) × (modes ≤ most-modes) × (length (now weights) ≡ modes) × (slots .x ≡ 3 * modes + 1) × (slots .y ≡ 3 * modes + 2) ⌝ }
     requires { ⌜ every (λ mode. ltb mode modes) (now free) ≡ true ⌝ }
     ensures { λ r. ⌜ r ≡ sought (terms-of row-width count (now (rows .entry))) node start (flatMap (λ mode. with-z (number-leaf modes (slots .x) mode) (number-leaf modes (slots .y) mode) (slots .z ∷ [])) (now (free .entry))) ⌝ }
 {
-    let mut weights = [0u16; 256];
-    pairs::weigh_pairs(rows, count, slots.z, &mut weights);
-    best_of_couples(&weights, free, modes, node, slots, start)
+    pairs::weigh_pairs(rows, count, slots.z, weights);
+    best_of_couples(weights, free, modes, node, slots, start)
 }
 
 // The best so far against the choices of three slots of which X and Y are unfixed.
@@ -336,7 +336,17 @@ fn best_of_unfixed<'a>(
     }
     // in an accepted tree X's leaf is the even one
     if slots.x < slots.y {
-        return best_beside(rows, count, free, modes, node, slots, start);
+        let mut weights = [0u16; 256];
+        return best_beside(
+            rows,
+            count,
+            free,
+            modes,
+            &mut weights[..modes],
+            node,
+            slots,
+            start,
+        );
     }
     best_of_pairs(rows, count, odds, free, modes, node, slots, start)
 }

@@ -10,7 +10,7 @@ use lib.Seq.{take-suc, getD-set-same, getD-set-other}
 use Rattle.lists.specs.Counting.{same, occurrences}
 use Rattle.lists.proofs.Sums.{occurrences-append, same-one, same-none}
 use Rattle.lists.proofs.Tests.{same-or-not}
-use Rattle.tallying.specs.code.Tallies.{Turned}
+use Rattle.tallying.specs.code.Tallies.{AllBelow, Turned}
 
 -- One number more of a list.
 pub occurrences-more : (n : ℕ) (l : List ℕ) (i : ℕ) → i < length l
@@ -18,6 +18,14 @@ pub occurrences-more : (n : ℕ) (l : List ℕ) (i : ℕ) → i < length l
 unfolding occurrences
 occurrences-more n l i h =
     rw (add-one i, take-suc l i 0 h) (let e = occurrences-append n (take i l) (getD l i 0 ∷ []) in omega arith)
+
+-- A bound of the numbers so far and of the next bounds them all.
+pub below-on : (term : List ℕ) (at bound higher : ℕ) → at < length term → AllBelow term at bound → bound ≤ higher → getD term at 0 < higher
+    → AllBelow term (at + 1) higher
+below-on term at bound higher h below up last n k =
+    let more = occurrences-more n term at h in
+    let none = same-none (getD term at 0) n (λ e. omega arith) in
+    omega (arith, below n (omega arith))
 
 module _ (term : List ℕ) (at : ℕ) (table : List ℕ) (h : at < length term) where
   -- A number beyond the table changes nothing.

@@ -6,7 +6,9 @@ ghost use Rattle.lists.specs.Counting.{occurrences};
 ghost use Rattle.entities.specs.Limits.{«most-terms», «row-width»};
 ghost use Rattle.terms.specs.Rows.{«terms-of»};
 ghost use Rattle.terms.specs.code.Held.{Held};
+ghost use Rattle.tallying.specs.code.Tallies.{AllBelow};
 ghost use Rattle.tallying.specs.code.Pairs.{beside, PairTurned, RowWeighed, Lifted, PairsWeighed};
+use crate::raising;
 use terms::row;
 use terms::slices;
 use terms::weight;
@@ -42,15 +44,37 @@ fn turn_pair(term: &[u16], at: usize, odd: usize, table: &mut [u16])
     table[mode] -= 1;
 }
 
+// The same; where those before are all below both leaves of the mode, its weight goes up if z is not odd, and else stays.
+fn turn_next(term: &[u16], at: usize, bound: usize, odd: usize, table: &mut [u16])
+    requires { ⌜ (at < length (now term)) × AllBelow (now term) at bound × (odd ≤ 1) ⌝ }
+    requires { ⌜ ((k : ℕ) → k < length (now table) → (beside odd k (take at (now term)) ≤ getD (now table) k 0) × (getD (now table) k 0 < 65535 + beside odd k (take at (now term)))) ⌝ }
+    ensures { λ r. ⌜ PairTurned odd (now (term .entry)) at (now (table .entry)) (now (table .exit)) ⌝ }
+{
+    let number = term[at];
+    let mode = entities::wide(number) / 2;
+    if table.len() <= mode {
+        return;
+    }
+    if 2 * mode < bound {
+        turn_pair(term, at, odd, table);
+        return;
+    }
+    if odd == 0 {
+        table[mode] += 1;
+    }
+}
+
 // Whether z is odd in the term; each entry goes up by what the mode's leaves weigh with z in it, less z's own parity.
 fn weigh_row(term: &[u16], z: u16, table: &mut [u16]) -> usize
     requires { ⌜ ((k : ℕ) → k < length (now table) → (1 ≤ getD (now table) k 0) × (getD (now table) k 0 < 65535)) ⌝ }
     ensures { λ r. ⌜ RowWeighed (now (term .entry)) z (now (table .entry)) (now (table .exit)) r ⌝ }
 {
     let odd = weight::odd_in(term, z);
+    let mut bound: usize = 0;
     let mut at = 0;
     while at < term.len() {
-        turn_pair(term, at, odd, table);
+        turn_next(term, at, bound, odd, table);
+        bound = raising::bound_on(bound, term[at]);
         at += 1;
     }
     odd

@@ -22,8 +22,8 @@ wide-requires c κs = search needs
 mul-wide : tie.Need-mul-wide
 mul-wide c = search needs
 
-element-copy-out-wide : tie.Need-element-copy-out-wide
-element-copy-out-wide c = search needs
+shared-slice-read-wide : tie.Need-shared-slice-read-wide
+shared-slice-read-wide c = search needs
 
 wide-requires-2 : tie.Need-wide-requires-2
 wide-requires-2 c κs = search needs
@@ -35,7 +35,7 @@ returns : tie.Need-returns
 unfolding with-z number-leaf
 returns c rows weighed =
     let leaves = c .before .before .before .before in
-    let args = leaves .before .before .args in
+    let args = leaves .before .before .before .args in
     let even : leaves .before .leaf-of .result ≡ 2 * args .mode = omega (arith, leaves .before .leaf-of .ensures) in
     let odd : leaves .leaf-of2 .result ≡ 2 * args .mode + 1 = omega (arith, leaves .leaf-of2 .ensures) in
     let looked = c .before .wide2 .ensures .0 ∙ ap (λ k. getD (args .weights .now) k 0) (c .before .before .before .wide .ensures .0) ∙ weighed (args .mode) (omega arith) in
@@ -50,7 +50,7 @@ best-of-couple-spec =
     leaf-of-requires-2
     wide-requires
     mul-wide
-    element-copy-out-wide
+    shared-slice-read-wide
     wide-requires-2
     better-of-requires
     returns)

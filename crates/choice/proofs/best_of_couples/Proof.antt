@@ -22,7 +22,7 @@ of modes slots mode = with-z (number-leaf modes (slots .x) mode) (number-leaf mo
 
 abbrev Inv-loop : tie.InvT-loop
 Inv-loop weights free modes node slots best₀ at₀ best at = (at ≤ length free)
-    × ((rows : List (List ℕ)) → PairsWeighed 256 rows (slots .z) weights
+    × ((rows : List (List ℕ)) → PairsWeighed modes rows (slots .z) weights
     → sought rows node best₀ (flatMap (of modes slots) free) ≡ sought rows node best (flatMap (of modes slots) (drop at free)))
 
 abbrev μ-loop : tie.MeasureT-loop
@@ -40,9 +40,9 @@ shared-slice-read-best-of-couple c = search needs
 best-of-couple-requires : tie.Need-best-of-couple-requires Inv-loop μ-loop
 best-of-couple-requires c κs =
     let here = c .before .before in
-    let start = here .before .before in
+    let start = here .before .before .before in
     let low = below-at (start .args .modes) (start .args .free .now) (here .loop .at) 0 (omega arith) (start .pre .1) in
-    (omega arith, low, start .pre .0 .1, start .pre .0 .2)
+    (omega arith, start .pre .0 .1, low, start .pre .0 .2, start .pre .0 .3)
 
 add-at : tie.Need-add-at Inv-loop μ-loop
 add-at c = search needs
@@ -53,7 +53,7 @@ loop-less c = search needs
 loop-again : tie.Need-loop-again Inv-loop μ-loop
 loop-again c =
     let here = c .before .before .before in
-    let args = here .before .before .args in
+    let args = here .before .before .before .args in
     let free = args .free .now in
     let those : ℕ → List Triple = of (args .modes) (args .slots) in (
       omega arith,
@@ -67,7 +67,7 @@ loop-again c =
 returns : tie.Need-returns Inv-loop μ-loop
 returns c rows weighed =
     let here = c .before in
-    let args = here .before .before .args in
+    let args = here .before .before .before .args in
     sym (here .loop .inv .1 rows weighed ∙ rw (joined-end _ (args .free .now) (here .loop .at) (omega arith)) (sought-none _ _ _))
 
 pub best-of-couples-spec : {M : Type 1} → statement M

@@ -17,6 +17,10 @@ odds number terms = sum (map (λ term. occurrences number term % 2) terms)
 abbrev pub OddsAre : ℕ → List (List ℕ) → List ℕ → Type 0
 OddsAre room terms table = (n : ℕ) → n < room → getD table n 0 ≡ odds n terms
 
+-- Each of the numbers up to a place is below a bound.
+abbrev pub AllBelow : List ℕ → ℕ → ℕ → Type 0
+AllBelow term at bound = (n : ℕ) → bound ≤ n → occurrences n (take at term) ≡ 0
+
 -- The table was raised by the parities of the numbers up to a place, and now is by those of one number more.
 pub record Turned (term : List ℕ) (at : ℕ) (before after : List ℕ) : Type 0 where
   pub same-length : length after ≡ length before

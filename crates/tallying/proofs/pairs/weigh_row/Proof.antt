@@ -1,37 +1,50 @@
 -- The table follows what the leaves weigh beside z in the numbers passed; at the end these are all.
 use mathlib.Core.Path.{_≡_, refl}
-use mathlib.Core.List.{[]}
 use Prim.Native.Nat.{ℕ, _≤_, _<_, _-_, _+_}
 use native.Mathlib.Omega.{arith}
 use borrow.Author.Needs.{needs}
 use lib.ListN.{length, getD, take}
 use lib.Seq.{take-all}
+use Rattle.lists.specs.Counting.{occurrences}
+use Rattle.tallying.specs.code.Tallies.{AllBelow}
 use Rattle.tallying.specs.code.Pairs.{beside}
+use Rattle.tallying.proofs.Parities.{below-on}
 use Rattle.tallying.proofs.PairsWeighed.{beside-none, beside-all}
 use Rattle.tallying.proofs.pairs.weigh_row.Statement.{statement}
 use Rattle.tallying.proofs.pairs.weigh_row.Tie as tie
 
 abbrev Inv-loop : tie.InvT-loop
-Inv-loop term z table₀ odd at₀ table at =
+Inv-loop term z table₀ odd bound₀ at₀ table bound at =
     (at ≤ length term)
     × (length table ≡ length table₀)
     × ((k : ℕ) → k < length table₀ → getD table k 0 + odd ≡ getD table₀ k 0 + beside odd k (take at term))
+    × AllBelow term at bound
 
 abbrev μ-loop : tie.MeasureT-loop
-μ-loop term z table₀ odd at₀ table at = length term - at
+μ-loop term z table₀ odd bound₀ at₀ table bound at = length term - at
 
 odd-in-requires : tie.Need-odd-in-requires Inv-loop μ-loop
 odd-in-requires c κs = search needs
 
 loop-holds : tie.Need-loop-holds Inv-loop μ-loop
-loop-holds c = (omega arith, refl, λ k h. omega (arith, beside-none (c .odd-in .result) k (c .odd-in .ensures .1)))
+unfolding occurrences
+loop-holds c = (omega arith, refl, λ k h. omega (arith, beside-none (c .odd-in .result) k (c .odd-in .ensures .1)), λ n h. refl)
 
-turn-pair-requires : tie.Need-turn-pair-requires Inv-loop μ-loop
-turn-pair-requires c κs =
+turn-next-requires : tie.Need-turn-next-requires Inv-loop μ-loop
+turn-next-requires c κs =
     let here = c .before .before in
     let start = here .before .before .before .before in
     let low = here .before .odd-in .ensures .1 in
-    ((omega arith, low), λ k h. (let entry = here .loop .inv .2 k (omega arith) in let room = start .pre k (omega arith) in (omega arith, omega arith)))
+    ((omega arith, here .loop .inv .3, low), λ k h. (let entry = here .loop .inv .2 k (omega arith) in let room = start .pre k (omega arith) in (omega arith, omega arith)))
+
+mul-bound-on : tie.Need-mul-bound-on Inv-loop μ-loop
+mul-bound-on c = search needs
+
+shared-slice-read-bound-on : tie.Need-shared-slice-read-bound-on Inv-loop μ-loop
+shared-slice-read-bound-on c = search needs
+
+bound-on-requires : tie.Need-bound-on-requires Inv-loop μ-loop
+bound-on-requires c κs = search needs
 
 add-at : tie.Need-add-at Inv-loop μ-loop
 add-at c = search needs
@@ -41,11 +54,14 @@ loop-less c = search needs
 
 loop-again : tie.Need-loop-again Inv-loop μ-loop
 loop-again c =
-    let called = c .before .before .turn-pair .ensures in
-    let here = c .before .before .before .before .before in (
+    let called = c .before .before .before .before .turn-next .ensures in
+    let here = c .before .before .before .before .before .before .before in
+    let term = here .before .before .before .before .args .term .now in
+    let higher = c .bound-on .ensures in (
       omega arith,
       omega (arith, called .same-length),
       λ k h. (let entry = here .loop .inv .2 k h in let turned = called .turned k (omega arith) in omega arith),
+      below-on term (here .loop .at) (here .loop .bound) (c .bound-on .result) (omega arith) (here .loop .inv .3) (higher .0) (higher .1),
     )
 
 same-length : tie.Need-same-length Inv-loop μ-loop
@@ -72,7 +88,10 @@ weigh-row-spec =
     μ-loop
     odd-in-requires
     loop-holds
-    turn-pair-requires
+    turn-next-requires
+    mul-bound-on
+    shared-slice-read-bound-on
+    bound-on-requires
     add-at
     loop-less
     loop-again
