@@ -8,9 +8,10 @@ use lib.ListN.{length, getD, take, drop}
 use Rattle.lists.specs.Members.{keep}
 use Rattle.lists.specs.Written.{written-at}
 use Rattle.lists.proofs.Tests.{same-or-not}
+use Rattle.lists.proofs.Written.{take-written}
 use Rattle.terms.specs.Rows.{rows-of, term, terms-of}
 use Rattle.terms.specs.code.Held.{Held}
-use Rattle.terms.proofs.RowSteps.{terms-start, terms-step, terms-end, row-length, row-first, length-term}
+use Rattle.terms.proofs.RowSteps.{terms-start, terms-step, terms-end, terms-front, row-length, row-first, length-term, held-fewer}
 use Rattle.reduction.specs.Reduction.{is-there, live}
 use Rattle.reduction.specs.code.Promises.{RowGathered, LiveRows}
 use Rattle.reduction.proofs.RowReduced.{no-term, put-held, put-terms, put-length}
@@ -50,30 +51,41 @@ module _ (count : ℕ) (rows before : List ℕ) (held : Held 8 count rows) (room
       here-first : getD here 0 0 ≡ getD rows (8 * place) 0
       here-first = row-first 8 place rows here-room (omega arith)
 
-      -- A row that is gone is passed over.
-      pub passed-gone : getD rows (8 * place) 0 ≡ 0 → Gathering count rows before gathered kept (place + 1)
+      whole : length here ≡ 8
+      whole = row-length 8 place rows here-room
+
+      short : getD here 0 0 < 8
+      short = rw here-first (held .within place h)
+
+      -- A row that is gone stands behind those gathered, and counts for none.
+      pub passed-gone : getD rows (8 * place) 0 ≡ 0 → Gathering count rows before (written-at (8 * kept) here gathered) kept (place + 1)
       unfolding live is-there keep
       passed-gone none =
+          let front = terms-front 8 kept gathered (written-at (8 * kept) here gathered)
+          (sym (take-written (8 * kept) here gathered (rw whole live-room))) in
           record {
             inside = omega arith;
             fewer = omega (arith, g .fewer);
-            held = g .held;
-            same-length = g .same-length;
-            gives = g .gives ∙ rw (terms-step 8 count place rows h, no-term here (here-first ∙ none)) refl;
+            held =
+                held-fewer 8 kept (kept + 1) _ (omega arith)
+                (put-held kept gathered here (g .held) live-room whole short (λ zero. held .zeros place h none));
+            same-length = put-length kept gathered here (g .held) live-room whole ∙ g .same-length;
+            gives =
+                g .gives
+                ∙ rw (terms-step 8 count place rows h, no-term here (here-first ∙ none))
+                (ap (λ t. t ++ keep is-there (terms-of 8 (count - (place + 1)) (drop (8 * (place + 1)) rows))) front);
           }
 
       -- A row that is there is put behind those gathered.
       pub passed-there : (getD rows (8 * place) 0 ≡ 0 → ⊥) → Gathering count rows before (written-at (8 * kept) here gathered) (kept + 1) (place + 1)
       unfolding live keep
       passed-there some =
-          let whole = row-length 8 place rows here-room in
-          let within = held .within place h in
-          let long : length (term here) ≡ getD here 0 0 = length-term here (rw (whole, here-first) within) in
+          let long : length (term here) ≡ getD here 0 0 = length-term here (rw whole short) in
           record {
             inside = omega arith;
             fewer = omega (arith, g .fewer);
             held =
-                put-held kept gathered here (g .held) live-room whole (rw here-first within)
+                put-held kept gathered here (g .held) live-room whole short
                 (λ none. absurd (some (sym here-first ∙ none)));
             same-length = put-length kept gathered here (g .held) live-room whole ∙ g .same-length;
             gives =
@@ -90,8 +102,8 @@ module _ (count : ℕ) (rows before : List ℕ) (held : Held 8 count rows) (room
           → Gathering count rows before after now-kept (place + 1)
       gathered-on after now-kept r =
           ⊎-elim
-          (λ none. rw (r .gone none .0, r .gone none .1) (passed-gone none))
-          (λ some. rw (r .there some .0, r .there some .1) (passed-there some))
+          (λ none. rw (r .gone none, r .put) (passed-gone none))
+          (λ some. rw (r .there some, r .put) (passed-there some))
           (same-or-not (getD rows (8 * place) 0) 0)
 
     pub gathering-ends : count ≤ place → LiveRows count rows gathered kept

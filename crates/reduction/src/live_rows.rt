@@ -6,15 +6,15 @@ ghost use Rattle.terms.specs.code.Held.{Held};
 ghost use Rattle.reduction.specs.code.Promises.{RowGathered, LiveRows};
 use terms::row;
 
-// The row at this place put behind the first `kept`, where it is there; how many there are then.
+// The row at this place put behind the first `kept`; how many there are then, one more only where it is there. It is put before it is looked at: which rows are there no processor can foresee.
 fn gather_row(rows: &[u16], place: usize, live: &mut [u16], kept: usize) -> usize
     requires { ⌜ (row-width * place + row-width ≤ length (now rows)) × (row-width * kept + row-width ≤ length (now live)) ⌝ }
     ensures { λ r. ⌜ RowGathered (now (rows .entry)) place kept (now (live .entry)) (now (live .exit)) r ⌝ }
 {
+    row::put_row(live, kept, row::row_at(rows, place));
     if rows[8 * place] == 0 {
         return kept;
     }
-    row::put_row(live, kept, row::row_at(rows, place));
     kept + 1
 }
 

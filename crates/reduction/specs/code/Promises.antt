@@ -44,11 +44,11 @@ pub record Reduced (triple : Triple) (parent count : ℕ) (before after : List �
   pub held : Held row-width count after
   pub rest : drop (row-width * count) after ≡ drop (row-width * count) before
 
--- A row that is there put behind so many others; one that is gone passed over.
+-- A row put behind so many others, and counted with them where it is there.
 pub record RowGathered (rows : List ℕ) (place kept : ℕ) (before after : List ℕ) (now-kept : ℕ) : Type 0 where
-  pub gone : getD rows (row-width * place) 0 ≡ 0 → (now-kept ≡ kept) × (after ≡ before)
-  pub there : (getD rows (row-width * place) 0 ≡ 0 → ⊥)
-      → (now-kept ≡ kept + 1) × (after ≡ written-at (row-width * kept) (take row-width (drop (row-width * place) rows)) before)
+  pub put : after ≡ written-at (row-width * kept) (take row-width (drop (row-width * place) rows)) before
+  pub gone : getD rows (row-width * place) 0 ≡ 0 → now-kept ≡ kept
+  pub there : (getD rows (row-width * place) 0 ≡ 0 → ⊥) → now-kept ≡ kept + 1
 
 -- The rows that are there, gathered at the front of other numbers.
 pub record LiveRows (count : ℕ) (rows gathered : List ℕ) (kept : ℕ) : Type 0 where
