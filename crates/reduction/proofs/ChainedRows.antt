@@ -5,7 +5,6 @@ use mathlib.Core.List.{List, [], _∷_, _++_}
 use mathlib.Core.Logic.{⊎-elim}
 use Prim.Native.Nat.{ℕ, suc, _+_, _-_, _*_, _<_, _≤_}
 use native.Mathlib.Nat.{mod-lt}
-use native.Mathlib.Numerals.{add-one}
 use native.Mathlib.Omega.{arith}
 use borrow.Author.Count.{below-more}
 use lib.ListN.{length, getD, take, drop, set, replicate, length-append, length-set, length-replicate, getD-replicate, drop-of-length-le, List·getD-append, List·getD-map}
@@ -55,6 +54,7 @@ module _ {A : Type 0} (test : A → Bool) (a : A) where
   some-finds [] e = rw e
   some-finds (b ∷ l) e = rw (some-finds l e) (or-true (test b))
 
+-- The term at a place among the first rows.
 pub terms-at : (w count place : ℕ) (s : List ℕ) → place < count → getD (terms-of w count s) place [] ≡ term (take w (drop (w * place) s))
 unfolding terms-of term
 terms-at w count place s h = List·getD-map term (rows-of w count s) place [] ∙ ap term (rows-at w count place s h)
@@ -125,17 +125,17 @@ chained-starts size most chains e =
     }
 
 -- One term more.
+abbrev longer : List (List ℕ) → List ℕ → List (List ℕ)
+longer terms term = terms ++ (term ∷ [])
+
+length-longer : (terms : List (List ℕ)) (term : List ℕ) → length (longer terms term) ≡ length terms + 1
+length-longer terms term = length-append terms (term ∷ [])
+
 module _ (size : ℕ) (terms : List (List ℕ)) (term : List ℕ) where
-  abbrev longer : List (List ℕ)
-  longer = terms ++ (term ∷ [])
-
-  length-longer : length longer ≡ length terms + 1
-  length-longer = length-append terms (term ∷ [])
-
   -- What leads to places before it leads to them still.
-  leads-still : (count mark last : ℕ) → count ≤ length terms → Leads size terms count mark last → Leads size longer count mark last
+  leads-still : (count mark last : ℕ) → count ≤ length terms → Leads size terms count mark last → Leads size (longer terms term) count mark last
   leads-still count mark last h l =
-      let same : 0 < last → getD longer (last - 1) [] ≡ getD terms (last - 1) [] =
+      let same : 0 < last → getD (longer terms term) (last - 1) [] ≡ getD terms (last - 1) [] =
       λ more. List·getD-append terms (term ∷ []) [] (last - 1) (omega (arith, l .inside)) in
       record {
         inside = l .inside;
@@ -147,15 +147,15 @@ module _ (size : ℕ) (terms : List (List ℕ)) (term : List ℕ) where
 
   -- It is passed over where no term with the mark is like it.
   leads-past : (mark last : ℕ) → ((other : List ℕ) → 0 < length other → mark-of size other ≡ mark → alike other term ≡ false)
-      → Leads size terms (length terms) mark last → Leads size longer (length longer) mark last
+      → Leads size terms (length terms) mark last → Leads size (longer terms term) (length (longer terms term)) mark last
   leads-past mark last never l =
       let still = leads-still (length terms) mark last (omega arith) l in
       record {
-        inside = rw length-longer (omega (arith, l .inside));
+        inside = rw (length-longer terms term) (omega (arith, l .inside));
         there = still .there;
         marked = still .marked;
         all = λ other some e.
-            ap (some-of (alike other)) (take-length longer)
+            ap (some-of (alike other)) (take-length (longer terms term))
             ∙ some-misses (alike other) term terms (never other some e)
             ∙ ap (some-of (alike other)) (sym (take-append-le (length terms) terms (term ∷ []) (omega arith) ∙ take-length terms))
             ∙ still .all other some e;
@@ -164,23 +164,23 @@ module _ (size : ℕ) (terms : List (List ℕ)) (term : List ℕ) where
 -- Chains of one term more: those before it keep their numbers, and its own leads to what its mark led to.
 module _ (size most : ℕ) (terms : List (List ℕ)) (chains : List ℕ) (chained : Chained size most terms chains) (room : length terms < most)
     (term : List ℕ) where
-  fits-on : length (terms ++ (term ∷ [])) ≤ most
-  fits-on = rw (length-longer size terms term) (omega arith)
+  fits-on : length (longer terms term) ≤ most
+  fits-on = rw (length-longer terms term) (omega arith)
 
   links-on : (after : List ℕ) → ((place : ℕ) → place < length terms → getD after (size + place) 0 ≡ getD chains (size + place) 0)
       → (0 < length term → Leads size terms (length terms) (mark-of size term) (getD after (size + length terms) 0))
-      → (place : ℕ) → place < length (terms ++ (term ∷ [])) → 0 < length (getD (terms ++ (term ∷ [])) place [])
-      → Leads size (terms ++ (term ∷ [])) place (mark-of size (getD (terms ++ (term ∷ [])) place [])) (getD after (size + place) 0)
+      → (place : ℕ) → place < length (longer terms term) → 0 < length (getD (longer terms term) place [])
+      → Leads size (longer terms term) place (mark-of size (getD (longer terms term) place [])) (getD after (size + place) 0)
   links-on after same new place h =
       below-more
-      (λ p. 0 < length (getD (terms ++ (term ∷ [])) p []) → Leads size (terms ++ (term ∷ [])) p (mark-of size (getD (terms ++ (term ∷ [])) p [])) (getD after (size + p) 0))
+      (λ p. 0 < length (getD (longer terms term) p []) → Leads size (longer terms term) p (mark-of size (getD (longer terms term) p [])) (getD after (size + p) 0))
       (length terms)
       (λ p k. rw (List·getD-append terms (term ∷ []) [] p k, same p k) (λ some. leads-still size terms term p _ _ (omega arith) (chained .link p k some)))
       (rw (getD-append-seam terms term [] []) (λ some. leads-still size terms term (length terms) _ _ (omega arith) (new some)))
-      place (rw (length-longer size terms term) at h)
+      place (rw (length-longer terms term) at h)
 
   -- An empty term is put on no chain.
-  pub chained-gone : term ≡ [] → Chained size most (terms ++ (term ∷ [])) chains
+  pub chained-gone : term ≡ [] → Chained size most (longer terms term) chains
   chained-gone e =
       record {
         room = chained .room;
@@ -223,10 +223,10 @@ module _ (size most : ℕ) (terms : List (List ℕ)) (chains : List ℕ) (chaine
     others-there at h k =
         getD-set-other linked mark at (length terms + 1) 0 h ∙ getD-set-other chains (size + length terms) at (getD chains mark 0) 0 k
 
-    own-leads : Leads size (terms ++ (term ∷ [])) (length (terms ++ (term ∷ []))) mark (getD after mark 0)
+    own-leads : Leads size (longer terms term) (length (longer terms term)) mark (getD after mark 0)
     unfolding mark
     own-leads =
-        rw (first-there, length-longer size terms term)
+        rw (first-there, length-longer terms term)
         (record {
           inside = omega arith;
           there = λ more. rw own some;
@@ -234,12 +234,12 @@ module _ (size most : ℕ) (terms : List (List ℕ)) (chains : List ℕ) (chaine
           all = λ other h e. refl;
         })
       where
-        own : getD (terms ++ (term ∷ [])) (length terms + 1 - 1) [] ≡ term
+        own : getD (longer terms term) (length terms + 1 - 1) [] ≡ term
         own =
             let e : length terms + 1 - 1 ≡ length terms = omega arith in
             rw e (getD-append-seam terms term [] [])
 
-    pub chained-more : Chained size most (terms ++ (term ∷ [])) (put-first size (mark-of size term) (length terms) chains)
+    pub chained-more : Chained size most (longer terms term) (put-first size (mark-of size term) (length terms) chains)
     unfolding after mark put-first
     chained-more =
         record {

@@ -1,5 +1,5 @@
 -- The rows passed and what those ahead become behind them are the whole reduction; at the end nothing is ahead.
-use mathlib.Core.Path.{_≡_, refl, _∙_}
+use mathlib.Core.Path.{refl}
 use Prim.Native.Nat.{_-_}
 use native.Mathlib.Omega.{arith}
 use borrow.Author.Needs.{needs}

@@ -22,8 +22,8 @@ mark-after size mark (number ∷ rest) = mark-after size (next-mark size mark nu
 unfoldable pub mark-of : ℕ → List ℕ → ℕ
 mark-of size term = mark-after size 0 term
 
--- Of the first `count` terms, a number leads to those with a mark: it is 0, or 1 + the place of one that has it and is not empty, and
--- which of them a term with this mark is like is decided among the first `last`.
+-- A number leads to those of the first `count` terms that have a mark and are not empty: it is 0, or 1 + the place of one of them, and a term
+-- with this mark that is like one of the first `count` is like one of the first `last`.
 pub record Leads (size : ℕ) (terms : List (List ℕ)) (count mark last : ℕ) : Type 0 where
   pub inside : last ≤ count
   pub there : 0 < last → 0 < length (getD terms (last - 1) [])

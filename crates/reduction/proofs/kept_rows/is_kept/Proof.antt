@@ -1,9 +1,11 @@
 -- The number leads down the chain of the term's mark: a row that is like the term ends the search, any other is passed.
-use mathlib.Core.Path.{_≡_, _∙_, sym, ap}
+use mathlib.Core.Path.{_≡_, _∙_, sym}
+use mathlib.Core.List.{[]}
 use Prim.Native.Nat.{_-_, _<_}
 use native.Mathlib.Omega.{arith}
 use borrow.Author.Needs.{needs}
-use lib.ListN.{length}
+use lib.ListN.{getD}
+use Rattle.lists.specs.Members.{alike}
 use Rattle.terms.specs.Rows.{terms-of}
 use Rattle.terms.proofs.RowSteps.{length-terms}
 use Rattle.reduction.proofs.ChainedRows.{terms-at, Seeking, seeking-starts, seeking-on, seeking-found, seeking-ends, place-inside, chain-falls}
@@ -33,19 +35,17 @@ wide-requires c κs = search needs
 loop-holds : tie.Need-loop-holds Inv-loop μ-loop
 loop-holds c =
     let start = c .before .before .before .before .before .before in
-    let args = start .args in
-    rw (c .wide .ensures .0, c .before .before .mark-of .ensures .0)
-    (seeking-starts 16384 2048 (terms-of 8 (args .count) (args .rows .now)) (args .chains .now) (start .pre .1 .0) (args .term .now) (start .pre .1 .1) (omega arith))
+    rw (c .wide .ensures .0, c .before .before .mark-of .ensures .0) (seeking-starts _ _ _ _ (start .pre .1 .0) _ (start .pre .1 .1) (omega arith))
 
 -- The number leads to one of the rows.
-below : (c : tie.In-loop Inv-loop μ-loop)
-    → c .before .loop .at - 1 < c .before .before .before .before .before .before .before .before .args .count
-below c =
+row-there : (c : tie.In-loop Inv-loop μ-loop)
+    → (c .before .loop .at - 1 < c .before .before .before .before .before .before .before .before .args .count) × (c .before .loop .at - 1 < 2048)
+row-there c =
     let here = c .before in
     let start = here .before .before .before .before .before .before .before in
-    let args = start .args in
-    rw (length-terms 8 (args .count) (args .rows .now)) at
-    (place-inside 16384 2048 (terms-of 8 (args .count) (args .rows .now)) (args .chains .now) (start .pre .1 .0) (args .term .now) (start .pre .1 .1) (here .loop .at) (here .loop .inv) (c .loop-test .taken))
+    let chained = start .pre .1 .0 in
+    let inside = place-inside _ _ _ _ chained _ (start .pre .1 .1) _ (here .loop .inv) (c .loop-test .taken) in
+    (rw (length-terms 8 (start .args .count) (start .args .rows .now)) at inside, omega (arith, inside, chained .fits))
 
 sub-place : tie.Need-sub-place Inv-loop μ-loop
 sub-place c = search needs
@@ -53,30 +53,35 @@ sub-place c = search needs
 term-at-requires : tie.Need-term-at-requires Inv-loop μ-loop
 term-at-requires c κs =
     let here = c .before in
-    let start = here .before .before .before .before .before .before .before in
-    let inside = below c in
-    (omega (arith, start .pre .0 .room), start .pre .0 .within (here .loop .at - 1) inside)
+    let held = here .before .before .before .before .before .before .before .pre .0 in
+    let inside = row-there c .0 in
+    (omega (arith, held .room), held .within (here .loop .at - 1) inside)
 
 same-requires : tie.Need-same-requires Inv-loop μ-loop
 same-requires c κs = search needs
+
+-- The comparison is with that row's term.
+compared : (c : tie.After-same Inv-loop μ-loop)
+    → (let here = c .before .before .before in
+    let args = here .before .before .before .before .before .before .before .args in
+    c .same .result ≡ alike (args .term .now) (getD (terms-of 8 (args .count) (args .rows .now)) (here .loop .at - 1) []))
+compared c =
+    let turn = c .before .before in
+    let here = turn .before in
+    let args = here .before .before .before .before .before .before .before .args in
+    rw (terms-at 8 (args .count) (here .loop .at - 1) (args .rows .now) (row-there turn .0), ← c .before .term-at .ensures) (c .same .ensures)
 
 returns : tie.Need-returns Inv-loop μ-loop
 returns c =
     let turn = c .before .before .before in
     let here = turn .before in
     let start = here .before .before .before .before .before .before .before in
-    let args = start .args in
     sym
-    (seeking-found 16384 2048 (terms-of 8 (args .count) (args .rows .now)) (args .chains .now) (start .pre .1 .0) (args .term .now) (start .pre .1 .1) (here .loop .at) (here .loop .inv) (turn .loop-test .taken)
-    (rw (terms-at 8 (args .count) (here .loop .at - 1) (args .rows .now) (below turn), ← c .before .before .term-at .ensures) (sym (c .before .same .ensures) ∙ c .if1 .taken)))
+    (seeking-found _ _ _ _ (start .pre .1 .0) _ (start .pre .1 .1) _ (here .loop .inv) (turn .loop-test .taken)
+    (sym (compared (c .before)) ∙ c .if1 .taken))
 
 add-wide : tie.Need-add-wide Inv-loop μ-loop
-add-wide c =
-    let turn = c .before .before .before in
-    let start = turn .before .before .before .before .before .before .before .before in
-    let inside = below turn in
-    let few = rw (length-terms 8 (start .args .count) (start .args .rows .now)) at (start .pre .1 .0 .fits) in
-    omega arith
+add-wide c = omega (arith, row-there (c .before .before .before) .1)
 
 mul-wide-2 : tie.Need-mul-wide-2 Inv-loop μ-loop
 mul-wide-2 c = search needs
@@ -85,9 +90,7 @@ shared-slice-read-wide-2 : tie.Need-shared-slice-read-wide-2 Inv-loop μ-loop
 shared-slice-read-wide-2 c =
     let turn = c .before .before .before .before in
     let start = turn .before .before .before .before .before .before .before .before in
-    let inside = below turn in
-    let few = rw (length-terms 8 (start .args .count) (start .args .rows .now)) at (start .pre .1 .0 .fits) in
-    rw (start .pre .1 .0 .room) (omega arith)
+    rw (start .pre .1 .0 .room) (omega (arith, row-there turn .1))
 
 wide-requires-2 : tie.Need-wide-requires-2 Inv-loop μ-loop
 wide-requires-2 c κs = search needs
@@ -97,28 +100,23 @@ loop-less c =
     let turn = c .before .before .before .before .before in
     let here = turn .before in
     let start = here .before .before .before .before .before .before .before in
-    let args = start .args in
     rw (c .wide2 .ensures .0)
-    (chain-falls 16384 2048 (terms-of 8 (args .count) (args .rows .now)) (args .chains .now) (start .pre .1 .0) (args .term .now) (start .pre .1 .1) (here .loop .at) (here .loop .inv) (turn .loop-test .taken))
+    (chain-falls _ _ _ _ (start .pre .1 .0) _ (start .pre .1 .1) _ (here .loop .inv) (turn .loop-test .taken))
 
 loop-again : tie.Need-loop-again Inv-loop μ-loop
 loop-again c =
-    let compared = c .before .before .before in
-    let turn = compared .before .before in
+    let turn = c .before .before .before .before .before in
     let here = turn .before in
     let start = here .before .before .before .before .before .before .before in
-    let args = start .args in
     rw (c .wide2 .ensures .0)
-    (seeking-on 16384 2048 (terms-of 8 (args .count) (args .rows .now)) (args .chains .now) (start .pre .1 .0) (args .term .now) (start .pre .1 .1) (here .loop .at) (here .loop .inv) (turn .loop-test .taken)
-    (rw (terms-at 8 (args .count) (here .loop .at - 1) (args .rows .now) (below turn), ← compared .before .term-at .ensures) (sym (compared .same .ensures) ∙ c .before .before .if1 .left)))
+    (seeking-on _ _ _ _ (start .pre .1 .0) _ (start .pre .1 .1) _ (here .loop .inv) (turn .loop-test .taken)
+    (sym (compared (c .before .before .before)) ∙ c .before .before .if1 .left))
 
 returns-2 : tie.Need-returns-2 Inv-loop μ-loop
 returns-2 c =
     let here = c .before in
     let start = here .before .before .before .before .before .before .before in
-    let args = start .args in
-    sym
-    (seeking-ends 16384 2048 (terms-of 8 (args .count) (args .rows .now)) (args .chains .now) (start .pre .1 .0) (args .term .now) (start .pre .1 .1) (here .loop .at) (here .loop .inv) (omega arith))
+    sym (seeking-ends _ _ _ _ (start .pre .1 .0) _ (start .pre .1 .1) _ (here .loop .inv) (omega arith))
 
 pub is-kept-spec : {M : Type 1} → statement M
 is-kept-spec =

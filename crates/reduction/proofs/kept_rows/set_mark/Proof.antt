@@ -1,9 +1,8 @@
 -- The row's place stands at its mark, and what stood there stands at the place.
 use mathlib.Core.Path.{ap}
-use Prim.Native.Nat.{_+_}
 use native.Mathlib.Omega.{arith}
 use borrow.Author.Needs.{needs}
-use lib.ListN.{length, getD, length-set}
+use lib.ListN.{length-set}
 use Rattle.reduction.specs.code.Marks.{put-first}
 use Rattle.reduction.proofs.kept_rows.set_mark.Statement.{statement}
 use Rattle.reduction.proofs.kept_rows.set_mark.Tie as tie
