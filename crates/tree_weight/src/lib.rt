@@ -1,7 +1,7 @@
 // The tree weight: over every operator of the rows and every node, 1 where the parities of its indices under X, Y, Z aren't all equal.
 ghost use mathlib.Core.Path.{_≡_};
 ghost use mathlib.Core.Bool.{true};
-ghost use Prim.Native.Nat.{_*_, _≤_, _<_};
+ghost use Prim.Native.Nat.{_*_, _≤_};
 ghost use lib.Dec.{ltb};
 ghost use lib.ListN.{length};
 ghost use Rattle.lists.specs.Members.{every};
@@ -9,7 +9,7 @@ ghost use Rattle.refusal.specs.Numbers.{Tells};
 ghost use Rattle.entities.specs.Limits.{«most-modes», «row-width»};
 ghost use Rattle.terms.specs.Rows.{«terms-of»};
 ghost use Rattle.tree_weight.specs.code.Promises.{Places, GoodRows, RowsBelow};
-ghost use Rattle.tree_weight.specs.Weight.{«edge-under», «node-letter», «row-weight», «listed-weight», «tree-weight», «tree-weighed», «weight-numbers»};
+ghost use Rattle.tree_weight.specs.Weight.{«node-letter», «row-weight», «listed-weight», «tree-weight», «tree-weighed», «weight-numbers»};
 use refusal::Refusal;
 use terms::checking;
 use terms::checking::Checked;
@@ -19,46 +19,13 @@ use terms::row;
 use tree::TreeChecked;
 use tree::table;
 
+pub mod climbing;
 mod operators;
 
 // What the tree weight says: the weight, or why it is refused.
 pub enum TreeWeighed {
     Weight(u64),
     Unweighed(Refusal),
-}
-
-// The place of each code below the table's length, so that the way up takes no search.
-fn fill_places(tree: &[u16], places: &mut [usize])
-    requires { ⌜ length (now tree) ≤ length (now places) ⌝ }
-    ensures { λ r. ⌜ Places (now (tree .entry)) (now (places .exit)) ⌝ }
-{
-    let mut code = 0;
-    while code < tree.len() {
-        places[code] = table::place_of(tree, code);
-        code += 1;
-    }
-}
-
-// The edge of a node under which the code stands, found by climbing; 3 where it stands under none.
-fn edge_under(tree: &[u16], places: &[usize], steps: usize, node: usize, code: usize) -> usize
-    requires { ⌜ Places (now tree) (now places) ⌝ }
-    requires { ⌜ code < length (now tree) ⌝ }
-    ensures { λ r. ⌜ r ≡ edge-under (now (tree .entry)) steps node code ⌝ }
-{
-    let mut at = code;
-    let mut left = steps;
-    while 0 < left {
-        let place = places[at];
-        if tree.len() <= place {
-            return 3;
-        }
-        at = place / 3;
-        if at == node {
-            return place % 3;
-        }
-        left -= 1;
-    }
-    3
 }
 
 // The letter of the term at the node: that of how many of its indices stand under X, Y and Z.
@@ -73,7 +40,7 @@ fn node_letter(modes: usize, tree: &[u16], places: &[usize], term: &[u16], node:
     let mut zs: usize = 0;
     let mut at = 0;
     while at < term.len() {
-        let edge = edge_under(
+        let edge = climbing::edge_under(
             tree,
             places,
             modes + 1,
@@ -127,7 +94,7 @@ fn accepted_weight(modes: usize, tree: &[u16], terms: &[u16], count: usize) -> u
     ensures { λ r. ⌜ r ≡ tree-weight modes (now (tree .entry)) (terms-of row-width count (now (terms .entry))) ⌝ }
 {
     let mut places = [0usize; 768];
-    fill_places(tree, &mut places);
+    climbing::fill_places(tree, &mut places);
     let own = operators::operators(terms, count);
     rows_weight(modes, tree, &places, &own, count)
 }

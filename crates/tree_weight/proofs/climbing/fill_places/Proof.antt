@@ -6,8 +6,8 @@ use borrow.Author.Needs.{needs}
 use lib.ListN.{length, getD, length-set}
 use Rattle.lists.proofs.Writes.{agrees-next}
 use Rattle.tree.specs.Table.{place-of}
-use Rattle.tree_weight.proofs.fill_places.Statement.{statement}
-use Rattle.tree_weight.proofs.fill_places.Tie as tie
+use Rattle.tree_weight.proofs.climbing.fill_places.Statement.{statement}
+use Rattle.tree_weight.proofs.climbing.fill_places.Tie as tie
 
 abbrev Inv-loop : tie.InvT-loop
 Inv-loop tree places₀ code₀ places code =

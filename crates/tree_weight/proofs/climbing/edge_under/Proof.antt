@@ -6,8 +6,8 @@ use borrow.Author.Needs.{needs}
 use lib.ListN.{length}
 use Rattle.tree_weight.specs.Weight.{edge-under}
 use Rattle.tree_weight.proofs.TreeWeighing.{edge-none, edge-here, edge-above}
-use Rattle.tree_weight.proofs.edge_under.Statement.{statement}
-use Rattle.tree_weight.proofs.edge_under.Tie as tie
+use Rattle.tree_weight.proofs.climbing.edge_under.Statement.{statement}
+use Rattle.tree_weight.proofs.climbing.edge_under.Tie as tie
 
 abbrev Inv-loop : tie.InvT-loop
 Inv-loop tree places steps node code at₀ left₀ at left = (at < length tree) × (edge-under tree steps node code ≡ edge-under tree left node at)
