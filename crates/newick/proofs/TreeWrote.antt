@@ -1,29 +1,16 @@
--- What the call that writes a tree answers, and its text as it is written: the tree under the root, and `;` behind it.
+-- The text of a tree as it is written: the tree under the root, and `;` behind it.
 use mathlib.Core.Path.{_≡_, ap}
 use mathlib.Core.List.{List, [], _∷_, _++_}
 use Prim.Native.Nat.{ℕ, _+_, _<_, _≤_}
 use native.Mathlib.Numerals.{add-one}
 use native.Mathlib.Omega.{arith}
-use borrow.Author.Tests.{le-leb, lt-leb}
 use lib.ListN.{length, set, length-append}
 use Rattle.lists.specs.Written.{written-at}
 use Rattle.lists.proofs.Behind.{written-one}
-use Rattle.refusal.specs.declared.Refusal.the-variants.{Room}
-use Rattle.tree.specs.declared.TreeChecked.the-variants.{Accepted}
 use Rattle.tree.specs.Table.{climb}
 use Rattle.tree.specs.OneTree.{root-of}
-use Rattle.newick.specs.declared.writing.NewickWritten.the-variants.{Written, Unwritten}
 use Rattle.newick.specs.Grammar.{spelled}
 use Rattle.newick.specs.Writing.{shape-under, newick-text}
-use Rattle.newick.specs.Calls.{written-as}
-
-pub short-answer : (text : List ℕ) (room : ℕ) → room < length text → Unwritten Room ≡ written-as Accepted text room
-unfolding written-as
-short-answer text room h = rw (lt-leb (length text) room h)
-
-pub whole-answer : (text : List ℕ) (room count : ℕ) → count ≡ length text → length text ≤ room → Written count ≡ written-as Accepted text room
-unfolding written-as
-whole-answer text room count e h = rw (e, le-leb (length text) room h)
 
 module _ (modes : ℕ) (table : List ℕ) (root : ℕ) (e : root ≡ climb table modes 0) where
   abbrev tree-text : List ℕ

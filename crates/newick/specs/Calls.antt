@@ -11,38 +11,24 @@ use Rattle.refusal.specs.declared.Refusal.the-variants.{Room, NotOneTree, Newic
 use Rattle.refusal.specs.Numbers.{refused-numbers, done-numbers}
 use Rattle.tree.specs.declared.TreeChecked.{TreeChecked}
 use Rattle.tree.specs.declared.TreeChecked.the-variants.{Accepted, Refused}
+use Rattle.tree.specs.declared.TreeWritten.{TreeWritten}
 use Rattle.tree.specs.Check.{tree-checked}
+use Rattle.tree.specs.Writing.{tree-written}
 use Rattle.tree.specs.Laying.{laid, modes-in}
-use Rattle.newick.specs.declared.writing.NewickWritten.{NewickWritten}
-use Rattle.newick.specs.declared.writing.NewickWritten.the-variants.{Written, Unwritten}
 use Rattle.newick.specs.declared.reading.NewickRead.{NewickRead}
 use Rattle.newick.specs.declared.reading.NewickRead.the-variants.{Read, Unread}
 use Rattle.newick.specs.Writing.{newick-text}
 use Rattle.newick.specs.Reading.{Reading, got, stuck, crowded, text-read}
 use Rattle.newick.specs.Names.{in-range, code-of}
 
--- The numbers of an answer: refusal, place, and the bytes written or the modes read.
-unfoldable pub written-numbers : NewickWritten → List ℕ
-written-numbers (Written count) = done-numbers (count ∷ [])
-written-numbers (Unwritten refusal) = refused-numbers 1 refusal
+-- The call `write_newick` into so much room.
+unfoldable pub newick-written : ℕ → ℕ → List ℕ → ℕ → TreeWritten
+newick-written most modes table room = tree-written most modes table (newick-text modes table) room
 
+-- The numbers of an answer to reading: refusal, place and the modes read.
 unfoldable pub read-numbers : NewickRead → List ℕ
 read-numbers (Read modes) = done-numbers (modes ∷ [])
 read-numbers (Unread refusal) = refused-numbers 1 refusal
-
--- Writing: the check's refusal, then 5.
-unfoldable pub written-as : TreeChecked → List ℕ → ℕ → NewickWritten
-written-as Accepted text room = cond (leb (length text) room) (Written (length text)) (Unwritten Room)
-written-as (Refused refusal) text room = Unwritten refusal
-
--- The call `write_newick` into so much room.
-unfoldable pub newick-written : ℕ → ℕ → List ℕ → ℕ → NewickWritten
-newick-written most modes table room = written-as (tree-checked most modes table) (newick-text modes table) room
-
--- The lent text after it.
-unfoldable pub text-after : NewickWritten → List ℕ → List ℕ → List ℕ
-text-after (Written count) text before = written-at 0 text before
-text-after (Unwritten refusal) text before = before
 
 -- The table that rows of names make.
 unfoldable pub table-in : List ℕ → List ℕ

@@ -9,21 +9,17 @@ ghost use Rattle.entities.specs.Limits.{«most-modes»};
 ghost use Rattle.fields.specs.Decimal.{decimal};
 ghost use Rattle.tree.specs.declared.TreeChecked.«the-variants».{Accepted};
 ghost use Rattle.tree.specs.Check.{«tree-checked»};
+ghost use Rattle.tree.specs.Writing.{«written-numbers», «written-as», «text-after»};
 ghost use Rattle.newick.specs.Grammar.{spelled};
 ghost use Rattle.newick.specs.Writing.{«end-shape», «shape-under», «newick-text»};
-ghost use Rattle.newick.specs.Calls.{«written-numbers», «newick-written», «written-as», «text-after»};
+ghost use Rattle.newick.specs.Calls.{«newick-written»};
 use crate::length;
 use entities::codes;
 use fields::decimal;
 use refusal::Refusal;
 use tree::TreeChecked;
+use tree::TreeWritten;
 use tree::table;
-
-// What writing says: how many bytes were written, or why none.
-pub enum NewickWritten {
-    Written(usize),
-    Unwritten(Refusal),
-}
 
 // A letter and a number written at this place; the place after them.
 fn put_name(text: &mut [u8], at: usize, letter: u8, number: usize) -> usize
@@ -103,28 +99,28 @@ fn put_node(
 }
 
 // An accepted tree's text written over the front where it fits.
-fn put_tree(text: &mut [u8], modes: usize, tree: &[u16]) -> NewickWritten
+fn put_tree(text: &mut [u8], modes: usize, tree: &[u16]) -> TreeWritten
     requires { ⌜ tree-checked most-modes modes (now tree) ≡ Accepted ⌝ }
     ensures { λ r. ⌜ r ≡ written-as Accepted (newick-text modes (now (tree .entry))) (length (now (text .entry))) ⌝ }
     ensures { λ r. ⌜ now (text .exit) ≡ text-after r (newick-text modes (now (tree .entry))) (now (text .entry)) ⌝ }
 {
     let length = length::text_length(modes);
     if text.len() < length {
-        return NewickWritten::Unwritten(Refusal::Room);
+        return TreeWritten::Unwritten(Refusal::Room);
     }
     let root = table::climb(tree, modes, 0);
     let end = put_child(text, 0, modes, tree, modes + 1, root);
     text[end] = b';';
-    NewickWritten::Written(length)
+    TreeWritten::Written(length)
 }
 
 // The tree as Newick text, or why it is refused.
-pub fn write_newick(modes: usize, tree: &[u16], text: &mut [u8]) -> NewickWritten
+pub fn write_newick(modes: usize, tree: &[u16], text: &mut [u8]) -> TreeWritten
     ensures { λ r. ⌜ Tells written-numbers (newick-written most-modes modes (now (tree .entry)) (length (now (text .entry)))) r ⌝ }
     ensures { λ r. ⌜ now (text .exit) ≡ text-after r (newick-text modes (now (tree .entry))) (now (text .entry)) ⌝ }
 {
     match tree::check_tree(modes, tree) {
-        TreeChecked::Refused(refusal) => NewickWritten::Unwritten(refusal),
+        TreeChecked::Refused(refusal) => TreeWritten::Unwritten(refusal),
         TreeChecked::Accepted => put_tree(text, modes, tree),
     }
 }

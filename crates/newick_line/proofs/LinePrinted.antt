@@ -1,25 +1,21 @@
 -- A tree's text written with a byte's room behind it, and the line that it is printed as.
-use mathlib.Core.Path.{_≡_, refl, ap, _∙_}
-use mathlib.Core.Bool.{Bool, true, false, cond}
+use mathlib.Core.Path.{_≡_, ap, _∙_}
 use mathlib.Core.List.{List, [], _++_}
 use Prim.Native.Nat.{ℕ, _+_, _*_, _/_, _<_, _≤_}
 use native.Mathlib.Omega.{arith}
-use borrow.Author.Tests.{leb-true}
-use lib.Dec.{leb}
 use lib.ListN.{length, take, drop, set, replicate, length-append, take-append-drop}
 use Rattle.lists.proofs.Behind.{written-one}
 use Rattle.refusal.specs.declared.Refusal.{Refusal}
-use Rattle.refusal.specs.declared.Refusal.the-variants.{Room}
 use Rattle.entities.specs.Codes.{absent}
 use Rattle.fields.specs.Texts.{spelt}
-use Rattle.tree.specs.declared.TreeChecked.{TreeChecked}
-use Rattle.tree.specs.declared.TreeChecked.the-variants.{Accepted, Refused as Unaccepted}
+use Rattle.tree.specs.declared.TreeWritten.{TreeWritten}
+use Rattle.tree.specs.declared.TreeWritten.the-variants.{Written, Unwritten}
 use Rattle.tree.specs.Check.{tree-checked}
+use Rattle.tree.specs.Writing.{tree-written, text-after}
 use Rattle.tree.specs.Laying.{laid, laid-over, modes-in}
-use Rattle.newick.specs.declared.writing.NewickWritten.{NewickWritten}
-use Rattle.newick.specs.declared.writing.NewickWritten.the-variants.{Written, Unwritten}
+use Rattle.tree.proofs.WritingAnswered.{Fits, written-fits}
 use Rattle.newick.specs.Writing.{newick-text}
-use Rattle.newick.specs.Calls.{written-as, newick-written, text-after}
+use Rattle.newick.specs.Calls.{newick-written}
 use Rattle.journal.specs.Resuming.{Outcome}
 use Rattle.text.specs.declared.running.Run.{Run}
 use Rattle.text.specs.code.Runs.{Lent, RanDone}
@@ -31,34 +27,20 @@ use Rattle.text.proofs.PrintedLines.{front-over}
 use Rattle.text.proofs.RunEnds.{rows-stand}
 use Rattle.text.proofs.LongInput.{cut-runs}
 
--- What was written has the text's length and fits.
-pub record Fits (text : List ℕ) (room count : ℕ) : Type 0 where
-  pub exact : count ≡ length text
-  pub within : length text ≤ room
-
-written-fits : (checked : TreeChecked) (text : List ℕ) (room count : ℕ) → Written count ≡ written-as checked text room → Fits text room count
-unfolding written-as
-written-fits Accepted text room count e = go (leb (length text) room) refl e
-  where
-    go : (b : Bool) → leb (length text) room ≡ b → Written count ≡ cond b (Written (length text)) (Unwritten Room) → Fits text room count
-    go true f e = record { exact = cc; within = leb-true (length text) room f }
-    go false f e = let z : _≡_ {A = ℕ} 0 1 = cc in absurd (omega arith)
-written-fits (Unaccepted refusal) text room count e = let z : _≡_ {A = ℕ} 0 1 = cc in absurd (omega arith)
-
 module _ (most modes : ℕ) (table : List ℕ) (room : ℕ) where
   abbrev text : List ℕ
   text = newick-text modes table
 
-  abbrev means : NewickWritten
+  abbrev means : TreeWritten
   means = newick-written most modes table room
 
   pub line-fits : (count : ℕ) → Written count ≡ means → Fits text room count
-  unfolding newick-written
+  unfolding newick-written tree-written
   line-fits count e = written-fits (tree-checked most modes table) text room count e
 
   module _ (out : List ℕ) where
     -- Written over the front of what is lent, the text is written over all of it.
-    pub after-front : room ≤ length out → (r : NewickWritten) → r ≡ means → text-after r text (take room out) ++ drop room out ≡ text-after r text out
+    pub after-front : room ≤ length out → (r : TreeWritten) → r ≡ means → text-after r text (take room out) ++ drop room out ≡ text-after r text out
     unfolding text-after
     after-front k (Written count) e = front-over text out room (line-fits count e .within) k
     after-front k (Unwritten refusal) e = take-append-drop room out

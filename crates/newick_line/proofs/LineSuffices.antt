@@ -19,17 +19,18 @@ use Rattle.fields.proofs.Digits.{few-digits}
 use Rattle.terms.specs.Good.{modes-good}
 use Rattle.tree.specs.declared.TreeChecked.{TreeChecked}
 use Rattle.tree.specs.declared.TreeChecked.the-variants.{Accepted, Refused}
+use Rattle.tree.specs.declared.TreeWritten.{TreeWritten}
+use Rattle.tree.specs.declared.TreeWritten.the-variants.{Written, Unwritten}
 use Rattle.tree.specs.Table.{nodes}
 use Rattle.tree.specs.OneTree.{root-of, one-tree}
 use Rattle.tree.specs.Pairs.{pairs-right}
 use Rattle.tree.specs.Check.{codes-good, tree-checked}
+use Rattle.tree.specs.Writing.{written-as, tree-written}
 use Rattle.tree.specs.Laying.{laid, modes-in}
 use Rattle.tree.proofs.AcceptedParts.{accepted-parts}
-use Rattle.newick.specs.declared.writing.NewickWritten.{NewickWritten}
-use Rattle.newick.specs.declared.writing.NewickWritten.the-variants.{Written, Unwritten}
 use Rattle.newick.specs.Grammar.{Shape, leaf, none, node, spelled}
 use Rattle.newick.specs.Writing.{newick-text, mode-length, text-length, shape-under}
-use Rattle.newick.specs.Calls.{written-as, newick-written}
+use Rattle.newick.specs.Calls.{newick-written}
 use Rattle.newick.proofs.TextLength.{accepted-length}
 use Rattle.journal.specs.Resuming.{Outcome, done, refuses}
 use Rattle.text.specs.Running.{program-rooms, ran}
@@ -56,7 +57,7 @@ text-short modes few =
     omega (arith, sum-listed mode-length modes, total-most mode-length 16 modes (λ k h. mode-short k (omega arith)))
 
 -- The number with which writing ends, none where it isn't refused.
-unfoldable number-written : NewickWritten → ℕ
+unfoldable number-written : TreeWritten → ℕ
 number-written (Written count) = 0
 number-written (Unwritten refusal) = numberOf refusal
 
@@ -85,7 +86,7 @@ module _ (modes : ℕ) (table : List ℕ) where
 
   -- The text of an accepted tree does.
   writing-never : number-written (newick-written most-modes modes table line-room) ≡ 5 → ⊥
-  unfolding newick-written number-written written-as
+  unfolding newick-written tree-written number-written written-as
   writing-never h = go (tree-checked most-modes modes table) refl
     where
       go : (found : TreeChecked) → tree-checked most-modes modes table ≡ found → ⊥
@@ -104,7 +105,7 @@ first-byte none rest more e = omega arith
 first-byte (node x y z label) rest more e = omega arith
 
 -- Where the text of 5 is printed, writing ended with it.
-five-written : (modes : ℕ) (table : List ℕ) (written : NewickWritten) → line-as written (newick-text modes table) ≡ refusal-text Room
+five-written : (modes : ℕ) (table : List ℕ) (written : TreeWritten) → line-as written (newick-text modes table) ≡ refusal-text Room
     → number-written written ≡ 5
 unfolding number-written line-as newick-text refusal-text line-of tabbed
 five-written modes table (Written count) e =

@@ -4,9 +4,9 @@ use mathlib.Core.List.{List, [], _++_}
 use Prim.Native.Nat.{ℕ, _-_}
 use Rattle.refusal.specs.declared.Refusal.the-variants.{Room}
 use Rattle.fields.specs.Texts.{spelt}
+use Rattle.tree.specs.declared.TreeWritten.{TreeWritten}
+use Rattle.tree.specs.declared.TreeWritten.the-variants.{Written, Unwritten}
 use Rattle.tree.specs.Laying.{laid, modes-in}
-use Rattle.newick.specs.declared.writing.NewickWritten.{NewickWritten}
-use Rattle.newick.specs.declared.writing.NewickWritten.the-variants.{Written, Unwritten}
 use Rattle.newick.specs.Writing.{newick-text}
 use Rattle.newick.specs.Calls.{newick-written}
 use Rattle.journal.specs.Resuming.{Outcome, done, refuses}
@@ -14,7 +14,7 @@ use Rattle.text.specs.Running.{Rooms, program-rooms, printed-room, ran}
 use Rattle.text.specs.Output.{refusal-text}
 
 -- What writing came to: the text and LF behind it, or its refusal.
-unfoldable pub line-as : NewickWritten → List ℕ → List ℕ
+unfoldable pub line-as : TreeWritten → List ℕ → List ℕ
 line-as (Written count) text = text ++ spelt "\n"
 line-as (Unwritten refusal) text = refusal-text refusal
 

@@ -4,22 +4,23 @@ ghost use Prim.Native.Nat.{_+_, _*_, _≤_};
 ghost use lib.ListN.{length};
 ghost use Rattle.entities.specs.Limits.{«most-modes»};
 ghost use Rattle.tree.specs.Laying.{laid};
+ghost use Rattle.tree.specs.Writing.{«text-after»};
 ghost use Rattle.newick.specs.Writing.{«newick-text»};
-ghost use Rattle.newick.specs.Calls.{«newick-written», «text-after»};
+ghost use Rattle.newick.specs.Calls.{«newick-written»};
 ghost use Rattle.text.specs.Running.{«program-rooms», «printed-room»};
 ghost use Rattle.text.specs.Output.{Prints};
 ghost use Rattle.newick_line.specs.NewickLine.{«table-line», «line-room», «newick-answer-text»};
 ghost use Rattle.text.specs.code.Printing.{Puts};
 use newick::writing;
-use newick::writing::NewickWritten;
 use text::Printed;
 use text::output;
 use text::running;
 use text::running::Ran;
+use tree::TreeWritten;
 use tree::laying;
 
 // A tree's text written over the front, with room for a byte behind it.
-fn write_text(out: &mut [u8], modes: usize, tree: &[u16]) -> NewickWritten
+fn write_text(out: &mut [u8], modes: usize, tree: &[u16]) -> TreeWritten
     requires { ⌜ length (now out) ≡ printed-room ⌝ }
     ensures { λ r. ⌜ r ≡ newick-written most-modes modes (now (tree .entry)) line-room ⌝ }
     ensures { λ r. ⌜ now (out .exit) ≡ text-after r (newick-text modes (now (tree .entry))) (now (out .entry)) ⌝ }
@@ -33,8 +34,8 @@ fn put_line(out: &mut [u8], modes: usize, tree: &[u16]) -> usize
     ensures { λ r. ⌜ Puts (table-line most-modes line-room modes (now (tree .entry))) (now (out .entry)) (now (out .exit)) r ⌝ }
 {
     match write_text(out, modes, tree) {
-        NewickWritten::Unwritten(refusal) => output::put_refusal(out, refusal),
-        NewickWritten::Written(count) => {
+        TreeWritten::Unwritten(refusal) => output::put_refusal(out, refusal),
+        TreeWritten::Written(count) => {
             out[count] = b'\n';
             count + 1
         }

@@ -51,6 +51,7 @@ use Rattle.tree.specs.Check.{codes-good, tree-checked}
 use Rattle.tree_weight.specs.Operators.{surviving, operators}
 use Rattle.tree_weight.specs.Weight.{edge-under, edges, node-letter, node-weight, row-weight, tree-weight, weighed-terms, weighed-tree, tree-weighed, weight-numbers}
 use Rattle.tree.specs.Laying.{row-over, laid-over, laid, modes-in}
+use Rattle.tree.specs.Writing.{written-as, tree-written}
 use Rattle.slots.specs.Slots.{pair-of, parity-of, leaf-slot, slot-of, slot, unfixed, is-fixed, leaf-of, stands-as, slots}
 use Rattle.slots.specs.Nodes.{distance, complete, remaining, largest, farthest, narrowed, active}
 use Rattle.choice.specs.Choices.{unassigned, without, numbers, with-z, choices, choices-at}
@@ -62,7 +63,7 @@ use Rattle.topphatt.specs.Answer.{answer-table, done-by, with-room, with-terms 
 use Rattle.topphatt.specs.Promises.{numbers-of as topphatt-numbers, returned as topphatt-returned, lent-then as topphatt-left}
 use Rattle.newick.specs.Grammar.{spelled}
 use Rattle.newick.specs.Writing.{end-shape, shape-under, newick-text}
-use Rattle.newick.specs.Calls.{written-as, newick-written}
+use Rattle.newick.specs.Calls.{newick-written}
 use Rattle.terms_text.specs.Input.{modes-line, term-line, well-formed, formed-from, formed, term-row, whole, said}
 use Rattle.terms_text.specs.Jobs.{counted, job-with, job-by, job-said}
 use Rattle.text.specs.Running.{ran-by, ran}
@@ -112,5 +113,5 @@ use Rattle.p_cases.specs.Cases.{
 }
 
 pub cases-hold : CasesHold
-unfolding cases holds meant resuming told weighing assigning flatMap every keep leading some-of alike firsts firsts-after sum same occurrences listed ascends ascends-from least lighter written-at rows-of term terms-of modes-good good-indices good-row good-rows checked weight-of term-weight term-letter counted-letter letter-of reduction rewriting sorted put-in replacement dropped next-parent among is-open z-end holder rows-after is-lawful three-open paired named entities pairs-with lawful-pairs weight-in candidates least-of chosen greedy finished run-weight trials merge-of child-code absent-leaf children walk rows-for flatpack is-digit value-after value leads-well is-number digits decimal fields-after fields header-good header-of merge-good merge-of-line tabbed header-text merge-text lines-after lines kept-of obeyed-next obeyed-lines obeyed-header obeyed-texts obeyed line-of greedy-lines new-text ending with-journal roomy with-terms resumed returned nodes child place-of parent-of climb root-of leaves-once absent-once nodes-once all-reached one-tree chain-end pair-under pair-right pairs-right codes-good tree-checked edge-under edges node-letter node-weight row-weight surviving operators tree-weight weighed-terms tree-weighed pair-of parity-of leaf-slot slot-of slot slots unfixed leaf-of distance complete remaining largest farthest narrowed active unassigned without numbers with-z choices choices-at topphatt-candidates topphatt-chosen before fixed fixed-by after next rounds ended answer-table with-room topphatt-with-terms with-tree outcome topphatt-returned trial-total row-over laid-over laid modes-in spelled end-shape shape-under newick-text written-as newick-written modes-line term-line well-formed formed-from formed term-row whole said resume-text ran-by ran text-line code-text node-line node-lines done-text run-printed answer-text line-as table-line newick-printed newick-answer-text word-at words two-bytes eight-bytes resume-called hatt-called result-of answer-bytes printed calling judged-merge judged-form judged-line obeyed-as header-behind numbers-of lent-then renewed-after renewed stays settled reduced-row refused-numbers done-numbers done-by topphatt-numbers topphatt-left bytes-left best-after best-of weighed-tree weight-numbers stands-as is-fixed larger better bytes-roomy with-bytes merge-by-hand obeyed-by-hand lines-of journal-text steered-as counted job-with job-by job-said steered-by steered steer-printed steer-text first-closed reason-of reason-said reason-in reason-by reason-text is-there letter-sign letter-line letter-lines step-lines asked lettered-at lettered-after lettered-by lettered letters-printed letters-text is-code code-said says-node node-row nodes-formed tree-whole tree-said weighed-with weighed-as weight-line weigh-printed weigh-text heuristic-of assigned-with row-in assigned-rows assign-printed assign-as assign-text
+unfolding cases holds meant resuming told weighing assigning flatMap every keep leading some-of alike firsts firsts-after sum same occurrences listed ascends ascends-from least lighter written-at rows-of term terms-of modes-good good-indices good-row good-rows checked weight-of term-weight term-letter counted-letter letter-of reduction rewriting sorted put-in replacement dropped next-parent among is-open z-end holder rows-after is-lawful three-open paired named entities pairs-with lawful-pairs weight-in candidates least-of chosen greedy finished run-weight trials merge-of child-code absent-leaf children walk rows-for flatpack is-digit value-after value leads-well is-number digits decimal fields-after fields header-good header-of merge-good merge-of-line tabbed header-text merge-text lines-after lines kept-of obeyed-next obeyed-lines obeyed-header obeyed-texts obeyed line-of greedy-lines new-text ending with-journal roomy with-terms resumed returned nodes child place-of parent-of climb root-of leaves-once absent-once nodes-once all-reached one-tree chain-end pair-under pair-right pairs-right codes-good tree-checked edge-under edges node-letter node-weight row-weight surviving operators tree-weight weighed-terms tree-weighed pair-of parity-of leaf-slot slot-of slot slots unfixed leaf-of distance complete remaining largest farthest narrowed active unassigned without numbers with-z choices choices-at topphatt-candidates topphatt-chosen before fixed fixed-by after next rounds ended answer-table with-room topphatt-with-terms with-tree outcome topphatt-returned trial-total row-over laid-over laid modes-in spelled end-shape shape-under newick-text written-as tree-written newick-written modes-line term-line well-formed formed-from formed term-row whole said resume-text ran-by ran text-line code-text node-line node-lines done-text run-printed answer-text line-as table-line newick-printed newick-answer-text word-at words two-bytes eight-bytes resume-called hatt-called result-of answer-bytes printed calling judged-merge judged-form judged-line obeyed-as header-behind numbers-of lent-then renewed-after renewed stays settled reduced-row refused-numbers done-numbers done-by topphatt-numbers topphatt-left bytes-left best-after best-of weighed-tree weight-numbers stands-as is-fixed larger better bytes-roomy with-bytes merge-by-hand obeyed-by-hand lines-of journal-text steered-as counted job-with job-by job-said steered-by steered steer-printed steer-text first-closed reason-of reason-said reason-in reason-by reason-text is-there letter-sign letter-line letter-lines step-lines asked lettered-at lettered-after lettered-by lettered letters-printed letters-text is-code code-said says-node node-row nodes-formed tree-whole tree-said weighed-with weighed-as weight-line weigh-printed weigh-text heuristic-of assigned-with row-in assigned-rows assign-printed assign-as assign-text
 cases-hold = refl

@@ -9,12 +9,12 @@ use journal::resuming::Numbers;
 use newick::reading;
 use newick::reading::NewickRead;
 use newick::writing;
-use newick::writing::NewickWritten;
 use terms::checking;
 use terms::checking::Checked;
 use terms::weight;
 use topphatt::Assigned;
 use tree::TreeChecked;
+use tree::TreeWritten;
 use tree_weight::TreeWeighed;
 
 // The triple weighed in the rows, and the rows reduced to its parent where they stand; the refusal of the rows as terms follows, and the weight.
@@ -138,8 +138,8 @@ pub extern "C" fn test_write_newick(
     answer: &mut [u64],
 ) {
     match writing::write_newick(modes, tree, text) {
-        NewickWritten::Written(count) => put(answer, 0, 0, count as u64),
-        NewickWritten::Unwritten(refusal) => {
+        TreeWritten::Written(count) => put(answer, 0, 0, count as u64),
+        TreeWritten::Unwritten(refusal) => {
             put(
                 answer,
                 refusal::number(refusal) as u64,

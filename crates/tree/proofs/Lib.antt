@@ -1,4 +1,4 @@
--- The laws of the tree table, of rows laid out as one, and of its check.
+-- The laws of the tree table, of rows laid out as one, of its check, and of writing a tree.
 pub mod TableSteps
 pub mod LayingRows
 pub mod LaidTable
@@ -11,3 +11,4 @@ pub mod EachStands
 pub mod AcceptedTree
 pub mod AbsentEnds
 pub mod EachHosts
+pub mod WritingAnswered

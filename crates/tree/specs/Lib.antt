@@ -1,7 +1,8 @@
--- What document 01 says of tree tables: rows laid out as one, and which are accepted.
+-- What document 01 says of tree tables: rows laid out as one, which are accepted, and what writing one comes to.
 pub mod Table
 pub mod Laying
 pub mod OneTree
 pub mod Pairs
 pub mod Check
 pub mod Accepted
+pub mod Writing

@@ -1,4 +1,4 @@
-// The tree table: rows laid out as one, and its check, refusals 1 and 13 to 16 of document 01.
+// The tree table: rows laid out as one, and its check, refusals 1 and 13 to 16 of document 01; and what writing a tree says.
 ghost use Rattle.refusal.specs.Numbers.{Tells};
 ghost use Rattle.entities.specs.Limits.{«most-modes»};
 ghost use Rattle.tree.specs.Check.{«check-numbers», «tree-checked»};
@@ -13,6 +13,12 @@ pub mod table;
 pub enum TreeChecked {
     Accepted,
     Refused(Refusal),
+}
+
+// What writing an accepted tree as a text says: how many bytes were written, or why none.
+pub enum TreeWritten {
+    Written(usize),
+    Unwritten(Refusal),
 }
 
 // The table is 3n good codes that make one tree with its pairs right; or the first of these that fails.

@@ -4,11 +4,12 @@ use Prim.Native.Nat.{_≤_}
 use native.Mathlib.Omega.{arith}
 use borrow.Author.Needs.{needs}
 use lib.ListN.{length}
+use Rattle.tree.specs.Writing.{text-after}
 use Rattle.tree.proofs.AcceptedParts.{AcceptedParts, accepted-parts}
+use Rattle.tree.proofs.WritingAnswered.{short-answer, whole-answer}
 use Rattle.newick.specs.Writing.{newick-text, text-length}
-use Rattle.newick.specs.Calls.{text-after}
 use Rattle.newick.proofs.TextLength.{accepted-length}
-use Rattle.newick.proofs.TreeWrote.{short-answer, whole-answer, tree-room, tree-wrote}
+use Rattle.newick.proofs.TreeWrote.{tree-room, tree-wrote}
 use Rattle.newick.proofs.writing.put_tree.Statement.{statement}
 use Rattle.newick.proofs.writing.put_tree.Tie as tie
 

@@ -4,7 +4,8 @@ use borrow.Author.Needs.{needs}
 use Rattle.refusal.proofs.Told.{tells}
 use Rattle.tree.specs.declared.TreeChecked.the-variants.{Accepted}
 use Rattle.tree.specs.Check.{tree-checked}
-use Rattle.newick.specs.Calls.{newick-written, written-as, text-after}
+use Rattle.tree.specs.Writing.{written-as, tree-written, text-after}
+use Rattle.newick.specs.Calls.{newick-written}
 use Rattle.newick.proofs.writing.write_newick.Statement.{statement}
 use Rattle.newick.proofs.writing.write_newick.Tie as tie
 
@@ -24,14 +25,14 @@ put-tree-requires c κs =
     told
 
 returns : tie.Need-returns
-unfolding newick-written written-as text-after
+unfolding newick-written tree-written written-as text-after
 returns c = (tells (rw (sym (c .before .before .before .check-tree .ensures .answer) ∙ c .before .refusal .given .1)), refl)
 
 same-length : tie.Need-same-length
 same-length c = search needs
 
 returns-2 : tie.Need-returns-2
-unfolding newick-written
+unfolding newick-written tree-written
 returns-2 c =
     let start = c .before .before .before .before .before .before .before .before .before in
     let told : tree-checked 256 (start .args .modes) (start .args .tree .now) ≡ Accepted = cc in
