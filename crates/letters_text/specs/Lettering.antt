@@ -2,6 +2,7 @@
 use mathlib.Core.Path.{_≡_}
 use mathlib.Core.Bool.{Bool, cond, not, _&&_}
 use mathlib.Core.List.{List, [], _∷_, _++_, flatMap}
+use Prim.Native.Char.{code}
 use Prim.Native.Nat.{ℕ, suc, _-_}
 use lib.Dec.{eqb, ltb}
 use lib.ListN.{length, getD}
@@ -14,7 +15,7 @@ use Rattle.fields.specs.Decimal.{is-number, value, decimal}
 use Rattle.fields.specs.Lines.{lines}
 use Rattle.terms.specs.Job.{Job}
 use Rattle.terms.specs.declared.letters.Letter.{Letter}
-use Rattle.terms.specs.Letters.{letter-number}
+use Rattle.terms.specs.Letters.{letter-byte}
 use Rattle.terms.specs.Weight.{term-letter}
 use Rattle.reduction.specs.Reduction.{is-there}
 use Rattle.history.specs.History.{merge-of, history-before, rows-after}
@@ -29,7 +30,7 @@ use Rattle.letters_text.specs.declared.steps.Asked.the-variants.{Step, N
 
 -- A letter's byte, none's being `-`.
 unfoldable pub letter-sign : Letter → ℕ
-letter-sign letter = getD (spelt "-XYZ") (letter-number letter) 0
+letter-sign letter = letter-byte (code "-") letter
 
 -- The line of a row: its place and its letter.
 unfoldable pub letter-line : ℕ → Letter → List ℕ

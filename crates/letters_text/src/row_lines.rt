@@ -9,7 +9,7 @@ ghost use Rattle.terms.specs.Rows.{«terms-of»};
 ghost use Rattle.terms.specs.code.Held.{Held};
 ghost use Rattle.text.specs.Running.{«printed-room»};
 ghost use Rattle.text.specs.code.Printing.{Puts};
-ghost use Rattle.letters_text.specs.Lettering.{«letter-sign», «letter-line», «letter-lines»};
+ghost use Rattle.letters_text.specs.Lettering.{«letter-line», «letter-lines»};
 use entities::Triple;
 use fields::decimal;
 use fields::parts;
@@ -18,15 +18,6 @@ use terms::letters::Letter;
 use terms::row;
 use terms::weight;
 
-// The letter's byte.
-fn sign(letter: Letter) -> u8
-    ensures { λ r. ⌜ r ≡ letter-sign letter ⌝ }
-{
-    let signs = [b'-', b'X', b'Y', b'Z'];
-    let at = letters::number(letter);
-    signs[at]
-}
-
 // A row's line written at this place; the place after it.
 fn put_letter(out: &mut [u8], at: usize, place: usize, letter: Letter) -> usize
     requires { ⌜ (at + 8 ≤ length (now out)) × (place < most-terms) ⌝ }
@@ -34,7 +25,7 @@ fn put_letter(out: &mut [u8], at: usize, place: usize, letter: Letter) -> usize
     ensures { λ r. ⌜ now (out .exit) ≡ written-at at (letter-line place letter) (now (out .entry)) ⌝ }
 {
     let end = decimal::put_field(out, at, place as u64, 9);
-    parts::put_bytes(out, end, &[sign(letter), 10])
+    parts::put_bytes(out, end, &[letters::byte(letter, b'-'), 10])
 }
 
 // The line of a row that is there, written at this place, and nothing of one that is gone; the place after it.

@@ -1,6 +1,7 @@
 -- "a single odd child gives its own letter, two odd children give the third letter, none or three give none."
 use mathlib.Core.Path.{_≡_}
 use mathlib.Core.Bool.{Bool, true, false}
+use Prim.Native.Char.{code}
 use Prim.Native.Nat.{ℕ, _%_}
 use lib.Dec.{eqb}
 use Rattle.terms.specs.declared.letters.Letter.{Letter}
@@ -25,12 +26,12 @@ odd number = eqb (number % 2) 1
 unfoldable pub counted-letter : ℕ → ℕ → ℕ → Letter
 counted-letter xs ys zs = letter-of (odd xs) (odd ys) (odd zs)
 
--- The letters' numbers, none's first.
-abbrev pub letter-number : Letter → ℕ
-letter-number None = 0
-letter-number X = 1
-letter-number Y = 2
-letter-number Z = 3
+-- A letter as a byte: its name's, and where there is none this one.
+abbrev pub letter-byte : ℕ → Letter → ℕ
+letter-byte none None = none
+letter-byte none X = code "X"
+letter-byte none Y = code "Y"
+letter-byte none Z = code "Z"
 
 -- "Weight is then "not none"".
 abbrev pub not-none : Letter → ℕ

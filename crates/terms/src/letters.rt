@@ -1,7 +1,7 @@
 // The letters, and which of them three children give.
 ghost use mathlib.Core.Path.{_≡_};
 ghost use Prim.Native.Nat.{_≤_};
-ghost use Rattle.terms.specs.Letters.{«counted-letter», «letter-number», «not-none»};
+ghost use Rattle.terms.specs.Letters.{«counted-letter», «letter-byte», «not-none»};
 
 pub enum Letter {
     None,
@@ -26,15 +26,15 @@ pub fn counted_letter(xs: usize, ys: usize, zs: usize) -> Letter
     }
 }
 
-// A letter's number, none's being 0.
-pub fn number(letter: Letter) -> usize
-    ensures { λ r. ⌜ (r ≡ letter-number letter) × (r ≤ 3) ⌝ }
+// A letter's byte, and where there is none this one.
+pub fn byte(letter: Letter, none: u8) -> u8
+    ensures { λ r. ⌜ r ≡ letter-byte none letter ⌝ }
 {
     match letter {
-        Letter::None => 0,
-        Letter::X => 1,
-        Letter::Y => 2,
-        Letter::Z => 3,
+        Letter::None => none,
+        Letter::X => b'X',
+        Letter::Y => b'Y',
+        Letter::Z => b'Z',
     }
 }
 
