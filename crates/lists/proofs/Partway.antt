@@ -31,24 +31,20 @@ module _ {A : Type 0} (whole : List A) (at : ℕ) (text : List A) (room : at + l
   pub parts-mark : {mark : A} {rest s : List A} {here : ℕ} → Partway whole at text (mark ∷ rest) s here → (here < length s) × (here < length text)
   parts-mark w = (omega (arith, parts-room w), omega (arith, parts-room w, parts-same w))
 
-  -- One element stored, and a part written behind it.
+  -- A part written, and one behind an element that was stored.
+  pub parts-piece : (part more : List A) {s after : List A} {here end : ℕ} → Partway whole at text (part ++ more) s here
+      → end ≡ here + length part → after ≡ written-at here part s → Partway whole at text more after end
+  parts-piece part more {s} {after} {here} {end} w e f =
+      record {
+        front = w .front ++ part;
+        parts = w .parts ∙ sym (append-assoc (w .front) part more);
+        wrote = then-wrote (w .wrote) (record { behind = e; written = f }) (omega (arith, parts-room w, parts-same w));
+      }
+
   pub parts-next : (mark : A) (part more : List A) {s after : List A} {here end : ℕ} → Partway whole at text (mark ∷ (part ++ more)) s here
       → end ≡ here + 1 + length part → after ≡ written-at (here + 1) part (set s here mark) → Partway whole at text more after end
   parts-next mark part more {s} {after} {here} {end} w e f =
-      let left = parts-room w in
-      let whole-length = parts-same w in
-      let size = length-append part more in
-      let marked : Wrote here (mark ∷ []) s (set s here mark) (here + 1) =
-      record { behind = refl; written = set-written s here mark (omega arith) } in
-      let both = then-wrote (w .wrote) marked (omega arith) in
-      record {
-        front = (w .front ++ (mark ∷ [])) ++ part;
-        parts =
-            w .parts
-            ∙ sym (append-assoc (w .front) (mark ∷ []) (part ++ more))
-            ∙ sym (append-assoc (w .front ++ (mark ∷ [])) part more);
-        wrote = then-wrote both (record { behind = e; written = f }) (omega arith);
-      }
+      parts-piece part more (parts-piece (mark ∷ []) (part ++ more) w refl (set-written s here mark (omega (arith, parts-room w)))) e f
 
   pub parts-end : {s : List A} {here : ℕ} → Partway whole at text [] s here → (here ≡ at + length whole) × (s ≡ written-at at whole text)
   parts-end w =

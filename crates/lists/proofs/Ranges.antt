@@ -1,7 +1,7 @@
 -- One step along a range: what a loop that counts upward to an end has still to see.
 use mathlib.Core.Path.{_≡_, refl, ap, _∙_, sym}
 use mathlib.Core.Bool.{Bool, true, false, cond, true≢false}
-use mathlib.Core.List.{[], _∷_, _++_, map}
+use mathlib.Core.List.{List, [], _∷_, _++_, map, flatMap}
 use Prim.Native.Nat.{ℕ, zero, suc, _+_, _-_, _<_, _≤_}
 use native.Mathlib.Numerals.{add-one}
 use native.Mathlib.Nat.{sub-zero}
@@ -84,6 +84,15 @@ module _ {A : Type 0} (f : A → ℕ) (rule : ℕ → A) (end at : ℕ) where
   pub sum-done : end ≤ at → sum (map f (listed rule at (end - at))) ≡ 0
   unfolding sum
   sum-done h = rw (listed-end rule end at h)
+
+module _ {A B : Type 0} (f : A → List B) (rule : ℕ → A) (end at : ℕ) where
+  pub flatMap-on : at < end → flatMap f (listed rule at (end - at)) ≡ f (rule at) ++ flatMap f (listed rule (at + 1) (end - (at + 1)))
+  unfolding flatMap
+  flatMap-on h = rw (listed-step rule end at h)
+
+  pub flatMap-done : end ≤ at → flatMap f (listed rule at (end - at)) ≡ []
+  unfolding flatMap
+  flatMap-done h = rw (listed-end rule end at h)
 
 -- A test that holds throughout a range, of one of it, or of all that lead.
 module _ (test : ℕ → Bool) where

@@ -89,6 +89,19 @@ total-single f count point h zeros =
     go k l true e = rw e
     go k l false e = rw e (zeros k l (eqb-false k point e))
 
+-- Two rules that differ at one point only, where the second has nothing.
+pub total-changed : (f g : ℕ → ℕ) (count point : ℕ) → point < count → ((k : ℕ) → k < count → (k ≡ point → ⊥) → f k ≡ g k) → g point ≡ 0
+    → total f count ≡ total g count + f point
+unfolding without
+total-changed f g count point h alike none =
+    let rest : total (without point f) count ≡ total (without point g) count =
+    total-same (without point f) (without point g) count (λ k l. go k l (eqb k point) refl) in
+    omega (arith, total-apart f count point h, total-apart g count point h, rest, none)
+  where
+    go : (k : ℕ) → k < count → (b : Bool) → eqb k point ≡ b → without point f k ≡ without point g k
+    go k l true e = rw e
+    go k l false e = rw e (alike k l (eqb-false k point e))
+
 -- The total from the front.
 pub total-first : (f : ℕ → ℕ) (count : ℕ) → total f (suc count) ≡ f 0 + total (λ k. f (suc k)) count
 unfolding total
