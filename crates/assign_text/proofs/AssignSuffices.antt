@@ -29,7 +29,8 @@ use Rattle.text.specs.Output.{line-of, refusal-text}
 use Rattle.terms_text.proofs.TermsRefused.{terms-refusal}
 use Rattle.text.proofs.RoomSuffices.{refusal-five}
 use Rattle.nodes_text.specs.TreeInput.{TreeSaid, nodes, malformed, tree-said}
-use Rattle.tree_text.specs.Answers.{weight-line, table-of}
+use Rattle.tree.specs.Laying.{table-of}
+use Rattle.tree_text.specs.Answers.{weight-line}
 use Rattle.assign_text.specs.Assigning.{heuristic-of, assign-rooms, assigned-with, assign-printed, assign-as, assign-text, AssignSuffices}
 
 -- The number with which an assignment ends, none where it isn't refused.

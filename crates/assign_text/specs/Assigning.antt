@@ -9,13 +9,13 @@ use Rattle.refusal.specs.declared.Refusal.the-variants.{Room, Malformed}
 use Rattle.fields.specs.Texts.{spelt}
 use Rattle.terms.specs.Rows.{rows-of}
 use Rattle.tree.specs.Table.{child}
-use Rattle.tree.specs.Laying.{modes-in}
+use Rattle.tree.specs.Laying.{modes-in, table-of}
 use Rattle.topphatt.specs.Answer.{Outcome, done, refused, asked, outcome, Rooms as AssignRooms}
 use Rattle.terms_text.specs.Input.{Said, given, malformed as terms-malformed, said}
 use Rattle.text.specs.Running.{Rooms, program-rooms}
 use Rattle.text.specs.Output.{node-lines, refusal-text}
 use Rattle.nodes_text.specs.TreeInput.{TreeSaid, nodes, malformed, tree-said}
-use Rattle.tree_text.specs.Answers.{table-of, weight-line}
+use Rattle.tree_text.specs.Answers.{weight-line}
 
 -- "heuristic not 0, 1, 2 (as listed above)": their names, in the order of the list; any other name is 3, which is refused by 17.
 unfoldable pub heuristic-of : List ℕ → ℕ

@@ -12,6 +12,7 @@ use Rattle.steering.specs.Reasons.{reason-text}
 use Rattle.letters_text.specs.Lettering.{letters-text}
 use Rattle.tree_text.specs.Answers.{check-text, weigh-text}
 use Rattle.assign_text.specs.Assigning.{assign-text}
+use Rattle.strings_text.specs.Printing.{hatt-strings-text, tree-strings-text}
 
 -- The commands whose file is a journal or merges by hand. `continue` has the new lines alone, and so has `journal`, for which an empty file is
 -- read; the starter lets no other name through.
@@ -30,3 +31,9 @@ command-text name word bytes file =
     (cond (alike name (spelt "assign")) (assign-text program-rooms file word bytes)
     (cond (alike name (spelt "letters")) (letters-text program-rooms bytes file word)
     (journal-command name bytes file))))
+
+-- Those whose answers are longer: `strings` has the strings of the tree that its file is, and `hatt_strings`, for which no file is read, of
+-- the tree that HATT builds.
+unfoldable pub strings-command : List ℕ → List ℕ → List ℕ → List ℕ
+strings-command name bytes file =
+    cond (alike name (spelt "strings")) (tree-strings-text most-modes file) (hatt-strings-text program-rooms bytes)

@@ -1,9 +1,8 @@
 // The program: the command that its first argument names, for the terms on standard input and the file on descriptor 3; its answer on standard output, with a full stop behind it.
-ghost use Prim.Native.Nat.{_≤_};
-ghost use lib.ListN.{length};
 ghost use Rattle.io.specs.Counts.{Counts};
 ghost use Rattle.text.specs.Output.{Prints};
-ghost use Rattle.dewgoblin.specs.Commands.{«journal-command», «command-text»};
+ghost use Rattle.dewgoblin.specs.Commands.{«journal-command», «command-text», «strings-command»};
+ghost use Rattle.strings_text.specs.Printing.{PrintsStrings};
 use fields::parts;
 use standard_input::Input;
 use steering::reasons;
@@ -61,14 +60,47 @@ fn answer(name: &[u8], word: &[u8], input: &[u8], file: &[u8]) -> Printed
     journal_answer(name, input, file)
 }
 
-// An answer may be empty: the full stop tells it from none.
-fn write_answer(printed: Printed)
-    requires { ⌜ printed .count ≤ length (printed .bytes) ⌝ }
+// The answer of a command that prints strings.
+fn strings_answer(name: &[u8], input: &[u8], file: &[u8]) -> strings_text::Printed
+    ensures { λ r. ⌜ PrintsStrings (strings-command (now (name .entry)) (now (input .entry)) (now (file .entry))) r ⌝ }
 {
+    if parts::same_bytes(name, b"strings") {
+        return strings_text::tree_strings_answer(file);
+    }
+    strings_text::hatt_strings_answer(input)
+}
+
+// An answer may be empty: the full stop tells it from none.
+fn write_answer(answer: &[u8]) {
+    io::write_all(libc::STDOUT_FILENO, answer);
+    io::write_all(libc::STDOUT_FILENO, b".");
+}
+
+// A command's answer written.
+fn give_answer(name: &[u8], word: &[u8], input: &[u8], file: &[u8]) {
+    let printed = answer(name, word, input, file);
     let bytes = printed.bytes;
     let length = printed.count;
-    io::write_all(libc::STDOUT_FILENO, &bytes[..length]);
-    io::write_all(libc::STDOUT_FILENO, b".");
+    write_answer(&bytes[..length]);
+}
+
+// The same of a command that prints strings.
+fn give_strings(name: &[u8], input: &[u8], file: &[u8]) {
+    let printed = strings_answer(name, input, file);
+    let bytes = printed.bytes;
+    let length = printed.count;
+    write_answer(&bytes[..length]);
+}
+
+// A command by its name and its other word, for what was read.
+fn give(name: &[u8], word: &[u8], input: &[u8], file: &[u8]) {
+    if parts::same_bytes(name, b"strings") {
+        return give_strings(name, input, file);
+    }
+    if parts::same_bytes(name, b"hatt_strings") {
+        return give_strings(name, input, file);
+    }
+    give_answer(name, word, input, file)
 }
 
 // A command by its name and its other word, in lent room for what it reads. One whose input failed says nothing, and its starter says why.
@@ -83,7 +115,7 @@ fn run(name: &[u8], word: &[u8], input: &mut [u8], file: &mut [u8]) {
     }
     let count = terms.count;
     let kept = read.count;
-    write_answer(answer(name, word, &input[..count], &file[..kept]));
+    give(name, word, &input[..count], &file[..kept]);
 }
 
 fn main() {

@@ -1,30 +1,25 @@
 -- A tree's text written with a byte's room behind it, and the line that it is printed as.
 use mathlib.Core.Path.{_≡_, ap, _∙_}
 use mathlib.Core.List.{List, [], _++_}
-use Prim.Native.Nat.{ℕ, _+_, _*_, _/_, _<_, _≤_}
+use Prim.Native.Nat.{ℕ, _+_, _*_, _<_, _≤_}
 use native.Mathlib.Omega.{arith}
-use lib.ListN.{length, take, drop, set, replicate, length-append, take-append-drop}
+use lib.ListN.{length, take, drop, set, length-append, take-append-drop}
 use Rattle.lists.proofs.Behind.{written-one}
 use Rattle.refusal.specs.declared.Refusal.{Refusal}
-use Rattle.entities.specs.Codes.{absent}
 use Rattle.fields.specs.Texts.{spelt}
 use Rattle.tree.specs.declared.TreeWritten.{TreeWritten}
 use Rattle.tree.specs.declared.TreeWritten.the-variants.{Written, Unwritten}
 use Rattle.tree.specs.Check.{tree-checked}
 use Rattle.tree.specs.Writing.{tree-written, text-after}
-use Rattle.tree.specs.Laying.{laid, laid-over, modes-in}
 use Rattle.tree.proofs.WritingAnswered.{Fits, written-fits}
 use Rattle.newick.specs.Writing.{newick-text}
 use Rattle.newick.specs.Calls.{newick-written}
-use Rattle.journal.specs.Resuming.{Outcome}
-use Rattle.text.specs.declared.running.Run.{Run}
-use Rattle.text.specs.code.Runs.{Lent, RanDone}
 use Rattle.text.specs.Running.{Rooms}
 use Rattle.text.specs.Output.{refusal-text}
-use Rattle.newick_line.specs.NewickLine.{line-as, table-line, line-room, newick-printed, newick-answer-text}
+use Rattle.newick_line.specs.NewickLine.{table-line, newick-printed, newick-answer-text}
 use Rattle.text.specs.code.Printing.{Puts}
 use Rattle.text.proofs.PrintedLines.{front-over}
-use Rattle.text.proofs.RunEnds.{rows-stand}
+use Rattle.ran_tree.specs.Printing.{written-printed}
 use Rattle.text.proofs.LongInput.{cut-runs}
 
 module _ (most modes : ℕ) (table : List ℕ) (room : ℕ) where
@@ -48,11 +43,11 @@ module _ (most modes : ℕ) (table : List ℕ) (room : ℕ) where
     -- LF behind the text makes the line.
     pub written-line : (count : ℕ) (after : List ℕ) → Written count ≡ means → after ≡ text-after (Written count) text out → room < length out
         → Puts (table-line most room modes table) out (set after count 10) (count + 1)
-    unfolding text-after table-line line-as
+    unfolding text-after table-line written-printed
     written-line count after e f k =
         let fits = line-fits count e in
         let size = length-append text (spelt "\n") in
-        let line : text ++ spelt "\n" ≡ table-line most room modes table = ap (λ r. line-as r text) e in
+        let line : text ++ spelt "\n" ≡ table-line most room modes table = ap (λ r. written-printed r (text ++ spelt "\n")) e in
         let puts : Puts (text ++ spelt "\n") out (set after count 10) (count + 1) =
         record {
           count = omega (arith, fits .exact);
@@ -64,24 +59,10 @@ module _ (most modes : ℕ) (table : List ℕ) (room : ℕ) where
     -- A refusal leaves nothing, and is printed over that.
     pub refused-line : (refusal : Refusal) (after : List ℕ) → Unwritten refusal ≡ means → after ≡ text-after (Unwritten refusal) text out
         → {last : List ℕ} {r : ℕ} → Puts (refusal-text refusal) after last r → Puts (table-line most room modes table) out last r
-    unfolding text-after table-line line-as
+    unfolding text-after table-line written-printed
     refused-line refusal after e f puts =
-        let line : refusal-text refusal ≡ table-line most room modes table = ap (λ r. line-as r text) e in
+        let line : refusal-text refusal ≡ table-line most room modes table = ap (λ r. written-printed r (text ++ spelt "\n")) e in
         rw (f, line) at puts
-
--- Rows laid over a table of their size are laid out.
-pub laid-in : (modes : ℕ) (rows before after : List ℕ) → length before ≡ 3 * modes → after ≡ laid-over (replicate (length before) absent) rows
-    → after ≡ laid modes rows
-unfolding laid
-laid-in modes rows before after size e = e ∙ ap (λ n. laid-over (replicate n absent) rows) size
-
--- What is printed of a run that is done.
-pub done-newick : {most : ℕ} {means : Outcome} {before after : Lent} {run : Run} → RanDone most means before after run → 4 * most ≤ length (before .rows)
-    → table-line most line-room (run .modes) (laid (run .modes) (take (4 * run .modes) (after .rows))) ≡ newick-printed most means
-unfolding newick-printed modes-in
-done-newick {most} {means} {before} {after} {run} known room =
-    let size : run .modes ≡ length (known .ending .rows) / 4 = omega (arith, known .exact) in
-    rw (known .is, rows-stand known room) (ap (λ n. table-line most line-room n (laid n (known .ending .rows))) size)
 
 -- A text cut behind the longest well-formed one is answered as the whole text is.
 pub cut-newick : (rooms : Rooms) (cut : ℕ) (text : List ℕ) → 12 + 47 * rooms .terms < cut

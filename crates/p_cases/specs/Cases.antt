@@ -23,6 +23,7 @@ use Rattle.letters_text.specs.Lettering.{letters-text}
 use Rattle.tree_text.specs.Answers.{weigh-text}
 use Rattle.assign_text.specs.Assigning.{assign-text}
 use Rattle.newick_line.specs.NewickLine.{newick-answer-text}
+use Rattle.strings_text.specs.Printing.{hatt-strings-text, tree-strings-text}
 use Rattle.daemon.specs.Calls.{lent as bytes-lent, hatt-called}
 use Rattle.daemon.specs.Promises.{result-of, lent-then as bytes-left}
 
@@ -152,6 +153,9 @@ cases =
     ∷ shows (printed (answer-text program-rooms input3)) [] [] (spelt "weight\t4\ntrials\t14\nnode\t1\t0\t5\t-\nnode\t0\t2\t3\t4\n")
     ∷ shows (printed (newick-answer-text program-rooms input3)) [] [] (spelt "((m0,m1,m2)n0,m3,e)n1;\n")
     ∷ shows (printed (newick-text 2 tree3)) [] [] (spelt "((m0,m1,m2)n0,m3,e)n1;")
+    -- and the strings of its tree, as `strings` prints them for the terms and for the tree
+    ∷ shows (printed (hatt-strings-text program-rooms input3)) [] [] (spelt "0\tXX\n1\tYX\n2\tZX\n3\tIY\n")
+    ∷ shows (printed (tree-strings-text most-modes nodes3)) [] [] (spelt "0\tXX\n1\tYX\n2\tZX\n3\tIY\n")
     -- P5's journal as the command `steer` makes it of one merge; what `reason` tells of P6's line
     ∷ shows (printed (steer-text program-rooms input3 (spelt "0\t1\t4\n"))) [] [] (spelt "hatt\t1\t2\t3\n0\t0\t1\t4\t2\n")
     ∷ shows (printed (reason-text program-rooms input3 (spelt "hatt\t1\t2\t3\n0\t0\t1\t4\t1\n"))) [] [] (spelt "weight\t2\n")

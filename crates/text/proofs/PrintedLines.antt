@@ -19,10 +19,8 @@ use Rattle.fields.specs.Decimal.{decimal}
 use Rattle.fields.specs.Fields.{tabbed}
 use Rattle.terms.specs.Rows.{rows-of}
 use Rattle.terms.proofs.RowSteps.{rows-more}
-use Rattle.text.specs.declared.Printed.{Printed}
-use Rattle.text.specs.Running.{printed-room}
 use Rattle.text.specs.code.Printing.{Puts}
-use Rattle.text.specs.Output.{line-of, code-text, node-line, node-lines, refusal-text, done-text, Prints}
+use Rattle.text.specs.Output.{line-of, code-text, node-line, node-lines, refusal-text, done-text, PrintsIn}
 
 -- What was written over the front, and fits, was put there.
 pub wrote-puts : {text before after : List ℕ} {end : ℕ} → Wrote 0 text before after end → end ≤ length before → Puts text before after end
@@ -150,8 +148,18 @@ pub done-wrote : (weight trials : ℕ) (rows before : List ℕ) → {s1 s2 s3 : 
 done-wrote weight trials rows before a b c h =
     rw (← done-parts weight trials rows) (then-wrote (then-wrote a b (omega (arith, b .behind))) c h)
 
--- What a program prints stands within its bytes.
-pub prints-within : {answer : List ℕ} {r : Printed} → Prints answer r → r .count ≤ length (r .bytes)
-prints-within {answer} p =
-    let room = length-replicate {A = ℕ} printed-room 0 in
-    omega (arith, p .count, p .fits, ap length (p .bytes), room, length-written 0 answer (replicate printed-room 0) (omega (arith, p .fits, room)))
+-- What a program prints stands within its bytes, and what was put over zeros is printed.
+pub prints-within : {room : ℕ} {answer printed : List ℕ} {r : ℕ} → PrintsIn room answer printed r → r ≤ length printed
+prints-within {room} {answer} p =
+    let size = length-replicate {A = ℕ} room 0 in
+    omega (arith, p .count, p .fits, ap length (p .bytes), size, length-written 0 answer (replicate room 0) (omega (arith, p .fits, size)))
+
+pub puts-prints : {room : ℕ} {answer meant printed : List ℕ} {r : ℕ} → answer ≡ meant → Puts answer (replicate room 0) printed r
+    → PrintsIn room meant printed r
+puts-prints {room} e puts =
+    let size = length-replicate {A = ℕ} room 0 in
+    record {
+      count = puts .count ∙ ap length e;
+      fits = omega (arith, puts .fits, ap length e, size);
+      bytes = puts .bytes ∙ ap (λ l. written-at 0 l (replicate room 0)) e;
+    }

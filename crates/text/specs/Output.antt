@@ -68,11 +68,14 @@ new-printed (refuses refusal) = refusal-text refusal
 unfoldable pub continue-text : Rooms → List ℕ → List ℕ → List ℕ
 continue-text rooms bytes read = new-printed (ran rooms bytes read)
 
--- What a program prints: the bytes of its answer, as many as they are, and zeros behind them.
-pub record Prints (answer : List ℕ) (r : Printed) : Type 0 where
-  pub count : r .count ≡ length answer
-  pub fits : length answer ≤ printed-room
-  pub bytes : r .bytes ≡ written-at 0 answer (replicate printed-room 0)
+-- What a program prints of this room: the bytes of its answer, as many as they are, and zeros behind them.
+pub record PrintsIn (room : ℕ) (answer printed : List ℕ) (r : ℕ) : Type 0 where
+  pub count : r ≡ length answer
+  pub fits : length answer ≤ room
+  pub bytes : printed ≡ written-at 0 answer (replicate room 0)
+
+abbrev pub Prints : List ℕ → Printed → Type 0
+Prints answer r = PrintsIn printed-room answer (r .bytes) (r .count)
 
 -- 5 is never printed: whatever the text and the journal, the programs' own rooms suffice.
 abbrev pub RoomSuffices : Type 0

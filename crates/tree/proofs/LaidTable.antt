@@ -1,14 +1,14 @@
 -- Rows of four laid over a table: a place that no row is for stays as it was, and a node whose one row is among them has its children.
 use mathlib.Core.Path.{_≡_, refl, ap, _∙_, sym}
 use mathlib.Core.Bool.{Bool, true, false}
-use mathlib.Core.List.{List, [], _∷_}
+use mathlib.Core.List.{List, [], _∷_, _++_}
 use Prim.Native.Nat.{ℕ, zero, suc, _+_, _*_, _<_, _≤_}
 use native.Mathlib.Nat.{add-zero}
 use native.Mathlib.Omega.{arith}
 use borrow.Author.Tests.{lt-ltb, eqb-true, eqb-false, ltb-true, ltb-false}
 use lib.Dec.{eqb, ltb}
-use lib.ListN.{length, getD, drop}
-use lib.Seq.{getD-drop}
+use lib.ListN.{length, getD, take, drop, replicate, length-replicate}
+use lib.Seq.{getD-drop, take-at, length-take-le}
 use Rattle.lists.specs.Counting.{occurrences}
 use Rattle.lists.specs.Members.{every}
 use Rattle.lists.specs.Written.{written-at}
@@ -18,7 +18,7 @@ use Rattle.lists.proofs.Sums.{same-one, same-none}
 use Rattle.lists.proofs.Written.{length-written, getD-before, getD-within, drop-written}
 use Rattle.entities.specs.Codes.{absent}
 use Rattle.tree.specs.Table.{child}
-use Rattle.tree.specs.Laying.{row-over, laid-over}
+use Rattle.tree.specs.Laying.{row-over, laid-over, laid, modes-in, table-of}
 
 -- The labels of rows of four.
 unfoldable pub labels-of : List ℕ → List ℕ
@@ -179,3 +179,13 @@ has-laid whole (first ∷ (x ∷ (y ∷ (z ∷ rows)))) table has size label edg
         same-row e =
             rw (← e)
             (has-same (row-over table first (x ∷ (y ∷ (z ∷ [])))) whole first x y z (row-has table first x y z (omega arith)) (has .0) edge h)
+
+-- Rows laid over the front of a table of their size.
+pub laid-front : (rows before part : List ℕ) (end : ℕ) → end ≡ 3 * modes-in rows → end ≤ length before
+    → part ≡ laid-over (replicate (length (take end before)) absent) rows → take (3 * modes-in rows) (part ++ drop end before) ≡ table-of rows
+unfolding laid
+laid-front rows before part end size room e =
+    let is : part ≡ laid-over (replicate end absent) rows = e ∙ ap (λ n. laid-over (replicate n absent) rows) (length-take-le end before room) in
+    let long : length part ≡ 3 * modes-in rows =
+    ap length is ∙ laid-length rows (replicate end absent) ∙ length-replicate {A = ℕ} end absent ∙ size in
+    take-at part (drop end before) (3 * modes-in rows) long ∙ is ∙ ap (λ n. laid-over (replicate n absent) rows) size

@@ -26,3 +26,7 @@ laid modes rows = laid-over (replicate (3 * modes) absent) rows
 -- The modes of a tree whose rows these are.
 unfoldable pub modes-in : List ℕ → ℕ
 modes-in rows = length rows / 4
+
+-- The table of a tree whose rows these are.
+abbrev pub table-of : List ℕ → List ℕ
+table-of rows = laid (modes-in rows) rows

@@ -1,10 +1,10 @@
 // Rows of nodes in any order, laid out as a tree table.
 ghost use mathlib.Core.Path.{_≡_};
 ghost use mathlib.Core.List.{[], _∷_};
-ghost use Prim.Native.Nat.{_≤_};
-ghost use lib.ListN.{length, replicate};
+ghost use Prim.Native.Nat.{_*_, _≤_};
+ghost use lib.ListN.{length, take, replicate};
 ghost use Rattle.entities.specs.Codes.{absent};
-ghost use Rattle.tree.specs.Laying.{«row-over», «laid-over»};
+ghost use Rattle.tree.specs.Laying.{«row-over», «laid-over», «modes-in», «table-of»};
 use entities::codes;
 use terms::slices;
 
@@ -39,4 +39,13 @@ pub fn lay_rows(rows: &[u16], table: &mut [u16])
         );
         done += 1;
     }
+}
+
+// The table of rows, laid out in the front of a lent one.
+pub fn lay_front(rows: &[u16], table: &mut [u16])
+    requires { ⌜ 3 * modes-in (now rows) ≤ length (now table) ⌝ }
+    ensures { λ r. ⌜ take (3 * modes-in (now (rows .entry))) (now (table .exit)) ≡ table-of (now (rows .entry)) ⌝ }
+{
+    let end = 3 * (rows.len() / 4);
+    lay_rows(rows, &mut table[..end]);
 }

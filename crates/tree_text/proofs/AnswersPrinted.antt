@@ -2,9 +2,7 @@
 use mathlib.Core.Path.{_≡_, refl, ap, _∙_}
 use mathlib.Core.List.{List, [], _∷_, _++_}
 use Prim.Native.Nat.{ℕ, _*_}
-use native.Mathlib.Omega.{arith}
-use lib.ListN.{length, take, replicate, length-replicate}
-use Rattle.lists.specs.Written.{written-at}
+use lib.ListN.{take}
 use Rattle.refusal.specs.declared.Refusal.the-variants.{Malformed as Badly}
 use Rattle.entities.specs.Limits.{most-modes}
 use Rattle.fields.specs.Texts.{spelt}
@@ -15,10 +13,7 @@ use Rattle.tree.specs.declared.TreeChecked.the-variants.{Refused as BadTree}
 use Rattle.tree_weight.specs.Weight.{tree-weighed}
 use Rattle.tree_weight.specs.declared.TreeWeighed.the-variants.{Unweighed}
 use Rattle.terms_text.specs.Input.{Said, given, malformed as terms-malformed}
-use Rattle.text.specs.declared.Printed.{Printed}
-use Rattle.text.specs.Running.{printed-room}
-use Rattle.text.specs.Output.{line-of, Prints}
-use Rattle.text.specs.code.Printing.{Puts}
+use Rattle.text.specs.Output.{line-of}
 use Rattle.nodes_text.specs.TreeInput.{malformed, tree-said}
 use Rattle.tree_text.specs.Answers.{checked-as, weighed-with, weighed-as, weight-line}
 use Rattle.tree_text.specs.code.Reading.{TreeRead}
@@ -58,13 +53,3 @@ module _ (table : List ℕ) (meant : Said) where
   pub weighed-malformed : (line : ℕ) → terms-malformed line ≡ meant → Unweighed (Badly line) ≡ weighed-with most-modes table meant
   unfolding weighed-with
   weighed-malformed line e = ap (weighed-with most-modes table) e
-
--- What was put over zeros is printed.
-pub puts-prints : {answer meant : List ℕ} {r : Printed} → answer ≡ meant → Puts answer (replicate printed-room 0) (r .bytes) (r .count) → Prints meant r
-puts-prints {answer} {meant} {r} e puts =
-    let room = length-replicate {A = ℕ} printed-room 0 in
-    record {
-      count = puts .count ∙ ap length e;
-      fits = omega (arith, puts .fits, ap length e, room);
-      bytes = puts .bytes ∙ ap (λ l. written-at 0 l (replicate printed-room 0)) e;
-    }

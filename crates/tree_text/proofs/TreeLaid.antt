@@ -1,29 +1,16 @@
 -- The nodes that were read, laid out in the front of a table.
 use mathlib.Core.Path.{_≡_, ap, _∙_, sym}
-use mathlib.Core.List.{List, _++_}
+use mathlib.Core.List.{List}
 use Prim.Native.Nat.{ℕ, _*_, _≤_}
 use native.Mathlib.Omega.{arith}
-use lib.ListN.{length, take, drop, replicate, length-replicate}
-use lib.Seq.{take-at, length-take-le}
-use Rattle.entities.specs.Codes.{absent}
-use Rattle.tree.specs.Laying.{laid, laid-over, modes-in}
-use Rattle.tree.proofs.LaidTable.{laid-length}
+use lib.ListN.{length, take}
+use lib.Seq.{length-take-le}
+use Rattle.tree.specs.Laying.{modes-in, table-of}
 use Rattle.nodes_text.specs.declared.Nodes.{Nodes}
 use Rattle.nodes_text.specs.declared.Nodes.the-variants.{Are, Malformed}
 use Rattle.nodes_text.specs.TreeInput.{TreeSaid, malformed}
-use Rattle.tree_text.specs.Answers.{table-of}
 use Rattle.nodes_text.specs.code.Reading.{NodesFound, Reads}
 use Rattle.tree_text.specs.code.Reading.{TreeRead, ReadsTree, RowsFit}
-
--- Rows laid over the front of a table of their size.
-pub laid-front : (rows before part : List ℕ) (end : ℕ) → end ≡ 3 * modes-in rows → end ≤ length before
-    → part ≡ laid-over (replicate (length (take end before)) absent) rows → take (3 * modes-in rows) (part ++ drop end before) ≡ table-of rows
-unfolding laid
-laid-front rows before part end size room e =
-    let is : part ≡ laid-over (replicate end absent) rows = e ∙ ap (λ n. laid-over (replicate n absent) rows) (length-take-le end before room) in
-    let long : length part ≡ 3 * modes-in rows =
-    ap length is ∙ laid-length rows (replicate end absent) ∙ length-replicate {A = ℕ} end absent ∙ size in
-    take-at part (drop end before) (3 * modes-in rows) long ∙ is ∙ ap (λ n. laid-over (replicate n absent) rows) size
 
 -- What is known of an answer, case by case.
 module _ (most : ℕ) (meant : TreeSaid) (rows : List ℕ) where

@@ -7,7 +7,7 @@ use Rattle.refusal.specs.declared.Refusal.the-variants.{Malformed}
 use Rattle.entities.specs.Codes.{absent}
 use Rattle.fields.specs.Texts.{spelt}
 use Rattle.fields.specs.Decimal.{decimal}
-use Rattle.tree.specs.Laying.{laid, modes-in}
+use Rattle.tree.specs.Laying.{modes-in, table-of}
 use Rattle.tree.specs.Check.{tree-checked}
 use Rattle.tree.specs.declared.TreeChecked.{TreeChecked}
 use Rattle.tree.specs.declared.TreeChecked.the-variants.{Accepted, Refused as BadTree}
@@ -18,10 +18,6 @@ use Rattle.terms_text.specs.Input.{Said, given, malformed as terms-malformed, s
 use Rattle.text.specs.Running.{Rooms}
 use Rattle.text.specs.Output.{line-of, node-lines, refusal-text}
 use Rattle.nodes_text.specs.TreeInput.{TreeSaid, nodes, malformed, tree-said}
-
--- The table of a text's rows.
-abbrev pub table-of : List ℕ → List ℕ
-table-of rows = laid (modes-in rows) rows
 
 -- The check of what a text says: 18 before any other number.
 unfoldable pub checked-as : ℕ → TreeSaid → TreeChecked

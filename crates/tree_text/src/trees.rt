@@ -1,23 +1,12 @@
 // A tree's text as its table: the nodes' rows read, and laid out by label.
 ghost use mathlib.Core.Path.{_≡_};
-ghost use Prim.Native.Nat.{_*_, _≤_};
-ghost use lib.ListN.{length, take};
+ghost use Prim.Native.Nat.{_*_};
+ghost use lib.ListN.{length};
 ghost use Rattle.entities.specs.Limits.{«most-modes»};
-ghost use Rattle.tree.specs.Laying.{«modes-in»};
 ghost use Rattle.nodes_text.specs.TreeInput.{«tree-said»};
-ghost use Rattle.tree_text.specs.Answers.{«table-of»};
 ghost use Rattle.tree_text.specs.code.Reading.{ReadsTree};
 use nodes_text::Nodes;
 use tree::laying;
-
-// The table of rows, laid out in the front of a lent one.
-fn lay_front(rows: &[u16], table: &mut [u16])
-    requires { ⌜ 3 * modes-in (now rows) ≤ length (now table) ⌝ }
-    ensures { λ r. ⌜ take (3 * modes-in (now (rows .entry))) (now (table .exit)) ≡ table-of (now (rows .entry)) ⌝ }
-{
-    let end = 3 * (rows.len() / 4);
-    laying::lay_rows(rows, &mut table[..end]);
-}
 
 // What a text says, its rows and their table put over the fronts of what is lent.
 pub fn read_tree(text: &[u8], rows: &mut [u16], table: &mut [u16]) -> Nodes
@@ -28,7 +17,7 @@ pub fn read_tree(text: &[u8], rows: &mut [u16], table: &mut [u16]) -> Nodes
         Nodes::Malformed(line) => Nodes::Malformed(line),
         Nodes::Are(count) => {
             let end = 4 * count;
-            lay_front(&rows[..end], table);
+            laying::lay_front(&rows[..end], table);
             Nodes::Are(count)
         }
     }

@@ -1,21 +1,15 @@
--- The run was refused, or it came to its end and its rows stand in front: either way it is printed as the definitions print it.
+-- The run was refused, or its table stands in front, whose line is printed.
 use mathlib.Core.Path.{sym}
-use Prim.Native.Nat.{_*_, _≤_}
 use native.Mathlib.Omega.{arith}
 use borrow.Author.Needs.{needs}
 use lib.Seq.{length-take-le}
-use lib.ListN.{length}
-use Rattle.newick_line.specs.NewickLine.{newick-printed, newick-answer-text}
-use Rattle.text.proofs.RunEnds.{run-refused, run-done}
-use Rattle.newick_line.proofs.LinePrinted.{done-newick}
+use Rattle.ran_tree.proofs.TreeEnds.{tree-stands, tree-refused}
+use Rattle.newick_line.specs.NewickLine.{table-line, line-room, newick-printed, newick-answer-text}
 use Rattle.newick_line.proofs.print_newick.Statement.{statement}
 use Rattle.newick_line.proofs.print_newick.Tie as tie
 
-slice-aggregate-run-text : tie.Need-slice-aggregate-run-text
-slice-aggregate-run-text c = search needs
-
-run-text-requires : tie.Need-run-text-requires
-run-text-requires c κs = search needs
+run-tree-requires : tie.Need-run-tree-requires
+run-tree-requires c κs = search needs
 
 enum-known-refusal : tie.Need-enum-known-refusal
 enum-known-refusal c = search needs
@@ -23,34 +17,22 @@ enum-known-refusal c = search needs
 put-refusal-requires : tie.Need-put-refusal-requires
 put-refusal-requires c κs = search needs
 
-enum-known-run : tie.Need-enum-known-run
-enum-known-run c = search needs
+enum-known-modes : tie.Need-enum-known-modes
+enum-known-modes c = search needs
 
 mul-end : tie.Need-mul-end
-mul-end c =
-    let run = c .before .before .before .before .before .before .before .before .run-text in
-    let told = c .before .before .run .given in
-    omega (arith, (run-done 256 _ _ _ _ (run .ensures) _ (told .1)) .few)
+mul-end c = omega (arith, (tree-stands 256 _ _ _ (c .before .before .before .before .before .run-tree .ensures) _ (c .before .modes .given .1)) .few)
 
-slice-reshare-prefix-put-rows : tie.Need-slice-reshare-prefix-put-rows
-slice-reshare-prefix-put-rows c =
-    let run = c .before .before .before .before .before .before .before .before .before .run-text in
-    let told = c .before .before .before .run .given in
-    omega (arith, (run-done 256 _ _ _ _ (run .ensures) _ (told .1)) .few, run .kept .1 .1 .0, c .before .before .before .before .before .before .before .before .before .before .before .before .before .before .before .before .before .before .pre .0)
+slice-reshare-prefix-put-line : tie.Need-slice-reshare-prefix-put-line
+slice-reshare-prefix-put-line c = omega (arith, (tree-stands 256 _ _ _ (c .before .before .before .before .before .before .run-tree .ensures) _ (c .before .before .modes .given .1)) .few, c .before .before .before .before .before .before .run-tree .kept .1 .0, c .before .before .before .before .before .before .before .before .before .before .before .pre .0)
 
-slice-aggregate-put-rows : tie.Need-slice-aggregate-put-rows
-slice-aggregate-put-rows c =
-    let run = c .before .before .before .before .before .before .before .before .before .before .run-text in
-    let told = c .before .before .before .before .run .given in
-    let room : 4 * told .0 .0 .modes ≤ length (run .last .1 .1 .0) = omega (arith, (run-done 256 _ _ _ _ (run .ensures) _ (told .1)) .few, run .kept .1 .1 .0, c .before .before .before .before .before .before .before .before .before .before .before .before .before .before .before .before .before .before .before .pre .0) in
-    sym (length-take-le (4 * told .0 .0 .modes) (run .last .1 .1 .0) room)
+slice-aggregate-put-line : tie.Need-slice-aggregate-put-line
+slice-aggregate-put-line c =
+    let run = c .before .before .before .before .before .before .before .run-tree in
+    sym (length-take-le _ (run .last .1 .0) (omega (arith, (tree-stands 256 _ _ _ (c .before .before .before .before .before .before .before .run-tree .ensures) _ (c .before .before .before .modes .given .1)) .few, run .kept .1 .0, c .before .before .before .before .before .before .before .before .before .before .before .before .pre .0)))
 
-put-rows-requires : tie.Need-put-rows-requires
-put-rows-requires c κs =
-    let start = c .before .before .before .before .before .before .before .before .before .before .before .before .before .before .before .before .before .before .before .before in
-    let run = c .before .before .before .before .before .before .before .before .before .before .before .run-text in
-    let told = c .before .before .before .before .before .run .given in
-    (start .pre .3, (run-done 256 _ _ _ _ (run .ensures) _ (told .1)) .few, start .pre .2)
+put-line-requires : tie.Need-put-line-requires
+put-line-requires c κs = search needs
 
 same-length : tie.Need-same-length
 same-length c = search needs
@@ -58,56 +40,35 @@ same-length c = search needs
 same-length-2 : tie.Need-same-length-2
 same-length-2 c = search needs
 
-same-length-3 : tie.Need-same-length-3
-same-length-3 c = search needs
-
 returns : tie.Need-returns
 unfolding newick-answer-text newick-printed
-returns c =
-    let run = c .before .before .before .before .before .before .before .before .before .before .before .run-text in
-    let told = c .before .before .before .before .before .refusal .given in
-    rw ((run-refused 256 _ _ _ _ (run .ensures) _ (told .1)) .is) (c .before .before .put-refusal .ensures)
+returns c = rw (tree-refused 256 _ _ _ (c .before .before .before .before .before .before .before .before .before .run-tree .ensures) _ (c .before .before .before .before .before .refusal .given .1) (table-line 256 line-room)) at (c .before .before .put-refusal .ensures)
+
+same-length-3 : tie.Need-same-length-3
+same-length-3 c = search needs
 
 same-length-4 : tie.Need-same-length-4
 same-length-4 c = search needs
 
-same-length-5 : tie.Need-same-length-5
-same-length-5 c = search needs
-
-same-length-6 : tie.Need-same-length-6
-same-length-6 c = search needs
-
-same-length-7 : tie.Need-same-length-7
-same-length-7 c = search needs
-
 returns-2 : tie.Need-returns-2
-unfolding newick-answer-text
-returns-2 c =
-    let start = c .before .before .before .before .before .before .before .before .before .before .before .before .before .before .before .before .before .before .before .before .before .before .before .before .before in
-    let run = c .before .before .before .before .before .before .before .before .before .before .before .before .before .before .before .before .run-text in
-    let told = c .before .before .before .before .before .before .before .before .before .before .run .given in
-    let room : 1024 ≤ length (start .args .rows .now) = omega (arith, start .pre .0) in
-    rw (done-newick (run-done 256 _ _ _ _ (run .ensures) _ (told .1)) room) at (c .before .before .before .before .put-rows .ensures)
+unfolding newick-answer-text newick-printed
+returns-2 c = rw ((tree-stands 256 _ _ _ (c .before .before .before .before .before .before .before .before .before .before .run-tree .ensures) _ (c .before .before .before .before .before .before .modes .given .1)) .prints (table-line 256 line-room)) at (c .before .before .put-line .ensures)
 
 pub print-newick-spec : {M : Type 1} → statement M
 print-newick-spec =
     tie.close
     (tie.spec
-    slice-aggregate-run-text
-    run-text-requires
+    run-tree-requires
     enum-known-refusal
     put-refusal-requires
-    enum-known-run
+    enum-known-modes
     mul-end
-    slice-reshare-prefix-put-rows
-    slice-aggregate-put-rows
-    put-rows-requires
+    slice-reshare-prefix-put-line
+    slice-aggregate-put-line
+    put-line-requires
     same-length
     same-length-2
-    same-length-3
     returns
+    same-length-3
     same-length-4
-    same-length-5
-    same-length-6
-    same-length-7
     returns-2)

@@ -1,8 +1,8 @@
 -- What was found is printed over zeros.
 use mathlib.Core.Path.{ap}
 use borrow.Author.Needs.{needs}
+use Rattle.text.proofs.PrintedLines.{puts-prints}
 use Rattle.tree_text.specs.Answers.{weigh-printed, weigh-text}
-use Rattle.tree_text.proofs.AnswersPrinted.{puts-prints}
 use Rattle.tree_text.proofs.weigh_answer.Statement.{statement}
 use Rattle.tree_text.proofs.weigh_answer.Tie as tie
 

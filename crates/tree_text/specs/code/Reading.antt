@@ -3,11 +3,10 @@ use mathlib.Core.Path.{_≡_}
 use mathlib.Core.List.{List}
 use Prim.Native.Nat.{ℕ, _*_, _≤_}
 use lib.ListN.{length, take}
-use Rattle.tree.specs.Laying.{modes-in}
+use Rattle.tree.specs.Laying.{modes-in, table-of}
 use Rattle.nodes_text.specs.declared.Nodes.{Nodes}
 use Rattle.nodes_text.specs.declared.Nodes.the-variants.{Are, Malformed}
 use Rattle.nodes_text.specs.TreeInput.{TreeSaid, nodes, malformed}
-use Rattle.tree_text.specs.Answers.{table-of}
 
 -- So many nodes are read, at most as many as there may be: their rows stand in front of one list, and the table of the rows in front of another.
 pub record TreeRead (most : ℕ) (meant : TreeSaid) (rows table : List ℕ) (count : ℕ) : Type 0 where

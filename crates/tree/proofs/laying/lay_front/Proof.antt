@@ -3,10 +3,10 @@ use mathlib.Core.Path.{refl, sym}
 use native.Mathlib.Omega.{arith}
 use borrow.Author.Needs.{needs}
 use lib.Seq.{length-take-le}
 use Rattle.tree.specs.Laying.{modes-in}
-use Rattle.tree_text.proofs.TreeLaid.{laid-front}
-use Rattle.tree_text.proofs.trees.lay_front.Statement.{statement}
-use Rattle.tree_text.proofs.trees.lay_front.Tie as tie
+use Rattle.tree.proofs.LaidTable.{laid-front}
+use Rattle.tree.proofs.laying.lay_front.Statement.{statement}
+use Rattle.tree.proofs.laying.lay_front.Tie as tie
 
 mul-end : tie.Need-mul-end
 mul-end c = search needs

@@ -1,0 +1,3 @@
+-- The laws of what `strings` prints.
+pub mod StringsPrinted
+pub mod StringsSuffice
