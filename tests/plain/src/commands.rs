@@ -6,6 +6,7 @@ use crate::journal::{read_number, read_numbers, write_header, write_merge};
 use crate::letters::letter_lines;
 use crate::merging::{Merge, Merging, ABSENT};
 use crate::refusal::{check_modes, demand, Refusal, MOST_MODES};
+use crate::strings::strings;
 use crate::terms::{read_terms, Row};
 use crate::text::{node_lines, print_answer, print_refusal, read_input};
 use crate::tree::{check_tree, tree_weight};
@@ -22,15 +23,18 @@ pub fn command(name: &str, word: &str, file: &[u8], input: &[u8]) -> Option<Vec<
         "assign" => assign_tree(input, file, word),
         "weigh" => weigh_tree(input, file),
         "check" => check_nodes(file),
+        "strings" => strings_of_nodes(file),
+        "hatt_strings" => go_on(input, &[]).and_then(|run| strings_of_nodes(&run.nodes)),
         "reason" => Ok(reason(input, file).unwrap_or_default()),
         _ => return None,
     };
     Some(printed.unwrap_or_else(print_refusal).into_bytes())
 }
 
-/// A run that went on from a journal: what `resume` prints of it, and the new lines.
+/// A run that went on from a journal: what `resume` prints of it, its `node` lines alone, and the new lines.
 struct Run {
     tree: String,
+    nodes: Vec<u8>,
     new: String,
 }
 
@@ -43,6 +47,7 @@ fn go_on(input: &[u8], read: &[u8]) -> Result<Run, Refusal> {
     journal.truncate(done.new);
     Ok(Run {
         tree: print_answer(done, &rows),
+        nodes: node_lines(&rows).into_bytes(),
         new: String::from_utf8(journal).expect("a journal is text"),
     })
 }
@@ -157,6 +162,12 @@ fn weigh_tree(input: &[u8], tree: &[u8]) -> Result<String, Refusal> {
 fn check_nodes(tree: &[u8]) -> Result<String, Refusal> {
     let nodes = read_nodes(tree)?;
     check_tree(nodes.len(), &lay_out(&nodes)).map(|()| String::new())
+}
+
+/// The strings of a tree by itself, which has as many modes as nodes.
+fn strings_of_nodes(tree: &[u8]) -> Result<String, Refusal> {
+    let nodes = read_nodes(tree)?;
+    strings(nodes.len(), &lay_out(&nodes))
 }
 
 fn print_weight(weight: u64) -> String {

@@ -1,7 +1,7 @@
 //! The rules of docs/01-scope.md ("01" below), and of the requests of docs/02 that landed, written a second time, in ordinary Rust with ordinary vectors.
 //!
 //! It judges what the Rust original has no counterpart for: the journal, the refusals, the tree
-//! check, the trial count, the tree weight, the programs' text, their commands and Newick texts. It is clear rather than fast.
+//! check, the trial count, the tree weight, the programs' text, their commands, Newick texts and Pauli strings. It is clear rather than fast.
 
 pub mod assign;
 pub mod commands;
@@ -10,6 +10,7 @@ pub mod letters;
 pub mod merging;
 pub mod newick;
 pub mod refusal;
+pub mod strings;
 pub mod terms;
 pub mod text;
 pub mod tree;
@@ -19,5 +20,6 @@ pub use commands::command;
 pub use journal::{find_line, hatt, resume, Done};
 pub use newick::{read_newick, write_newick};
 pub use refusal::Refusal;
+pub use strings::strings;
 pub use text::program;
 pub use tree::{check_tree, tree_weight};

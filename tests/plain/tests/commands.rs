@@ -144,6 +144,22 @@ fn weighed() {
 }
 
 #[test]
+fn strings() {
+    let p3 = "0\tXX\n1\tYX\n2\tZX\n3\tIY\n";
+    assert_eq!(asked("strings", P3_NODES, ""), p3);
+    assert_eq!(asked("hatt_strings", "", P3), p3);
+    assert_eq!(asked("strings", "node\t0\t1\t2\t-\n", ""), "0\tX\n1\tY\n");
+    assert_eq!(asked("hatt_strings", "", ""), "refused\t18\t0\n");
+    assert_eq!(asked("hatt_strings", "", "modes\t0\n"), "refused\t1\t0\n");
+    // Jordan and Wigner's chain of three: each node is the Z child of the one before it
+    let chain = "node\t0\t3\t4\t1\nnode\t1\t5\t6\t2\nnode\t2\t7\t8\t-\n";
+    let letters = ["XII", "YII", "ZXI", "ZYI", "ZZX", "ZZY"];
+    let lines = letters.iter().enumerate();
+    let lines: String = lines.map(|(k, string)| format!("{k}\t{string}\n")).collect();
+    assert_eq!(asked("strings", chain, ""), lines);
+}
+
+#[test]
 fn accepted_by_the_check() {
     assert_eq!(asked("check", P3_NODES, ""), "");
     assert_eq!(asked("check", "node\t0\t1\t2\t-\n", ""), "");
@@ -169,7 +185,7 @@ fn tree_lines() {
         "trials\t14\n",
     ];
     for text in texts {
-        for name in ["check", "weigh", "assign"] {
+        for name in ["check", "weigh", "assign", "strings"] {
             assert_eq!(refused(name, text), "18 at 0", "{text:?}");
             assert_eq!(refused(name, &(P3_NODES.to_string() + text)), "18 at 2");
         }
@@ -197,7 +213,7 @@ fn trees_refused() {
         ("node\t1\t0\t5\t-\nnode\t0\t3\t2\t4\n", "16 at 0"),
         ("node\t1\t5\t0\t-\nnode\t0\t2\t3\t4\n", "16 at 1"),
     ] {
-        for name in ["check", "weigh", "assign"] {
+        for name in ["check", "weigh", "assign", "strings"] {
             assert_eq!(refused(name, nodes), refusal, "{nodes:?}");
         }
     }

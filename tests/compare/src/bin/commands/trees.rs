@@ -1,4 +1,4 @@
-//! `assign`, `weigh` and `check`: trees of `node` lines in any order, good and damaged.
+//! `assign`, `weigh`, `check` and `strings`: trees of `node` lines in any order, good and damaged.
 
 use crate::damage::{damage_bytes, damage_field, damage_lines, exchange_fields};
 use crate::inputs::Job;
@@ -114,7 +114,7 @@ fn lines_of(
     node_lines(rows.as_flattened()).into_bytes()
 }
 
-/// Each of the three commands, `assign` by a heuristic that is mostly one.
+/// Each of the commands, `assign` by a heuristic that is mostly one; and the strings of the tree that HATT builds of the terms.
 fn ask_all(
     random: &mut Random,
     kind: &'static str,
@@ -124,16 +124,17 @@ fn ask_all(
 ) {
     let known = random.below(6) > 0;
     let heuristic = random.one_of(if known { &HEURISTICS[..3] } else { &HEURISTICS });
-    for command in ["assign", "weigh", "check"] {
-        // `check` reads no terms, and its starter gives it none
-        let terms = if command == "check" { &[] } else { terms };
+    for command in ["assign", "weigh", "check", "strings", "hatt_strings"] {
+        // what a command doesn't read its starter doesn't give it
+        let reads_terms = !matches!(command, "check" | "strings");
+        let reads_tree = command != "hatt_strings";
         let word = if command == "assign" { heuristic } else { "" };
         ask(Question {
             kind,
             command,
             word: word.to_string(),
-            file: tree.to_vec(),
-            terms: terms.to_vec(),
+            file: if reads_tree { tree.to_vec() } else { vec![] },
+            terms: if reads_terms { terms.to_vec() } else { vec![] },
         });
     }
 }
