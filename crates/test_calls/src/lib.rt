@@ -1,4 +1,4 @@
-// What the tests call from Rust: the calls `resume`, `assign` and the Newick calls, one merge of rows, and what the tree calls answer.
+// What the tests call from Rust: the calls `resume`, `assign`, the Newick calls and `write_strings`, one merge of rows, and what the tree calls answer.
 ghost use Prim.Native.Nat.{_≤_};
 ghost use Rattle.entities.specs.Limits.{«most-terms», «row-width»};
 ghost use Rattle.terms.specs.code.Held.{Held};
@@ -137,9 +137,26 @@ pub extern "C" fn test_write_newick(
     text: &mut [u8],
     answer: &mut [u64],
 ) {
-    match writing::write_newick(modes, tree, text) {
-        TreeWritten::Written(count) => put(answer, 0, 0, count as u64),
-        TreeWritten::Unwritten(refusal) => {
+    put_written(answer, writing::write_newick(modes, tree, text));
+}
+
+// The call `write_strings`, likewise.
+#[no_mangle]
+pub extern "C" fn test_write_strings(
+    modes: usize,
+    tree: &[u16],
+    text: &mut [u8],
+    answer: &mut [u64],
+) {
+    put_written(answer, strings::write_strings(modes, tree, text));
+}
+
+// The call `read_newick` as it is; its refusal's number and place follow, and the modes read.
+#[no_mangle]
+pub extern "C" fn test_read_newick(text: &[u8], table: &mut [u16], answer: &mut [u64]) {
+    match reading::read_newick(text, table) {
+        NewickRead::Read(modes) => put(answer, 0, 0, modes as u64),
+        NewickRead::Unread(refusal) => {
             put(
                 answer,
                 refusal::number(refusal) as u64,
@@ -150,12 +167,11 @@ pub extern "C" fn test_write_newick(
     }
 }
 
-// The call `read_newick` as it is; its refusal's number and place follow, and the modes read.
-#[no_mangle]
-pub extern "C" fn test_read_newick(text: &[u8], table: &mut [u16], answer: &mut [u64]) {
-    match reading::read_newick(text, table) {
-        NewickRead::Read(modes) => put(answer, 0, 0, modes as u64),
-        NewickRead::Unread(refusal) => {
+// What writing a tree answers.
+fn put_written(answer: &mut [u64], written: TreeWritten) {
+    match written {
+        TreeWritten::Written(count) => put(answer, 0, 0, count as u64),
+        TreeWritten::Unwritten(refusal) => {
             put(
                 answer,
                 refusal::number(refusal) as u64,

@@ -20,6 +20,6 @@ pub use commands::command;
 pub use journal::{find_line, hatt, resume, Done};
 pub use newick::{read_newick, write_newick};
 pub use refusal::Refusal;
-pub use strings::strings;
+pub use strings::{strings, write_strings};
 pub use text::program;
 pub use tree::{check_tree, tree_weight};

@@ -1,6 +1,6 @@
 //! The Pauli strings of an accepted tree's Majoranas (docs/02, W-211), found by walking down from the root.
 
-use crate::refusal::Refusal;
+use crate::refusal::{check_rooms, Refusal};
 use crate::tree::{read_tree, Child, Tree};
 
 /// "one record a line: the number, a tab, then n letters I, X, Y, Z by node label".
@@ -13,6 +13,14 @@ pub fn strings(modes: usize, tree: &[u16]) -> Result<String, Refusal> {
     Ok(lines
         .map(|(majorana, string)| format!("{majorana}\t{string}\n"))
         .collect())
+}
+
+/// The same into a lent text: "1, 13 to 16, then 5, as elsewhere". How many bytes were written.
+pub fn write_strings(modes: usize, tree: &[u16], text: &mut [u8]) -> Result<usize, Refusal> {
+    let written = strings(modes, tree)?;
+    check_rooms(&[(text.len(), written.len())])?;
+    text[..written.len()].copy_from_slice(written.as_bytes());
+    Ok(written.len())
 }
 
 /// "A node off the leaf's path gives I, on the path the letter of the edge taken."

@@ -68,6 +68,15 @@ extern "C" {
         answer: *mut u64,
         answer_room: usize,
     );
+    fn test_write_strings(
+        modes: usize,
+        tree: *const u16,
+        codes: usize,
+        text: *mut u8,
+        text_room: usize,
+        answer: *mut u64,
+        answer_room: usize,
+    );
     fn test_read_newick(
         text: *const u8,
         bytes: usize,
@@ -195,12 +204,23 @@ pub fn tree_weight(modes: usize, tree: &[u16], terms: &[u16]) -> [u64; 3] {
     answer
 }
 
-/// Writes the tree into the lent text and returns three numbers: refusal, place, bytes written.
+/// Writes the tree as Newick text into the lent text and returns three numbers: refusal, place, bytes written.
 pub fn write_newick(modes: usize, tree: &[u16], text: &mut [u8]) -> [u64; 3] {
+    write_tree(test_write_newick, modes, tree, text)
+}
+
+/// Writes the tree's strings likewise.
+pub fn write_strings(modes: usize, tree: &[u16], text: &mut [u8]) -> [u64; 3] {
+    write_tree(test_write_strings, modes, tree, text)
+}
+
+type Writer = unsafe extern "C" fn(usize, *const u16, usize, *mut u8, usize, *mut u64, usize);
+
+fn write_tree(writer: Writer, modes: usize, tree: &[u16], text: &mut [u8]) -> [u64; 3] {
     let mut answer = [u64::MAX; 3];
     // The library reads the tree, and writes the two slices within their lengths.
     unsafe {
-        test_write_newick(
+        writer(
             modes,
             tree.as_ptr(),
             tree.len(),

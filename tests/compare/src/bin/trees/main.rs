@@ -4,17 +4,23 @@ mod judges;
 mod tables;
 
 use compare::Kinds;
-use judges::{ours, plainly};
+use judges::{ours, plainly, Told};
 
 fn main() {
     let mut kinds = Kinds::new();
     tables::each(&mut |kind, modes, tree, terms| {
         let sides = [ours(modes, tree, terms), plainly(modes, tree, terms)];
-        // by the plain program: of the check and of the weight
-        let refused = (sides[1][0][0], sides[1][1][0]);
+        // by the plain program: of the check, of the weight and of the strings
+        let Told {
+            check,
+            weight,
+            strings,
+            ..
+        } = &sides[1];
+        let refused = (check[0], weight[0], strings[0]);
         kinds.compare(kind, refused, sides, || {
             format!("modes {modes}, tree {tree:?}, terms {terms:?}")
         });
     });
-    assert_eq!(kinds.print("check and weight refused by"), 0);
+    assert_eq!(kinds.print("check, weight and strings refused by"), 0);
 }
