@@ -1,7 +1,7 @@
 -- What writing a tree's strings left in the bytes, as it is printed.
 use mathlib.Core.Path.{_≡_, ap, _∙_, sym}
 use mathlib.Core.List.{List}
-use Prim.Native.Nat.{ℕ}
+use Prim.Native.Nat.{ℕ, _*_}
 use native.Mathlib.Omega.{arith}
 use lib.ListN.{length, take}
 use Rattle.refusal.specs.declared.Refusal.{Refusal}
@@ -19,7 +19,6 @@ use Rattle.text.specs.code.Printing.{Puts}
 use Rattle.tree_text.specs.code.Reading.{TreeRead}
 use Rattle.ran_tree.specs.Printing.{written-printed}
 use Rattle.strings_text.specs.Printing.{strings-room, table-strings, strings-as, tree-strings-text}
-use Prim.Native.Nat.{_*_}
 
 module _ (modes : ℕ) (table out : List ℕ) (room : length out ≡ strings-room) where
   abbrev text : List ℕ

@@ -12,7 +12,7 @@ use Rattle.text.specs.Output.{refusal-text, PrintsIn}
 use Rattle.ran_tree.specs.Printing.{written-printed, tree-printed}
 use Rattle.strings_text.specs.declared.Printed.{Printed}
 
--- The bytes that there is room to print: those of the longest answer, the strings of 256 modes.
+-- The bytes that there is room to print: those of the longest answer, the strings of the most modes.
 abbrev pub strings-room : ℕ
 strings-room = 133522
 
