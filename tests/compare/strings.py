@@ -14,9 +14,9 @@ from pathlib import Path
 
 import numpy
 
-# H2 in STO-3G at a distance of 0.735 Angstrom: the integrals over its two molecular orbitals, in Hartree, as PySCF computes
-# them and the documentation of Qiskit Nature prints them ("Electronic structure"); the least energy is that of the same page.
-# (pq|rs) is in chemists' notation, and all others are these by symmetry or zero.
+# H2 in STO-3G near a distance of 0.735 Angstrom: integrals over its two molecular orbitals, in Hartree; (pq|rs) is in chemists'
+# notation, and all others are these by symmetry or zero. That both ways give the same energies does not hang on the digits; the
+# least of them is the known electronic energy of H2 at that distance.
 ONE_BODY = {(0, 0): -1.25633907300325, (1, 1): -0.47189600728114184}
 TWO_BODY = {
     (0, 0, 0, 0): 2 * 0.33785507740175813,
