@@ -21,7 +21,7 @@ unfolding rows-after image
 image-or-gone job [] place h = inr refl
 image-or-gone job (merge ∷ history) place h =
     let rewrite = rewriting merge (next-parent (job .modes) history) in
-    let inside = reduced-at merge (next-parent (job .modes) history) (rows-after job history) place (omega (arith, length-rows-after job history)) in
+    let inside = reduced-at (job .rule) merge (next-parent (job .modes) history) (rows-after job history) place (omega (arith, length-rows-after job history)) in
     ⊎-elim
     (λ gone. inl gone)
     (λ here.

@@ -15,7 +15,7 @@ module _ (job : Job) where
   pub length-rows-after : (history : List Triple) → length (rows-after job history) ≡ length (job .terms)
   unfolding rows-after
   length-rows-after [] = refl
-  length-rows-after (merge ∷ history) = length-reduction merge _ (rows-after job history) ∙ length-rows-after history
+  length-rows-after (merge ∷ history) = length-reduction (job .rule) merge _ (rows-after job history) ∙ length-rows-after history
 
   pub weight-in-most : (history : List Triple) (triple : Triple) → weight-in job history triple ≤ length (job .terms)
   unfolding weight-in

@@ -38,7 +38,7 @@ z-end modes [] entity = entity
 z-end modes (merge ∷ history) entity =
     z-end modes history (cond (eqb entity (next-parent modes history)) (merge .z) entity)
 
--- The rows after a history: each merge reduces them to its parent.
+-- The rows after a history: each merge reduces them to its parent by the job's rule.
 unfoldable pub rows-after : Job → List Triple → List (List ℕ)
 rows-after job [] = job .terms
-rows-after job (merge ∷ history) = reduction merge (next-parent (job .modes) history) (rows-after job history)
+rows-after job (merge ∷ history) = reduction (job .rule) merge (next-parent (job .modes) history) (rows-after job history)

@@ -1,6 +1,6 @@
 -- The meaning is document 01's: without their places, the rows of a reduction are those that its sentence tells.
 use mathlib.Core.Path.{_≡_, refl, ap, _∙_}
-use mathlib.Core.Bool.{Bool, true, false, not, _||_}
+use mathlib.Core.Bool.{Bool, true, false, cond, not, _||_}
 use mathlib.Core.List.{List, [], _∷_, _++_, map, append-nil}
 use Prim.Native.Nat.{ℕ, _+_, _<_}
 use native.Mathlib.Omega.{arith}
@@ -11,6 +11,7 @@ use Rattle.lists.specs.Renewed.{renewed-after, renewed}
 use Rattle.lists.proofs.Sums.{sum-of}
 use Rattle.lists.proofs.Kept.{keep-joined}
 use Rattle.entities.specs.declared.Triple.{Triple}
+use Rattle.terms.specs.declared.rules.Rule.{Rule}
 use Rattle.terms.specs.Letters.{letter-of, counted-letter}
 use Rattle.terms.specs.Weight.{term-letter, term-weight, weight-of}
 use Rattle.reduction.specs.Reduction.{sorted, rewriting, dropped, stays, settled, reduced-row, reduction, is-there, live, told-reduction}
@@ -54,13 +55,22 @@ live-more : (front : List (List ℕ)) (term : List ℕ) → 0 < length term → 
 unfolding live is-there keep
 live-more front term h = keep-joined is-there front (term ∷ []) ∙ rw (is-there-so term h)
 
-module _ (triple : Triple) (parent : ℕ) where
+module _ (rule : Rule) (triple : Triple) (parent : ℕ) where
+  -- A row that is gone stays gone, whatever the rule says of its empty term.
+  pub empty-reduced : (before : List (List ℕ)) → reduced-row rule triple parent before [] ≡ []
+  unfolding reduced-row settled rewriting sorted
+  empty-reduced before = go (stays rule parent before [])
+    where
+      go : (b : Bool) → cond {A = List ℕ} b [] [] ≡ []
+      go true = refl
+      go false = refl
+
   -- What the sentence tells of these rows, behind those kept.
   told : List (List ℕ) → List (List ℕ) → List (List ℕ)
-  told kept terms = firsts-after alike kept (keep (λ term. not (dropped parent term)) (map (rewriting triple parent) terms))
+  told kept terms = firsts-after alike kept (keep (λ term. not (dropped rule parent term)) (map (rewriting triple parent) terms))
 
-  abbrev rule : List (List ℕ) → List ℕ → List ℕ
-  rule = reduced-row triple parent
+  abbrev renew : List (List ℕ) → List ℕ → List ℕ
+  renew = reduced-row rule triple parent
 
   abbrev new-term : ℕ → List ℕ → List ℕ
   new-term index term = rewriting triple parent (index ∷ term)
@@ -70,10 +80,10 @@ module _ (triple : Triple) (parent : ℕ) where
 
   -- A row that goes leaves those kept as they are, and one that stays is kept behind them.
   module _ (front terms : List (List ℕ)) (index : ℕ) (term : List ℕ)
-      (goes : live (renewed-after rule (front ++ ([] ∷ [])) terms) ≡ told (live front) (live terms))
-      (stays-there : live (renewed-after rule (front ++ (new-term index term ∷ [])) terms) ≡ told (live front ++ (new-term index term ∷ [])) (live terms)) where
-    passed-one : (d : Bool) → dropped parent (new-term index term) ≡ d → (s : Bool) → some-of (alike (new-term index term)) front ≡ s
-        → live (renewed-after rule front ((index ∷ term) ∷ terms)) ≡ told (live front) (live ((index ∷ term) ∷ terms))
+      (goes : live (renewed-after renew (front ++ ([] ∷ [])) terms) ≡ told (live front) (live terms))
+      (stays-there : live (renewed-after renew (front ++ (new-term index term ∷ [])) terms) ≡ told (live front ++ (new-term index term ∷ [])) (live terms)) where
+    passed-one : (d : Bool) → dropped rule parent (new-term index term) ≡ d → (s : Bool) → some-of (alike (new-term index term)) front ≡ s
+        → live (renewed-after renew front ((index ∷ term) ∷ terms)) ≡ told (live front) (live ((index ∷ term) ∷ terms))
     unfolding told live is-there keep renewed-after reduced-row settled stays firsts-after
     passed-one true e s f = rw e goes
     passed-one false e true f = rw (e, f, some-live (new-term index term) (there index term) front ∙ f, append-nil (live front)) goes
@@ -81,17 +91,22 @@ module _ (triple : Triple) (parent : ℕ) where
         rw (e, f, some-live (new-term index term) (there index term) front ∙ f, is-there-so (new-term index term) (there index term))
         (ap (λ l. new-term index term ∷ l) stays-there)
 
-  passed-live : (front terms : List (List ℕ)) → live (renewed-after rule front terms) ≡ told (live front) (live terms)
-  unfolding told live is-there keep renewed-after reduced-row settled stays firsts-after rewriting sorted dropped every
+  gone-passed : (front terms : List (List ℕ)) → live (renewed-after renew front ([] ∷ terms)) ≡ live (renewed-after renew (front ++ ([] ∷ [])) terms)
+  unfolding renewed-after live is-there keep
+  gone-passed front terms = rw (empty-reduced front) refl
+
+  passed-live : (front terms : List (List ℕ)) → live (renewed-after renew front terms) ≡ told (live front) (live terms)
+  unfolding told live is-there keep renewed-after firsts-after
   passed-live front [] = refl
-  passed-live front ([] ∷ terms) = passed-live (front ++ ([] ∷ [])) terms ∙ ap (λ kept. told kept (live terms)) (live-gone front)
+  passed-live front ([] ∷ terms) =
+      gone-passed front terms ∙ passed-live (front ++ ([] ∷ [])) terms ∙ ap (λ kept. told kept (live terms)) (live-gone front)
   passed-live front ((index ∷ term) ∷ terms) =
       passed-one front terms index term
       (passed-live (front ++ ([] ∷ [])) terms ∙ ap (λ kept. told kept (live terms)) (live-gone front))
       (passed-live (front ++ (new-term index term ∷ [])) terms
       ∙ ap (λ kept. told kept (live terms)) (live-more front (new-term index term) (there index term)))
-      (dropped parent (new-term index term)) refl (some-of (alike (new-term index term)) front) refl
+      (dropped rule parent (new-term index term)) refl (some-of (alike (new-term index term)) front) refl
 
-  pub as-told : (terms : List (List ℕ)) → live (reduction triple parent terms) ≡ told-reduction triple parent (live terms)
+  pub as-told : (terms : List (List ℕ)) → live (reduction rule triple parent terms) ≡ told-reduction rule triple parent (live terms)
   unfolding told reduction renewed told-reduction firsts live keep
   as-told terms = passed-live [] terms

@@ -13,56 +13,57 @@ use Rattle.lists.proofs.Firsts.{none-at}
 use Rattle.lists.proofs.Renewed.{length-renewed, renewed-at}
 use Rattle.lists.proofs.Tests.{both, not-so}
 use Rattle.entities.specs.declared.Triple.{Triple}
+use Rattle.terms.specs.declared.rules.Rule.{Rule}
 use Rattle.reduction.specs.Reduction.{rewriting, dropped, stays, settled, reduced-row, reduction}
 
-module _ (triple : Triple) (parent : ℕ) (terms : List (List ℕ)) where
-  pub length-reduction : length (reduction triple parent terms) ≡ length terms
+module _ (rule : Rule) (triple : Triple) (parent : ℕ) (terms : List (List ℕ)) where
+  pub length-reduction : length (reduction rule triple parent terms) ≡ length terms
   unfolding reduction
-  length-reduction = length-renewed (reduced-row triple parent) terms
+  length-reduction = length-renewed (reduced-row rule triple parent) terms
 
   -- The rows before a place are reduced already, and what stands there is settled beside them.
   module _ (place : ℕ) (inside : place < length terms) where
     abbrev before : List (List ℕ)
-    before = take place (reduction triple parent terms)
+    before = take place (reduction rule triple parent terms)
 
     abbrev new : List ℕ
     new = rewriting triple parent (getD terms place [])
 
     abbrev here : List ℕ
-    here = getD (reduction triple parent terms) place []
+    here = getD (reduction rule triple parent terms) place []
 
-    here-is : here ≡ settled parent before new
+    here-is : here ≡ settled rule parent before new
     unfolding reduction reduced-row
-    here-is = renewed-at (reduced-row triple parent) terms place [] inside
+    here-is = renewed-at (reduced-row rule triple parent) terms place [] inside
 
-    gone : stays parent before new ≡ false → here ≡ []
+    gone : stays rule parent before new ≡ false → here ≡ []
     unfolding settled
     gone e = here-is ∙ rw e
 
-    there : stays parent before new ≡ true → here ≡ new
+    there : stays rule parent before new ≡ true → here ≡ new
     unfolding settled
     there e = here-is ∙ rw e
 
     pub reduced-at : (here ≡ []) ⊎ (here ≡ new)
-    reduced-at = go (stays parent before new) refl
+    reduced-at = go (stays rule parent before new) refl
       where
-        go : (b : Bool) → stays parent before new ≡ b → (here ≡ []) ⊎ (here ≡ new)
+        go : (b : Bool) → stays rule parent before new ≡ b → (here ≡ []) ⊎ (here ≡ new)
         go false e = inl (gone e)
         go true e = inr (there e)
 
-    none-before : stays parent before new ≡ true → some-of (alike new) before ≡ false
+    none-before : stays rule parent before new ≡ true → some-of (alike new) before ≡ false
     unfolding stays
-    none-before e = not-so _ (λ found. true≢false (sym (both (not (dropped parent new)) _ e .1) ∙ ap not found))
+    none-before e = not-so _ (λ found. true≢false (sym (both (not (dropped rule parent new)) _ e .1) ∙ ap not found))
 
     pub no-two-equal : (earlier : ℕ) → earlier < place → 0 < length here
-        → getD (reduction triple parent terms) earlier [] ≡ here → ⊥
-    no-two-equal earlier h some same = go (stays parent before new) refl
+        → getD (reduction rule triple parent terms) earlier [] ≡ here → ⊥
+    no-two-equal earlier h some same = go (stays rule parent before new) refl
       where
-        go : (b : Bool) → stays parent before new ≡ b → ⊥
+        go : (b : Bool) → stays rule parent before new ≡ b → ⊥
         go false e = absurd (omega (arith, some, ap length (gone e)))
         go true e =
-            let all : length before ≡ place = length-take-le place (reduction triple parent terms) (omega (arith, length-reduction)) in
-            let other : getD before earlier [] ≡ new = getD-take place (reduction triple parent terms) earlier [] h ∙ same ∙ there e in
+            let all : length before ≡ place = length-take-le place (reduction rule triple parent terms) (omega (arith, length-reduction)) in
+            let other : getD before earlier [] ≡ new = getD-take place (reduction rule triple parent terms) earlier [] h ∙ same ∙ there e in
             true≢false
             (sym (alike-self new)
             ∙ ap (alike new) (sym other)

@@ -8,15 +8,16 @@ use native.Mathlib.Omega.{arith}
 use borrow.Author.Count.{below-more}
 use lib.ListN.{length, getD, take, drop, replicate, length-take, length-drop, take-append-drop}
 use lib.Seq.{drop-drop}
-use Rattle.lists.specs.Members.{every}
 use Rattle.lists.specs.Written.{written-at}
 use Rattle.lists.proofs.Written.{length-written, take-written, part-written, drop-written, getD-before, getD-within}
 use Rattle.entities.specs.declared.Triple.{Triple}
+use Rattle.terms.specs.declared.rules.Rule.{Rule}
 use Rattle.terms.specs.Rows.{term, terms-of}
 use Rattle.terms.specs.code.Held.{Held}
 use Rattle.terms.proofs.RowSteps.{row-length, row-first, length-term, row-front, terms-front, terms-more, held-fewer}
-use Rattle.reduction.specs.Reduction.{sorted, rewriting, dropped, stays, settled, reduced-row}
+use Rattle.reduction.specs.Reduction.{stays, settled, reduced-row}
 use Rattle.reduction.specs.code.Promises.{Rewritten, RowBecame, RowSettled, RowReduced}
+use Rattle.reduction.proofs.AsTold.{empty-reduced}
 
 -- What stands there written back leaves everything as it is.
 written-back : (place count : ℕ) (s : List ℕ) → place + count ≤ length s → written-at place (take count (drop place s)) s ≡ s
@@ -35,11 +36,6 @@ written-over place part other s room same =
 pub no-term : (row : List ℕ) → getD row 0 0 ≡ 0 → term row ≡ []
 unfolding term
 no-term row none = rw none
-
--- The empty term doesn't stay.
-pub empty-goes : (parent : ℕ) (before : List (List ℕ)) → stays parent before [] ≡ false
-unfolding stays dropped every
-empty-goes parent before = refl
 
 -- The rows after one was written behind so many others.
 module _ (place : ℕ) (before row : List ℕ) (held : Held 8 place before) (room : 8 * place + 8 ≤ length before) (whole : length row ≡ 8) where
@@ -113,13 +109,13 @@ module _ (place : ℕ) (rows : List ℕ) (held : Held 8 (place + 1) rows) where
       }
 
   -- Settled, it is left or cleared.
-  module _ (parent : ℕ) where
-    pub row-stays : stays parent (terms-of 8 place rows) (term here) ≡ true → RowSettled parent place rows rows
+  module _ (rule : Rule) (parent : ℕ) where
+    pub row-stays : stays rule parent (terms-of 8 place rows) (term here) ≡ true → RowSettled rule parent place rows rows
     unfolding settled
     row-stays e = rw e left-alone
 
-    pub row-goes : stays parent (terms-of 8 place rows) (term here) ≡ false
-        → RowSettled parent place rows (written-at (8 * place) (replicate 8 0) rows)
+    pub row-goes : stays rule parent (terms-of 8 place rows) (term here) ≡ false
+        → RowSettled rule parent place rows (written-at (8 * place) (replicate 8 0) rows)
     unfolding settled term
     row-goes e = record { row = replicate 8 0; whole = refl; new-term = rw e; within = omega arith; zeros = λ none. refl; put = refl }
 
@@ -127,17 +123,16 @@ module _ (place : ℕ) (rows : List ℕ) (held : Held 8 (place + 1) rows) where
   unfolding term
   cleared-terms = put-terms place rows (replicate 8 0) (held-fewer 8 place (place + 1) rows (omega arith) held) room-here refl
 
-  module _ (triple : Triple) (parent : ℕ) where
+  module _ (rule : Rule) (triple : Triple) (parent : ℕ) where
     -- Where it is gone already, it is reduced as it is.
     module _ (none : getD rows (8 * place) 0 ≡ 0) where
       pub gone-term : term here ≡ []
       gone-term = no-term here (first-here ∙ none)
 
-      pub stays-gone : RowReduced triple parent place rows rows
-      unfolding reduced-row settled rewriting sorted
+      pub stays-gone : RowReduced rule triple parent place rows rows
       stays-gone =
-          let e : reduced-row triple parent (terms-of 8 place rows) (term here) ≡ term here =
-          rw (gone-term, empty-goes parent (terms-of 8 place rows)) refl in
+          let e : reduced-row rule triple parent (terms-of 8 place rows) (term here) ≡ term here =
+          rw gone-term (empty-reduced rule triple parent (terms-of 8 place rows)) in
           rw e left-alone
 
     -- Else its term is rewritten first, and the row that this makes is settled.
@@ -165,7 +160,7 @@ module _ (place : ℕ) (rows : List ℕ) (held : Held 8 (place + 1) rows) where
           let long = length-term row (rw (whole, r .same-length, first-here) (held .within place (omega arith))) in
           rw between-row (omega (arith, long, r .same-length, first-here, some))
 
-      pub then-settled : (later : List ℕ) → RowSettled parent place between later → RowReduced triple parent place rows later
+      pub then-settled : (later : List ℕ) → RowSettled rule parent place between later → RowReduced rule triple parent place rows later
       unfolding reduced-row
       then-settled later s =
           record {

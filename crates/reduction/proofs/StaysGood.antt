@@ -8,6 +8,7 @@ use lib.Dec.{eqb, ltb}
 use Rattle.lists.specs.Members.{every, alike, firsts}
 use Rattle.lists.proofs.Every.{every-kept, every-first, every-mapped}
 use Rattle.entities.specs.declared.Triple.{Triple}
+use Rattle.terms.specs.declared.rules.Rule.{Rule}
 use Rattle.terms.specs.Good.{good-term}
 use Rattle.terms.proofs.GoodTerms.{good-term-says, good-term-from}
 use Rattle.reduction.specs.Reduction.{replacement, rewriting, dropped, reduction, live, told-reduction}
@@ -16,7 +17,7 @@ use Rattle.reduction.proofs.SortedRight.{ascends-sorted, every-sorted}
 use Rattle.reduction.proofs.AsTold.{as-told}
 
 -- Reduction: the length stays, the numbers are sorted, and each is one that was there or the parent.
-module _ (bound : ℕ) (triple : Triple) (parent : ℕ) (below : parent < bound) where
+module _ (rule : Rule) (bound : ℕ) (triple : Triple) (parent : ℕ) (below : parent < bound) where
   chosen-below : (b : Bool) (other : ℕ) → ltb other bound ≡ true → ltb (cond b parent other) bound ≡ true
   chosen-below true other e = lt-ltb parent bound below
   chosen-below false other e = e
@@ -43,10 +44,10 @@ module _ (bound : ℕ) (triple : Triple) (parent : ℕ) (below : parent < bound)
       })
 
   pub reduction-good : (terms : List (List ℕ)) → every (good-term bound) (live terms) ≡ true
-      → every (good-term bound) (live (reduction triple parent terms)) ≡ true
+      → every (good-term bound) (live (reduction rule triple parent terms)) ≡ true
   unfolding told-reduction firsts
   reduction-good terms e =
-      rw (as-told triple parent terms)
+      rw (as-told rule triple parent terms)
       (every-first (good-term bound) alike [] _
-      (every-kept (good-term bound) (λ term. not (dropped parent term)) _
+      (every-kept (good-term bound) (λ term. not (dropped rule parent term)) _
       (every-mapped (good-term bound) (good-term bound) (rewriting triple parent) rewriting-good (live terms) e)))

@@ -1,4 +1,4 @@
-// Reduction: the triple becomes its parent in every row, rows that are all parent are dropped, equal rows become one.
+// Reduction: the triple becomes its parent in every row, rows that are all parent are dropped if the rule drops them, equal rows become one.
 ghost use mathlib.Core.Bool.{true};
 ghost use mathlib.Core.Path.{_≡_};
 ghost use Prim.Native.Nat.{_+_, _*_, _≤_, _<_};
@@ -8,11 +8,12 @@ ghost use Rattle.lists.specs.Written.{«written-at»};
 ghost use Rattle.entities.specs.Limits.{«most-terms», «row-width»};
 ghost use Rattle.terms.specs.Rows.{«terms-of»};
 ghost use Rattle.terms.specs.code.Held.{Held};
-ghost use Rattle.reduction.specs.Reduction.{replacement, «put-in», rewriting, stays};
+ghost use Rattle.reduction.specs.Reduction.{replacement, «put-in», rewriting, dropped, stays};
 ghost use Rattle.reduction.specs.code.Promises.{«term-at», Rewritten, RowSettled, RowReduced, Reduced};
 ghost use Rattle.reduction.specs.code.Marks.{«mark-room», Chained};
 use entities::Triple;
 use terms::row;
+use terms::rules::Rule;
 use terms::slices;
 
 mod kept_rows;
@@ -75,15 +76,31 @@ fn rewrite_row(row: &mut [u16], triple: Triple, parent: u16)
     rewrite(&mut row[1..end], triple, parent);
 }
 
-// The term of the row at this place is not all parent, and none of the rows before it has it.
-fn survives<'a>(rows: &'a [u16], place: usize, chains: &'a [u16], parent: u16) -> bool
+// The rule drops rows that are all parent, and this term is.
+fn is_dropped(rule: Rule, parent: u16, term: &[u16]) -> bool
+    ensures { λ r. ⌜ r ≡ dropped rule parent (now (term .entry)) ⌝ }
+{
+    match rule {
+        Rule::Published => slices::all_are(term, parent),
+        Rule::Keep => false,
+    }
+}
+
+// The term of the row at this place is not dropped, and none of the rows before it has it.
+fn survives<'a>(
+    rows: &'a [u16],
+    place: usize,
+    chains: &'a [u16],
+    rule: Rule,
+    parent: u16,
+) -> bool
     requires { ⌜ Held row-width (place + 1) (now rows) ⌝ }
     requires { ⌜ Chained mark-room most-terms (terms-of row-width place (now rows)) (now chains) ⌝ }
     requires { ⌜ 0 < length (term-at place (now rows)) ⌝ }
-    ensures { λ r. ⌜ r ≡ stays parent (terms-of row-width place (now (rows .entry))) (term-at place (now (rows .entry))) ⌝ }
+    ensures { λ r. ⌜ r ≡ stays rule parent (terms-of row-width place (now (rows .entry))) (term-at place (now (rows .entry))) ⌝ }
 {
     let term = row::term_at(rows, place);
-    if slices::all_are(term, parent) {
+    if is_dropped(rule, parent, term) {
         return false;
     }
     !kept_rows::is_kept(rows, place, chains, term)
@@ -100,15 +117,15 @@ fn clear_row(rows: &mut [u16], place: usize)
 }
 
 // The row at this place left as it is where its term stays, and put on its mark's chain; else made zeros.
-fn settle_row(rows: &mut [u16], chains: &mut [u16], place: usize, parent: u16)
+fn settle_row(rows: &mut [u16], chains: &mut [u16], place: usize, rule: Rule, parent: u16)
     requires { ⌜ Held row-width (place + 1) (now rows) ⌝ }
     requires { ⌜ Chained mark-room most-terms (terms-of row-width place (now rows)) (now chains) ⌝ }
     requires { ⌜ 0 < length (term-at place (now rows)) ⌝ }
     requires { ⌜ place < most-terms ⌝ }
-    ensures { λ r. ⌜ RowSettled parent place (now (rows .entry)) (now (rows .exit)) ⌝ }
+    ensures { λ r. ⌜ RowSettled rule parent place (now (rows .entry)) (now (rows .exit)) ⌝ }
     ensures { λ r. ⌜ Chained mark-room most-terms (terms-of row-width (place + 1) (now (rows .exit))) (now (chains .exit)) ⌝ }
 {
-    if survives(rows, place, chains, parent) {
+    if survives(rows, place, chains, rule, parent) {
         kept_rows::set_mark(chains, row::term_at(rows, place), place);
         return;
     }
@@ -116,11 +133,18 @@ fn settle_row(rows: &mut [u16], chains: &mut [u16], place: usize, parent: u16)
 }
 
 // The row at this place reduced where it stands, and put on a chain where it stays.
-fn reduce_row(rows: &mut [u16], chains: &mut [u16], place: usize, triple: Triple, parent: u16)
+fn reduce_row(
+    rows: &mut [u16],
+    chains: &mut [u16],
+    place: usize,
+    rule: Rule,
+    triple: Triple,
+    parent: u16,
+)
     requires { ⌜ Held row-width (place + 1) (now rows) ⌝ }
     requires { ⌜ Chained mark-room most-terms (terms-of row-width place (now rows)) (now chains) ⌝ }
     requires { ⌜ place < most-terms ⌝ }
-    ensures { λ r. ⌜ RowReduced triple parent place (now (rows .entry)) (now (rows .exit)) ⌝ }
+    ensures { λ r. ⌜ RowReduced rule triple parent place (now (rows .entry)) (now (rows .exit)) ⌝ }
     ensures { λ r. ⌜ Chained mark-room most-terms (terms-of row-width (place + 1) (now (rows .exit))) (now (chains .exit)) ⌝ }
 {
     let from = 8 * place;
@@ -130,20 +154,26 @@ fn reduce_row(rows: &mut [u16], chains: &mut [u16], place: usize, triple: Triple
     }
     let end = from + 8;
     rewrite_row(&mut rows[from..end], triple, parent);
-    settle_row(rows, chains, place, parent);
+    settle_row(rows, chains, place, rule, parent);
 }
 
-// The first rows reduced to the parent, each where it stands; a row that is dropped or merged is zeros there.
-pub fn reduce_hamiltonian(rows: &mut [u16], count: usize, parent: u16, selection: Triple)
+// The first rows reduced to the parent by the rule, each where it stands; a row that is dropped or merged is zeros there.
+pub fn reduce_hamiltonian(
+    rows: &mut [u16],
+    count: usize,
+    rule: Rule,
+    parent: u16,
+    selection: Triple,
+)
     requires { ⌜ Held row-width count (now rows) ⌝ }
     requires { ⌜ count ≤ most-terms ⌝ }
-    ensures { λ r. ⌜ Reduced selection parent count (now (rows .entry)) (now (rows .exit)) ⌝ }
+    ensures { λ r. ⌜ Reduced rule selection parent count (now (rows .entry)) (now (rows .exit)) ⌝ }
 {
     // a number for each mark and one for each place; no row is passed yet, so no chain has begun
     let mut chains = [0u16; 18432];
     let mut place = 0;
     while place < count {
-        reduce_row(rows, &mut chains, place, selection, parent);
+        reduce_row(rows, &mut chains, place, rule, selection, parent);
         place += 1;
     }
 }

@@ -1,4 +1,4 @@
--- "Each returns its number and a place": the table of document 01, "Refusal numbers", a line for each refusal, and document 02's 19.
+-- "Each returns its number and a place": the table of document 01, "Refusal numbers", a line for each refusal, and document 02's 19 and 20.
 use mathlib.Core.Path.{_≡_}
 use mathlib.Core.List.{List, _∷_}
 use Prim.Native.Nat.{ℕ}
@@ -24,6 +24,7 @@ use Rattle.refusal.specs.declared.Refusal.the-variants.{
   Heuristic,
   Malformed,
   NewickForm,
+  Rule,
   TooManyNodes,
 }
 
@@ -48,6 +49,7 @@ table (WrongPair pair) = (16, pair)
 table Heuristic = (17, 0)
 table (Malformed line) = (18, line)
 table (NewickForm byte) = (19, byte)
+table Rule = (20, 0)
 table (TooManyNodes byte) = (1, byte)
 
 abbrev pub numberOf : Refusal → ℕ

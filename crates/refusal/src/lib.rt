@@ -15,7 +15,7 @@ pub enum Refusal {
     Room,
     // 6: the line breaks the form
     LineForm(usize),
-    // 7: the header's modes or terms differ
+    // 7: the header's rule, modes or terms differ
     Header,
     // 8: the line's step isn't the next
     StepNotNext(usize),
@@ -41,6 +41,8 @@ pub enum Refusal {
     Malformed(usize),
     // 19: the first byte that no Newick text can go on with, or the text's end
     NewickForm(usize),
+    // 20: no rule of reduction has this number
+    Rule,
     // 1 again, of a Newick text: the `(` of the first node beyond 256
     TooManyNodes(usize),
 }
@@ -69,6 +71,7 @@ pub fn number(refusal: Refusal) -> usize
         Refusal::Heuristic => 17,
         Refusal::Malformed(_) => 18,
         Refusal::NewickForm(_) => 19,
+        Refusal::Rule => 20,
         Refusal::TooManyNodes(_) => 1,
     }
 }
@@ -97,6 +100,7 @@ pub fn place(refusal: Refusal) -> usize
         Refusal::Heuristic => 0,
         Refusal::Malformed(line) => line,
         Refusal::NewickForm(byte) => byte,
+        Refusal::Rule => 0,
         Refusal::TooManyNodes(byte) => byte,
     }
 }

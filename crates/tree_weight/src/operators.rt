@@ -9,6 +9,7 @@ ghost use Rattle.tree_weight.specs.code.Promises.{AscendingRows, IndexPu
 use entities::Triple;
 use entities::codes;
 use terms::row;
+use terms::rules::Rule;
 
 // The index put behind so many of the row; where it is the last of them, both are gone. How many there are then.
 fn put_index(row: &mut [u16], count: usize, index: u16) -> usize
@@ -60,7 +61,7 @@ fn put_surviving(terms: &[u16], count: usize, own: &mut [u16])
     }
 }
 
-// The operators of the first rows, over the front of other numbers. Equal rows become one as in a reduction, here to a number that stands in no row.
+// The operators of the first rows, over the front of other numbers. Equal rows become one as in a reduction that keeps every row, here to a number that stands in none.
 fn put_operators(terms: &[u16], count: usize, own: &mut [u16])
     requires { ⌜ AscendingRows count (now terms) ⌝ }
     requires { ⌜ row-width * count ≤ length (now own) ⌝ }
@@ -72,7 +73,7 @@ fn put_operators(terms: &[u16], count: usize, own: &mut [u16])
         y: codes::ABSENT,
         z: codes::ABSENT,
     };
-    reduction::reduce_hamiltonian(own, count, codes::ABSENT, nothing);
+    reduction::reduce_hamiltonian(own, count, Rule::Keep, codes::ABSENT, nothing);
 }
 
 // The operators of the first rows, in an array of the caller's own; a row that is no new one is zeros.

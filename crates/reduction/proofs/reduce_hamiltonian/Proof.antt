@@ -11,17 +11,17 @@ use Rattle.reduction.proofs.reduce_hamiltonian.Statement.{statement}
 use Rattle.reduction.proofs.reduce_hamiltonian.Tie as tie
 
 abbrev Inv-loop : tie.InvT-loop
-Inv-loop rows₀ count parent selection chains₀ place₀ rows chains place =
-    Passing selection parent count rows₀ rows place × Chained 16384 2048 (terms-of 8 place rows) chains
+Inv-loop rows₀ count rule parent selection chains₀ place₀ rows chains place =
+    Passing rule selection parent count rows₀ rows place × Chained 16384 2048 (terms-of 8 place rows) chains
 
 abbrev μ-loop : tie.MeasureT-loop
-μ-loop rows₀ count parent selection chains₀ place₀ rows chains place = count - place
+μ-loop rows₀ count rule parent selection chains₀ place₀ rows chains place = count - place
 
 loop-holds : tie.Need-loop-holds Inv-loop μ-loop
 unfolding terms-of rows-of
 loop-holds c =
     let args = c .before .args in
-    (passing-starts (args .selection) (args .parent) (args .count) (args .rows .now), chained-starts 16384 2048 _ refl)
+    (passing-starts (args .rule) (args .selection) (args .parent) (args .count) (args .rows .now), chained-starts 16384 2048 _ refl)
 
 slice-aggregate-reduce-row : tie.Need-slice-aggregate-reduce-row Inv-loop μ-loop
 slice-aggregate-reduce-row c = search needs
@@ -31,7 +31,7 @@ reduce-row-requires c κs =
     let here = c .before .before .before in
     let start = here .before .before in
     let args = start .args in (
-      next-held (args .selection) (args .parent) (args .count) (args .rows .now) (start .pre .0) _ _ (here .loop .inv .0)
+      next-held (args .rule) (args .selection) (args .parent) (args .count) (args .rows .now) (start .pre .0) _ _ (here .loop .inv .0)
           (c .before .before .loop-test .taken),
       (here .loop .inv .1, omega (arith, start .pre .1)),
     )
@@ -49,7 +49,7 @@ loop-again c =
     let start = here .before .before in
     let args = start .args in
     let reduced = called .reduce-row in (
-      passing-on (args .selection) (args .parent) (args .count) (args .rows .now) (start .pre .0) _ _ (here .loop .inv .0)
+      passing-on (args .rule) (args .selection) (args .parent) (args .count) (args .rows .now) (start .pre .0) _ _ (here .loop .inv .0)
           (called .before .before .before .loop-test .taken) _ (reduced .ensures .0),
       reduced .ensures .1,
     )
@@ -63,7 +63,7 @@ returns c =
     let start = here .before .before in
     let args = start .args in
     let p = here .loop .inv .0 in
-    passing-ends (args .selection) (args .parent) (args .count) (args .rows .now) (start .pre .0) _ _ p
+    passing-ends (args .rule) (args .selection) (args .parent) (args .count) (args .rows .now) (start .pre .0) _ _ p
     (omega (arith, p .inside, c .loop-test .left))
 
 pub reduce-hamiltonian-spec : {M : Type 1} → statement M

@@ -51,9 +51,9 @@ returns c =
     let args = start .args in
     let rows = args .rows .now in
     let none = c .if1 .taken in (
-      stays-gone (args .place) rows (start .pre .0) (args .triple) (args .parent) none,
+      stays-gone (args .place) rows (start .pre .0) (args .rule) (args .triple) (args .parent) none,
       row-gone 16384 2048 8 (args .place) rows (args .chains .now) (start .pre .1 .0) (start .pre .1 .1) rows
-          (rw (terms-more 8 (args .place) rows, gone-term (args .place) rows (start .pre .0) (args .triple) (args .parent) none)),
+          (rw (terms-more 8 (args .place) rows, gone-term (args .place) rows (start .pre .0) (args .rule) (args .triple) (args .parent) none)),
     )
 
 add-end : tie.Need-add-end
@@ -89,10 +89,10 @@ settle-row-requires c κs =
     let some = made .before .before .if1 .left in
     let row = made .rewrite-row .last .0 in
     rw (put-back made) (
-      between-held (args .place) rows held (args .triple) (args .parent) some row (whole-row made) (row-rewritten made),
+      between-held (args .place) rows held (args .rule) (args .triple) (args .parent) some row (whole-row made) (row-rewritten made),
       (
-        rw (between-terms (args .place) rows held (args .triple) (args .parent) some row (whole-row made) (row-rewritten made)) (start .pre .1 .0),
-        (between-there (args .place) rows held (args .triple) (args .parent) some row (whole-row made) (row-rewritten made), start .pre .1 .1),
+        rw (between-terms (args .place) rows held (args .rule) (args .triple) (args .parent) some row (whole-row made) (row-rewritten made)) (start .pre .1 .0),
+        (between-there (args .place) rows held (args .rule) (args .triple) (args .parent) some row (whole-row made) (row-rewritten made), start .pre .1 .1),
       ),
     )
 
@@ -108,7 +108,7 @@ returns-2 c =
     let made = settled .before .before .before .before .before in
     let start = made .before .before .before .before .before .before in
     let args = start .args in (
-      then-settled (args .place) (args .rows .now) (start .pre .0) (args .triple) (args .parent) (made .before .before .if1 .left)
+      then-settled (args .place) (args .rows .now) (start .pre .0) (args .rule) (args .triple) (args .parent) (made .before .before .if1 .left)
           (made .rewrite-row .last .0) (whole-row made) (row-rewritten made) (settled .settle-row .last .0)
           (rw (put-back made) at (settled .settle-row .ensures .0)),
       settled .settle-row .ensures .1,

@@ -30,7 +30,7 @@ returns c =
     let start = judged .before .before .before .before .before in
     let place = start .args .place in
     let rows = start .args .rows .now in (
-      row-stays place rows (start .pre .0) (start .args .parent)
+      row-stays place rows (start .pre .0) (start .args .rule) (start .args .parent)
           (rw (judged .survives .ensures) at (marked .before .before .before .before .if1 .taken)),
       rw (marked .set-mark .ensures, marked .before .term-at .ensures)
           (row-chained 16384 2048 8 place rows (start .args .chains .now) (start .pre .1 .0) (start .pre .1 .1 .1) (omega arith) (start .pre .1 .1 .0)),
@@ -53,7 +53,7 @@ returns-2 c =
     let place = start .args .place in
     let rows = start .args .rows .now in (
       rw (cleared .clear-row .ensures)
-          (row-goes place rows (start .pre .0) (start .args .parent) (rw (judged .survives .ensures) at (cleared .before .before .if1 .left))),
+          (row-goes place rows (start .pre .0) (start .args .rule) (start .args .parent) (rw (judged .survives .ensures) at (cleared .before .before .if1 .left))),
       rw (cleared .clear-row .ensures)
           (row-gone 16384 2048 8 place rows (start .args .chains .now) (start .pre .1 .0) (start .pre .1 .1 .1) _ (cleared-terms place rows (start .pre .0))),
     )

@@ -3,7 +3,7 @@ use Prim.Native.Nat.{_+_}
 use native.Mathlib.Omega.{arith}
 use borrow.Author.Needs.{needs}
 use Rattle.terms.proofs.RowSteps.{held-fewer}
-use Rattle.reduction.specs.Reduction.{stays, dropped}
+use Rattle.reduction.specs.Reduction.{stays}
 use Rattle.reduction.proofs.survives.Statement.{statement}
 use Rattle.reduction.proofs.survives.Tie as tie
 
@@ -12,12 +12,12 @@ term-at-requires c κs =
     let start = c .before .before in
     (omega (arith, start .pre .0 .room), start .pre .0 .within (start .args .place) (omega arith))
 
-all-are-requires : tie.Need-all-are-requires
-all-are-requires c κs = search needs
+is-dropped-requires : tie.Need-is-dropped-requires
+is-dropped-requires c κs = search needs
 
 returns : tie.Need-returns
-unfolding stays dropped
-returns c = rw (← c .before .before .term-at .ensures, ← c .before .all-are .ensures, c .if1 .taken)
+unfolding stays
+returns c = rw (← c .before .before .term-at .ensures, ← c .before .is-dropped .ensures, c .if1 .taken)
 
 is-kept-requires : tie.Need-is-kept-requires
 is-kept-requires c κs =
@@ -27,10 +27,10 @@ is-kept-requires c κs =
     )
 
 returns-2 : tie.Need-returns-2
-unfolding stays dropped
+unfolding stays
 returns-2 c =
-    rw (← c .before .before .before .term-at .ensures, ← c .before .before .all-are .ensures, c .before .if1 .left, ← c .is-kept .ensures)
+    rw (← c .before .before .before .term-at .ensures, ← c .before .before .is-dropped .ensures, c .before .if1 .left, ← c .is-kept .ensures)
 
 pub survives-spec : {M : Type 1} → statement M
 survives-spec =
-    tie.close (tie.spec term-at-requires all-are-requires returns is-kept-requires returns-2)
+    tie.close (tie.spec term-at-requires is-dropped-requires returns is-kept-requires returns-2)

@@ -5,6 +5,7 @@ use Prim.Native.Nat.{ℕ, _+_, _*_, _<_, _≤_}
 use lib.ListN.{length, getD, take, drop, replicate}
 use Rattle.lists.specs.Written.{written-at}
 use Rattle.entities.specs.declared.Triple.{Triple}
+use Rattle.terms.specs.declared.rules.Rule.{Rule}
 use Rattle.entities.specs.Limits.{row-width}
 use Rattle.terms.specs.Rows.{term, terms-of}
 use Rattle.terms.specs.code.Held.{Held}
@@ -29,18 +30,18 @@ pub record RowBecame (place : ℕ) (new : List ℕ) (before after : List ℕ) : 
   pub put : after ≡ written-at (row-width * place) row before
 
 -- One row settled beside the rows before it.
-abbrev pub RowSettled : ℕ → ℕ → List ℕ → List ℕ → Type 0
-RowSettled parent place before after =
-    RowBecame place (settled parent (terms-of row-width place before) (term-at place before)) before after
+abbrev pub RowSettled : Rule → ℕ → ℕ → List ℕ → List ℕ → Type 0
+RowSettled rule parent place before after =
+    RowBecame place (settled rule parent (terms-of row-width place before) (term-at place before)) before after
 
 -- One row reduced beside the rows before it.
-abbrev pub RowReduced : Triple → ℕ → ℕ → List ℕ → List ℕ → Type 0
-RowReduced triple parent place before after =
-    RowBecame place (reduced-row triple parent (terms-of row-width place before) (term-at place before)) before after
+abbrev pub RowReduced : Rule → Triple → ℕ → ℕ → List ℕ → List ℕ → Type 0
+RowReduced rule triple parent place before after =
+    RowBecame place (reduced-row rule triple parent (terms-of row-width place before) (term-at place before)) before after
 
 -- The first `count` rows reduced where they stand, and every number behind them as it was.
-pub record Reduced (triple : Triple) (parent count : ℕ) (before after : List ℕ) : Type 0 where
-  pub terms : terms-of row-width count after ≡ reduction triple parent (terms-of row-width count before)
+pub record Reduced (rule : Rule) (triple : Triple) (parent count : ℕ) (before after : List ℕ) : Type 0 where
+  pub terms : terms-of row-width count after ≡ reduction rule triple parent (terms-of row-width count before)
   pub held : Held row-width count after
   pub rest : drop (row-width * count) after ≡ drop (row-width * count) before
 
