@@ -37,6 +37,7 @@ module _ (job : Job) (rows : List ℕ) (run : Run) (holds : Holds job rows run) 
       record {
         whole = holds .whole;
         modes-are = holds .modes-are;
+        rule-is = holds .rule-is;
         count-is = count;
         some = holds .some;
         few = holds .few;

@@ -19,13 +19,14 @@ pub fresh-holds : (entities steps : ℕ) (run : Run) (rows : List ℕ) → 2 * r
     → run .opens ≡ listed (is-open (run .modes) []) 0 entities
     → run .ends ≡ listed (λ entity. entity) 0 entities
     → run .holders ≡ listed (λ entity. entity) 0 entities
-    → HoldsIn entities steps (job-of (run .modes) (run .count) rows) rows run
+    → HoldsIn entities steps (job-of (run .modes) (run .rule) (run .count) rows) rows run
 unfolding recorded rows-after run-weight
 fresh-holds entities steps run rows room whole none light some few low held opens ends holders =
     let count = length-terms 8 (run .count) rows in
     record {
       whole = whole;
       modes-are = refl;
+      rule-is = refl;
       count-is = sym count;
       some = some;
       few = few;

@@ -28,6 +28,7 @@ unfoldable pub next-run : Run → Triple → ℕ → Run
 next-run run triple weight =
     record {
       modes = run .modes;
+      rule = run .rule;
       step = run .step + 1;
       count = run .count;
       weight = run .weight + weight;
@@ -76,7 +77,7 @@ module _ (entities steps : ℕ) (job : Job) (rows : List ℕ) (run : Run) (tripl
   pub z-below : triple .z < next-parent (job .modes) (history-of run)
   z-below = open-below (job .modes) (history-of run) (triple .z) (ready .lawful .z-open)
 
-  module _ (now-rows : List ℕ) (reduced : Reduced triple (2 * run .modes + 1 + run .step) (run .count) rows now-rows) where
+  module _ (now-rows : List ℕ) (reduced : Reduced (run .rule) triple (2 * run .modes + 1 + run .step) (run .count) rows now-rows) where
     next : Run
     next = next-run run triple weight
 
@@ -114,7 +115,7 @@ module _ (entities steps : ℕ) (job : Job) (rows : List ℕ) (run : Run) (tripl
 
     next-rows : terms-of 8 (run .count) now-rows ≡ rows-after job (triple ∷ history-of run)
     unfolding rows-after
-    next-rows = reduced .terms ∙ rw (parent-here, holds .rows-are)
+    next-rows = reduced .terms ∙ rw (parent-here, holds .rule-is, holds .rows-are)
 
     next-weight : run .weight + weight ≡ run-weight job (triple ∷ history-of run)
     unfolding run-weight
@@ -148,6 +149,7 @@ module _ (entities steps : ℕ) (job : Job) (rows : List ℕ) (run : Run) (tripl
         record {
           whole = next-whole;
           modes-are = holds .modes-are;
+          rule-is = holds .rule-is;
           count-is = holds .count-is;
           some = holds .some;
           few = holds .few;
@@ -172,6 +174,7 @@ pub same-run : (triple : Triple) (weight : ℕ) (before middle after : Run)
     → _≡_ {A = Run}
     (record {
       modes = after .modes;
+      rule = after .rule;
       step = after .step;
       count = after .count;
       weight = before .weight + weight;
@@ -193,6 +196,7 @@ same-run triple weight before middle after m n =
     λ i.
     record {
       modes = (n .modes ∙ m .modes) i;
+      rule = (n .rule ∙ m .rule) i;
       step = (n .step ∙ ap (λ s. s + 1) (m .step)) i;
       count = (n .count ∙ m .count) i;
       weight = before .weight + weight;

@@ -16,11 +16,13 @@ use choosing::choice;
 use entities::Triple;
 use entities::parents;
 use reduction::live_rows;
+use terms::rules::Rule;
 
-// What a run holds: its modes and how many rows it has, a mark, a z-end and a holder for every entity, and x, y, z and the weight of
+// What a run holds: its modes, its rule and how many rows it has, a mark, a z-end and a holder for every entity, and x, y, z and the weight of
 // every merge.
 pub struct Run {
     pub modes: usize,
+    pub rule: Rule,
     pub step: usize,
     pub count: usize,
     pub weight: usize,
@@ -61,16 +63,17 @@ fn leaves(modes: usize) -> [bool; 769]
     opens
 }
 
-// The state before the first step, of so many modes and rows.
-pub fn fresh(modes: usize, count: usize) -> Run
+// The state before the first step, of so many modes and rows, by this rule.
+pub fn fresh(modes: usize, rule: Rule, count: usize) -> Run
     requires { ⌜ (1 ≤ modes) × (modes ≤ most-modes) × (count ≤ most-terms) ⌝ }
-    ensures { λ r. ⌜ ((rows : List ℕ) → Held row-width count rows → Holds (job-of modes count rows) rows r × (history-of r ≡ [])) ⌝ }
+    ensures { λ r. ⌜ ((rows : List ℕ) → Held row-width count rows → Holds (job-of modes rule count rows) rows r × (history-of r ≡ [])) ⌝ }
 {
     let opens = leaves(modes);
     let ends = identity();
     let holders = identity();
     Run {
         modes: modes,
+        rule: rule,
         step: 0,
         count: count,
         weight: 0,
@@ -127,7 +130,8 @@ impl Run {
         ensures { λ r. ⌜ ((job : Job) → Ready job (now (rows .entry)) self triple weight → Went job (triple ∷ history-of self) (now (rows .entry)) r (now (rows .exit))) ⌝ }
     {
         let parent = parents::parent_number(self.modes, self.step);
-        reduction::reduce_hamiltonian(rows, self.count, parent, triple);
+        let rule = self.rule;
+        reduction::reduce_hamiltonian(rows, self.count, rule, parent, triple);
         let sum = self.weight + weight;
         let mut next = self.entities_merged(triple)
             .noted(triple, (weight % 65536) as u16);

@@ -35,6 +35,7 @@ pub record Whole (entities steps : ℕ) (run : Run) : Type 0 where
 pub record HoldsIn (entities steps : ℕ) (job : Job) (rows : List ℕ) (run : Run) : Type 0 where
   pub whole : Whole entities steps run
   pub modes-are : run .modes ≡ job .modes
+  pub rule-is : run .rule ≡ job .rule
   pub count-is : run .count ≡ length (job .terms)
   pub some : 1 ≤ job .modes
   pub few : job .modes ≤ steps
@@ -57,6 +58,7 @@ pub record EntitiesMerged (triple : Triple) (before after : Run) : Type 0 where
   pub ends : after .ends ≡ set (before .ends) (2 * before .modes + 1 + before .step) (getD (before .ends) (triple .z) 0)
   pub holders : after .holders ≡ set (before .holders) (getD (before .ends) (triple .z) 0) (2 * before .modes + 1 + before .step)
   pub modes : after .modes ≡ before .modes
+  pub rule : after .rule ≡ before .rule
   pub step : after .step ≡ before .step
   pub count : after .count ≡ before .count
   pub xs : after .xs ≡ before .xs
@@ -73,6 +75,7 @@ pub record Noted (triple : Triple) (weight : ℕ) (before after : Run) : Type 0 
   pub step : after .step ≡ before .step + 1
   pub count : after .count ≡ before .count
   pub modes : after .modes ≡ before .modes
+  pub rule : after .rule ≡ before .rule
   pub opens : after .opens ≡ before .opens
   pub ends : after .ends ≡ before .ends
   pub holders : after .holders ≡ before .holders

@@ -60,6 +60,7 @@ returns c =
       ends = cc;
       holders = cc;
       modes = refl;
+      rule = refl;
       step = refl;
       count = refl;
       xs = refl;
