@@ -6,6 +6,8 @@ use Prim.Native.Nat.{ℕ}
 use borrow.Author.Tests.{eq-eqb, ne-eqb}
 use Rattle.refusal.specs.declared.Refusal.{Refusal}
 use Rattle.refusal.specs.declared.Refusal.the-variants.{LineForm, Header as OtherHeader}
+use Rattle.terms.specs.declared.rules.Rule.{Rule}
+use Rattle.terms.specs.Rules.{rule-number}
 use Rattle.terms.specs.Job.{Job}
 use Rattle.merging.specs.declared.run.Run.{Run}
 use Rattle.merging.specs.code.State.{history-of}
@@ -50,7 +52,7 @@ module _ (job : Job) (rows : List ℕ) (run : Run) (holds : Holds job rows run) 
       line-made after now-rows gone =
           record { comes-to = rw (← judged) (ap went (gone .merges)); went = went-here job _ after rows now-rows gone }
 
-module _ (job : Job) (modes count : ℕ) (sized : Sized job modes count) (run : Run) (none-yet : history-of run ≡ []) where
+module _ (job : Job) (modes : ℕ) (rule : Rule) (count : ℕ) (sized : Sized job modes rule count) (run : Run) (none-yet : history-of run ≡ []) where
   -- A header that is refused comes before any merge.
   refused-first : (why : Refusal) → refused (history-of run) why ≡ refused [] why
   refused-first why = ap (λ made. refused made why) none-yet
@@ -59,16 +61,25 @@ module _ (job : Job) (modes count : ℕ) (sized : Sized job modes count) (run : 
   unfolding came-to obeyed-header
   header-broken found e = rw e (refused-first (LineForm 0))
 
-  module _ (n t : ℕ) (found : Header) (says : found ≡ HeaderIs n t) where
-    pub other-modes : (n ≡ modes → ⊥) → came-to (Refused OtherHeader) run ≡ obeyed-header job found
+  module _ (said : Rule) (n t : ℕ) (found : Header) (says : found ≡ HeaderIs said n t) where
+    pub other-rule : (rule-number said ≡ rule-number rule → ⊥) → came-to (Refused OtherHeader) run ≡ obeyed-header job found
     unfolding came-to obeyed-header
-    other-modes other = rw (says, sized .modes-are, ne-eqb _ _ other) (refused-first OtherHeader)
+    other-rule other = rw (says, sized .rule-is, ne-eqb _ _ other) (refused-first OtherHeader)
 
-    module _ (same : n ≡ modes) where
-      pub other-terms : (t ≡ count → ⊥) → came-to (Refused OtherHeader) run ≡ obeyed-header job found
+    module _ (same-rule : rule-number said ≡ rule-number rule) where
+      pub other-modes : (n ≡ modes → ⊥) → came-to (Refused OtherHeader) run ≡ obeyed-header job found
       unfolding came-to obeyed-header
-      other-terms other = rw (says, sized .modes-are, eq-eqb _ _ same, sized .count-is, ne-eqb _ _ other) (refused-first OtherHeader)
+      other-modes other = rw (says, sized .rule-is, eq-eqb _ _ same-rule, sized .modes-are, ne-eqb _ _ other) (refused-first OtherHeader)
 
-      pub same-header : t ≡ count → came-to Fine run ≡ obeyed-header job found
-      unfolding came-to obeyed-header
-      same-header counted = rw (says, sized .modes-are, eq-eqb _ _ same, sized .count-is, eq-eqb _ _ counted) (ap went none-yet)
+      module _ (same : n ≡ modes) where
+        pub other-terms : (t ≡ count → ⊥) → came-to (Refused OtherHeader) run ≡ obeyed-header job found
+        unfolding came-to obeyed-header
+        other-terms other =
+            rw (says, sized .rule-is, eq-eqb _ _ same-rule, sized .modes-are, eq-eqb _ _ same, sized .count-is, ne-eqb _ _ other)
+            (refused-first OtherHeader)
+
+        pub same-header : t ≡ count → came-to Fine run ≡ obeyed-header job found
+        unfolding came-to obeyed-header
+        same-header counted =
+            rw (says, sized .rule-is, eq-eqb _ _ same-rule, sized .modes-are, eq-eqb _ _ same, sized .count-is, eq-eqb _ _ counted)
+            (ap went none-yet)

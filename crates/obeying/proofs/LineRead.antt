@@ -7,7 +7,7 @@ use native.Mathlib.Omega.{arith}
 use borrow.Author.Tests.{eqb-true, le-leb}
 use lib.Dec.{eqb}
 use lib.ListN.{length, getD, drop}
-use Rattle.lists.specs.Members.{every}
+use Rattle.lists.specs.Members.{every, alike}
 use Rattle.lists.specs.Ranges.{listed}
 use Rattle.lists.proofs.Tests.{both}
 use Rattle.lists.proofs.Alike.{alike-self}
@@ -19,26 +19,40 @@ use Rattle.fields.specs.code.Reading.{fields-good}
 use Rattle.fields.proofs.DecimalRead.{value-decimal, decimal-is-number}
 use Rattle.fields.proofs.Tabbed.{no-tab}
 use Rattle.fields.proofs.NumbersTabbed.{decimal-no-tab, fits, decimals-no-tab, decimals-are-numbers, values-of-decimals, fields-line, numbers-are, line-is}
+use Rattle.terms.specs.declared.rules.Rule.{Rule}
+use Rattle.terms.specs.declared.rules.Rule.the-variants.{Published, Keep}
 use Rattle.terms.specs.Job.{Job}
+use Rattle.obeying.specs.declared.header.Header.{Header}
 use Rattle.obeying.specs.declared.header.Header.the-variants.{Is as HeaderIs, Broken as HeaderBroken}
 use Rattle.obeying.specs.declared.merge_line.MergeLine.{MergeLine}
 use Rattle.obeying.specs.declared.merge_line.Merge.the-variants.{Is as MergeIs, Broken as MergeBroken}
-use Rattle.obeying.specs.LineForms.{header-good, header-of, merge-good, merge-of-line, header-text, merge-text}
+use Rattle.obeying.specs.LineForms.{rule-word, header-good, header-by, header-of, merge-good, merge-of-line, header-text, merge-text}
 use Rattle.obeying.specs.Obeying.{completed, merge-by-hand}
-use Rattle.obeying.proofs.LineSaid.{merge-said, header-fields}
+use Rattle.obeying.proofs.LineSaid.{merge-said, header-fields, word-no-tab}
 
-module _ (modes terms : ℕ) (m : modes ≤ 65535) (t : terms ≤ 65535) where
-  header-parts : fields (header-text modes terms) ≡ spelt "hatt" ∷ (spelt "1" ∷ (decimal modes ∷ (decimal terms ∷ [])))
+module _ (rule : Rule) (modes terms : ℕ) (m : modes ≤ 65535) (t : terms ≤ 65535) where
+  header-parts : fields (header-text rule modes terms) ≡ rule-word rule ∷ (spelt "1" ∷ (decimal modes ∷ (decimal terms ∷ [])))
   unfolding header-text every no-tab
   header-parts =
-      fields-line (spelt "hatt") ((spelt "1") ∷ (decimal modes ∷ (decimal terms ∷ []))) (rw (decimal-no-tab modes, decimal-no-tab terms))
+      fields-line (rule-word rule) ((spelt "1") ∷ (decimal modes ∷ (decimal terms ∷ [])))
+      (rw (word-no-tab rule, decimal-no-tab modes, decimal-no-tab terms))
 
-  -- A header that was written is read back.
-  pub header-read : header-of (header-text modes terms) ≡ HeaderIs modes terms
-  unfolding header-of header-good every
-  header-read =
-      rw (header-parts, alike-self (spelt "hatt"), alike-self (spelt "1"), decimal-is-number modes m, decimal-is-number terms t)
+  said-back : (other : Header) → header-by rule (header-text rule modes terms) other ≡ HeaderIs rule modes terms
+  unfolding header-by header-good every
+  said-back other =
+      rw (header-parts, alike-self (rule-word rule), alike-self (spelt "1"), decimal-is-number modes m, decimal-is-number terms t)
       (rw (value-decimal modes m, value-decimal terms t))
+
+  -- Another rule's word says no header of this one.
+  other-word : (by : Rule) (other : Header) → alike (rule-word rule) (rule-word by) ≡ false → header-by by (header-text rule modes terms) other ≡ other
+  unfolding header-by header-good
+  other-word by other e = rw (header-parts, e)
+
+-- A header that was written is read back.
+pub header-read : (rule : Rule) (modes terms : ℕ) → modes ≤ 65535 → terms ≤ 65535 → header-of (header-text rule modes terms) ≡ HeaderIs rule modes terms
+unfolding header-of rule-word alike
+header-read Published modes terms m t = said-back Published modes terms m t _
+header-read Keep modes terms m t = other-word Keep modes terms m t Published _ refl ∙ said-back Keep modes terms m t _
 
 module _ (said : MergeLine) where
   abbrev numbers-said : List ℕ
@@ -93,21 +107,32 @@ merge-written line said e last = go (merge-good (fields line)) refl
         absurd (omega arith)
 
 -- A line that says a header and ends in LF is the one that is written for it.
-pub header-written : (line : List ℕ) (modes terms : ℕ) → header-of line ≡ HeaderIs modes terms → getD line (length line - 1) 0 ≡ 10
-    → line ≡ header-text modes terms
-unfolding header-of header-text
-header-written line modes terms e last = go (header-good (fields line)) refl
-  where
-    go : (z : Bool) → header-good (fields line) ≡ z → line ≡ header-text modes terms
-    go true f =
-        let g : HeaderIs (value (getD (fields line) 2 [])) (value (getD (fields line) 3 [])) ≡ HeaderIs modes terms = rw f at e in
-        let m : value (getD (fields line) 2 []) ≡ modes = cc in
-        let t : value (getD (fields line) 3 []) ≡ terms = cc in
-        line-is line last ∙ ap (λ parts. tabbed parts ++ (10 ∷ [])) (header-fields (fields line) f) ∙ rw (m, t)
-    go false f =
-        let g : HeaderBroken ≡ HeaderIs modes terms = rw f at e in
-        let z : _≡_ {A = ℕ} 0 1 = cc in
-        absurd (omega arith)
+module _ (line : List ℕ) (rule : Rule) (modes terms : ℕ) (last : getD line (length line - 1) 0 ≡ 10) where
+  abbrev by-fields : Rule → Header
+  by-fields by = HeaderIs by (value (getD (fields line) 2 [])) (value (getD (fields line) 3 []))
+
+  written-so : (by : Rule) → header-good by (fields line) ≡ true → by-fields by ≡ HeaderIs rule modes terms → line ≡ header-text rule modes terms
+  unfolding header-text
+  written-so by f g =
+      let r : by ≡ rule = cc in
+      let m : value (getD (fields line) 2 []) ≡ modes = cc in
+      let t : value (getD (fields line) 3 []) ≡ terms = cc in
+      line-is line last ∙ ap (λ parts. tabbed parts ++ (10 ∷ [])) (header-fields by (fields line) f) ∙ rw (r, m, t)
+
+  written-by : (by : Rule) (other : Header) → header-by by line other ≡ HeaderIs rule modes terms
+      → (other ≡ HeaderIs rule modes terms → line ≡ header-text rule modes terms) → line ≡ header-text rule modes terms
+  unfolding header-by
+  written-by by other e on = go (header-good by (fields line)) refl
+    where
+      go : (z : Bool) → header-good by (fields line) ≡ z → line ≡ header-text rule modes terms
+      go true f = written-so by f (rw f at e)
+      go false f = on (rw f at e)
+
+  pub header-written : header-of line ≡ HeaderIs rule modes terms → line ≡ header-text rule modes terms
+  unfolding header-of
+  header-written e =
+      written-by Published (header-by Keep line HeaderBroken) e
+      (λ f. written-by Keep HeaderBroken f (λ g. (let z : _≡_ {A = ℕ} 0 1 = cc in absurd (omega arith))))
 
 -- A line by hand that says a merge has its three numbers and no more.
 pub hand-numbers : (job : Job) (history : List Triple) (line : List ℕ) (said : MergeLine) → merge-by-hand job history line ≡ MergeIs said

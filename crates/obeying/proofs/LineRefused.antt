@@ -12,6 +12,7 @@ use Rattle.refusal.specs.declared.Refusal.the-variants.{Header as OtherHeader, 
 use Rattle.refusal.specs.Numbers.{numberOf, placeOf}
 use Rattle.entities.specs.declared.Triple.{Triple}
 use Rattle.fields.specs.Lines.{lines}
+use Rattle.terms.specs.Rules.{rule-number}
 use Rattle.terms.specs.Job.{Job}
 use Rattle.history.specs.Lawful.{three-open, paired}
 use Rattle.history.specs.Choice.{weight-in}
@@ -115,7 +116,8 @@ module _ (job : Job) where
 
   header-within : (header : Header) → Within job (obeyed-header job header)
   unfolding obeyed-header
-  header-within (HeaderIs n t) = go (eqb n (job .modes) && eqb t (length (job .terms)))
+  header-within (HeaderIs rule n t) =
+      go (eqb (rule-number rule) (rule-number (job .rule)) && (eqb n (job .modes) && eqb t (length (job .terms))))
     where
       go : (b : Bool) → Within job (cond (not b) (refused [] OtherHeader) (went []))
       go false = (omega arith, at-line _ _ (omega arith) (omega arith) (omega arith))

@@ -19,11 +19,15 @@ use Rattle.fields.specs.code.Reading.{fields-good, numbers-good, opens, fields-
 use Rattle.fields.proofs.Tabbed.{no-tab}
 use Rattle.fields.proofs.NumbersTabbed.{numbers-are, value-at}
 use Rattle.fields.proofs.Openings.{opening, opened-fields, opens-with}
+use Rattle.terms.specs.declared.rules.Rule.{Rule}
+use Rattle.terms.specs.declared.rules.Rule.the-variants.{Published, Keep}
 use Rattle.terms.specs.Job.{Job}
+use Rattle.obeying.specs.declared.header.Header.{Header}
 use Rattle.obeying.specs.declared.header.Header.the-variants.{Is as HeaderIs, Broken as HeaderBroken}
 use Rattle.obeying.specs.declared.merge_line.Merge.the-variants.{Is as MergeIs, Broken as MergeBroken}
-use Rattle.obeying.specs.LineForms.{header-good, header-of, merge-good, merge-of-line}
+use Rattle.obeying.specs.LineForms.{rule-word, header-good, header-by, merge-good, merge-of-line}
 use Rattle.obeying.specs.Obeying.{completed, merge-by-hand}
+use Rattle.obeying.specs.code.Openings.{header-opening}
 
 pub merge-broken : (line : List ℕ) → numbers-good 5 (fields line) ≡ false → merge-of-line line ≡ MergeBroken
 unfolding merge-of-line merge-good fields-good
@@ -54,54 +58,83 @@ module _ (job : Job) (history : List Triple) (line : List ℕ) where
   unfolding merge-by-hand fields-good
   hand-said found e f = let p = fields line in rw (e, f, value-at p 0, value-at p 1, value-at p 2)
 
--- A header's fields: the word, the version and the two numbers, as they would be written.
-pub header-fields : (parts : List (List ℕ)) → header-good parts ≡ true
-    → parts ≡ spelt "hatt" ∷ (spelt "1" ∷ (decimal (value (getD parts 2 [])) ∷ (decimal (value (getD parts 3 [])) ∷ [])))
+-- A header's fields: the rule's word, the version and the two numbers, as they would be written.
+pub header-fields : (rule : Rule) (parts : List (List ℕ)) → header-good rule parts ≡ true
+    → parts ≡ rule-word rule ∷ (spelt "1" ∷ (decimal (value (getD parts 2 [])) ∷ (decimal (value (getD parts 3 [])) ∷ [])))
 unfolding header-good listed
-header-fields [] e = absurd (true≢false (sym e))
-header-fields (a ∷ []) e = absurd (true≢false (sym e))
-header-fields (a ∷ (b ∷ rest)) e =
-    let p = both (eqb (suc (suc (length rest))) 4) (alike a (spelt "hatt") && (alike b (spelt "1") && every is-number rest)) e in
-    let q = both (alike a (spelt "hatt")) (alike b (spelt "1") && every is-number rest) (p .1) in
+header-fields rule [] e = absurd (true≢false (sym e))
+header-fields rule (a ∷ []) e = absurd (true≢false (sym e))
+header-fields rule (a ∷ (b ∷ rest)) e =
+    let word = rule-word rule in
+    let p = both (eqb (suc (suc (length rest))) 4) (alike a word && (alike b (spelt "1") && every is-number rest)) e in
+    let q = both (alike a word) (alike b (spelt "1") && every is-number rest) (p .1) in
     let r = both (alike b (spelt "1")) (every is-number rest) (q .1) in
     let l = eqb-true (suc (suc (length rest))) 4 (p .0) in
-    let f = alike-same a (spelt "hatt") (q .0) in
+    let f = alike-same a word (q .0) in
     let g = alike-same b (spelt "1") (r .0) in
     let n = numbers-are 2 rest (omega arith) (r .1) in
     cc
 
--- A header's first bytes: the word, a tab, the version and a tab.
-abbrev pub header-opening : List ℕ
-header-opening = spelt "hatt\t1\t"
+-- No rule's word has a tab.
+pub word-no-tab : (rule : Rule) → every no-tab (rule-word rule) ≡ true
+unfolding rule-word every no-tab
+word-no-tab Published = refl
+word-no-tab Keep = refl
 
 -- With its opening a line says what the two numbers behind it say, and without it nothing.
-module _ (line : List ℕ) where
-  opened-header : opens header-opening line ≡ true → fields line ≡ spelt "hatt" ∷ (spelt "1" ∷ fields-behind header-opening line)
-  unfolding opening every no-tab
-  opened-header e = opened-fields (spelt "hatt" ∷ (spelt "1" ∷ [])) line refl e
+module _ (rule : Rule) (line : List ℕ) where
+  opened-header : opens (header-opening rule) line ≡ true → fields line ≡ rule-word rule ∷ (spelt "1" ∷ fields-behind (header-opening rule) line)
+  unfolding opening every no-tab header-opening
+  opened-header e = opened-fields (rule-word rule ∷ (spelt "1" ∷ [])) line (rw (word-no-tab rule)) e
 
-  header-opens : header-good (fields line) ≡ true → opens header-opening line ≡ true
-  unfolding opening
-  header-opens e = opens-with (spelt "hatt") ((spelt "1") ∷ []) line _ _ (header-fields (fields line) e)
+  header-opens : header-good rule (fields line) ≡ true → opens (header-opening rule) line ≡ true
+  unfolding opening header-opening
+  header-opens e = opens-with (rule-word rule) ((spelt "1") ∷ []) line _ _ (header-fields rule (fields line) e)
 
-  header-says : header-good (fields line) ≡ says-numbers header-opening 2 line
+  header-says : header-good rule (fields line) ≡ says-numbers (header-opening rule) 2 line
   unfolding header-good fields-good says-numbers
-  header-says = go (opens header-opening line) refl
+  header-says = go (opens (header-opening rule) line) refl
     where
-      go : (z : Bool) → opens header-opening line ≡ z → header-good (fields line) ≡ (z && numbers-good 2 (fields-behind header-opening line))
+      go : (z : Bool) → opens (header-opening rule) line ≡ z
+          → header-good rule (fields line) ≡ (z && numbers-good 2 (fields-behind (header-opening rule) line))
       go true e =
-          let parts = fields-behind header-opening line in
+          let parts = fields-behind (header-opening rule) line in
           let count : eqb (suc (suc (length parts))) 4 ≡ eqb (length parts) 2 = eqb·suc-suc (suc (length parts)) 3 ∙ eqb·suc-suc (length parts) 2 in
-          rw (opened-header e, alike-self (spelt "hatt"), alike-self (spelt "1"), count)
-      go false e = not-so (header-good (fields line)) (λ f. true≢false (sym (header-opens f) ∙ e))
+          rw (opened-header e, alike-self (rule-word rule), alike-self (spelt "1"), count)
+      go false e = not-so (header-good rule (fields line)) (λ f. true≢false (sym (header-opens f) ∙ e))
 
-  pub header-broken : says-numbers header-opening 2 line ≡ false → header-of line ≡ HeaderBroken
-  unfolding header-of
-  header-broken e = rw (header-says ∙ e)
+  module _ (other : Header) where
+    pub header-broken : says-numbers (header-opening rule) 2 line ≡ false → header-by rule line other ≡ other
+    unfolding header-by
+    header-broken e = rw (header-says ∙ e)
 
-  pub header-said : (found : List ℕ) → says-numbers header-opening 2 line ≡ true → found ≡ map value (fields-behind header-opening line)
-      → header-of line ≡ HeaderIs (getD found 0 0) (getD found 1 0)
-  unfolding header-of
-  header-said found e f =
-      let parts = fields-behind header-opening line in
-      rw (header-says ∙ e, opened-header (header-opens (header-says ∙ e)), f, value-at parts 0, value-at parts 1)
+    pub header-said : (found : List ℕ) → says-numbers (header-opening rule) 2 line ≡ true → found ≡ map value (fields-behind (header-opening rule) line)
+        → header-by rule line other ≡ HeaderIs rule (getD found 0 0) (getD found 1 0)
+    unfolding header-by
+    header-said found e f =
+        let parts = fields-behind (header-opening rule) line in
+        rw (header-says ∙ e, opened-header (header-opens (header-says ∙ e)), f, value-at parts 0, value-at parts 1)
+
+-- What the bytes of one rule say is what the line says where they say a header, and otherwise the rest says it.
+module _ (rule : Rule) (line : List ℕ) (other : Header) where
+  pub header-first : (said : Rule) (n t : ℕ) → header-by rule line HeaderBroken ≡ HeaderIs said n t → header-by rule line other ≡ HeaderIs said n t
+  unfolding header-by
+  header-first said n t e = go (header-good rule (fields line)) refl
+    where
+      go : (b : Bool) → header-good rule (fields line) ≡ b → header-by rule line other ≡ HeaderIs said n t
+      go true f = let g = rw f at e in rw f g
+      go false f =
+          let g : HeaderBroken ≡ HeaderIs said n t = rw f at e in
+          let z : _≡_ {A = ℕ} 0 1 = cc in
+          absurd (omega arith)
+
+  pub header-next : header-by rule line HeaderBroken ≡ HeaderBroken → header-by rule line other ≡ other
+  unfolding header-by
+  header-next e = go (header-good rule (fields line)) refl
+    where
+      go : (b : Bool) → header-good rule (fields line) ≡ b → header-by rule line other ≡ other
+      go true f =
+          let g : HeaderIs rule (value (getD (fields line) 2 [])) (value (getD (fields line) 3 [])) ≡ HeaderBroken = rw f at e in
+          let z : _≡_ {A = ℕ} 0 1 = cc in
+          absurd (omega arith)
+      go false f = rw f

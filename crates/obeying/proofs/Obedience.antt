@@ -14,7 +14,9 @@ use Rattle.refusal.specs.declared.Refusal.{Refusal}
 use Rattle.refusal.specs.declared.Refusal.the-variants.{LineForm, Header as OtherHeader}
 use Rattle.entities.specs.declared.Triple.{Triple}
 use Rattle.fields.specs.Lines.{lines}
+use Rattle.terms.specs.Rules.{rule-number}
 use Rattle.terms.specs.Job.{Job}
+use Rattle.terms.proofs.RuleNumbers.{same-rule}
 use Rattle.history.specs.History.{merge-of, history-before}
 use Rattle.history.specs.Lawful.{Lawful, LawfulHistory}
 use Rattle.history.specs.Choice.{weight-in}
@@ -155,16 +157,20 @@ module _ (by-hand : Bool) (job : Job) where
       go (refused made refusal) f g ahead = absurd (not-went made refusal after (sym (refused-stays by-hand job made refusal rest) ∙ g))
 
 module _ (job : Job) where
-  -- A header that was obeyed says the modes and the count of the terms, and no merge.
+  -- A header that was obeyed says the rule, the modes and the count of the terms, and no merge.
   header-obeyed : (said : Header) (history : List Triple) → obeyed-header job said ≡ went history
-      → (said ≡ HeaderIs (job .modes) (length (job .terms))) × (history ≡ [])
+      → (said ≡ HeaderIs (job .rule) (job .modes) (length (job .terms))) × (history ≡ [])
   unfolding obeyed-header
-  header-obeyed (HeaderIs n t) history e = go (eqb n (job .modes) && eqb t (length (job .terms))) refl e
+  header-obeyed (HeaderIs rule n t) history e =
+      go (eqb (rule-number rule) (rule-number (job .rule)) && (eqb n (job .modes) && eqb t (length (job .terms)))) refl e
     where
-      go : (test : Bool) → (eqb n (job .modes) && eqb t (length (job .terms))) ≡ test → cond (not test) (refused [] OtherHeader) (went []) ≡ went history
-          → (HeaderIs n t ≡ HeaderIs (job .modes) (length (job .terms))) × (history ≡ [])
+      go : (test : Bool) → (eqb (rule-number rule) (rule-number (job .rule)) && (eqb n (job .modes) && eqb t (length (job .terms)))) ≡ test
+          → cond (not test) (refused [] OtherHeader) (went []) ≡ went history
+          → (HeaderIs rule n t ≡ HeaderIs (job .rule) (job .modes) (length (job .terms))) × (history ≡ [])
       go true f g =
-          let parts = both (eqb n (job .modes)) (eqb t (length (job .terms))) f in
+          let ruled = both (eqb (rule-number rule) (rule-number (job .rule))) (eqb n (job .modes) && eqb t (length (job .terms))) f in
+          let parts = both (eqb n (job .modes)) (eqb t (length (job .terms))) (ruled .1) in
+          let r = same-rule rule (job .rule) (eqb-true (rule-number rule) (rule-number (job .rule)) (ruled .0)) in
           let m = eqb-true n (job .modes) (parts .0) in
           let c = eqb-true t (length (job .terms)) (parts .1) in
           (cc, cc)
@@ -172,7 +178,7 @@ module _ (job : Job) where
   header-obeyed HeaderBroken history e = absurd (not-went [] (LineForm 0) history e)
 
   rest-obedient : (first : List ℕ) (rest : List (List ℕ)) (history : List Triple)
-      → header-of first ≡ HeaderIs (job .modes) (length (job .terms)) → Added-all false job [] rest history → Obedient job (first ∷ rest) history
+      → header-of first ≡ HeaderIs (job .rule) (job .modes) (length (job .terms)) → Added-all false job [] rest history → Obedient job (first ∷ rest) history
   rest-obedient first rest history h all =
       let size : length rest ≡ length history = omega (arith, all .longer) in
       record {

@@ -9,20 +9,31 @@ use Rattle.entities.specs.declared.Triple.{Triple}
 use Rattle.fields.specs.Texts.{spelt}
 use Rattle.fields.specs.Decimal.{is-number, value, decimal}
 use Rattle.fields.specs.Fields.{fields, tabbed}
+use Rattle.terms.specs.declared.rules.Rule.{Rule}
+use Rattle.terms.specs.declared.rules.Rule.the-variants.{Published, Keep}
 use Rattle.obeying.specs.declared.header.Header.{Header}
 use Rattle.obeying.specs.declared.header.Header.the-variants.{Is as HeaderIs, Broken as HeaderBroken}
 use Rattle.obeying.specs.declared.merge_line.Merge.{Merge}
 use Rattle.obeying.specs.declared.merge_line.Merge.the-variants.{Is as MergeIs, Broken as MergeBroken}
 
--- The line says a header: the word, the version and two numbers.
-unfoldable pub header-good : List (List ℕ) → Bool
-header-good parts =
+-- "The header's first word becomes `keep` for the second rule."
+unfoldable pub rule-word : Rule → List ℕ
+rule-word Published = spelt "hatt"
+rule-word Keep = spelt "keep"
+
+-- The line says a header of this rule: its word, the version and two numbers.
+unfoldable pub header-good : Rule → List (List ℕ) → Bool
+header-good rule parts =
     eqb (length parts) 4
-    && (alike (getD parts 0 []) (spelt "hatt") && (alike (getD parts 1 []) (spelt "1") && every is-number (drop 2 parts)))
+    && (alike (getD parts 0 []) (rule-word rule) && (alike (getD parts 1 []) (spelt "1") && every is-number (drop 2 parts)))
+
+-- The header that a line says where its word is this rule's, and otherwise another.
+unfoldable pub header-by : Rule → List ℕ → Header → Header
+header-by rule line other =
+    cond (header-good rule (fields line)) (HeaderIs rule (value (getD (fields line) 2 [])) (value (getD (fields line) 3 []))) other
 
 unfoldable pub header-of : List ℕ → Header
-header-of line =
-    cond (header-good (fields line)) (HeaderIs (value (getD (fields line) 2 [])) (value (getD (fields line) 3 []))) HeaderBroken
+header-of line = header-by Published line (header-by Keep line HeaderBroken)
 
 -- The line says a merge: five numbers.
 unfoldable pub merge-good : List (List ℕ) → Bool
@@ -40,8 +51,8 @@ merge-of-line line =
     MergeBroken
 
 -- The header as it is written.
-unfoldable pub header-text : ℕ → ℕ → List ℕ
-header-text modes terms = tabbed (spelt "hatt" ∷ (spelt "1" ∷ (decimal modes ∷ (decimal terms ∷ [])))) ++ spelt "\n"
+unfoldable pub header-text : Rule → ℕ → ℕ → List ℕ
+header-text rule modes terms = tabbed (rule-word rule ∷ (spelt "1" ∷ (decimal modes ∷ (decimal terms ∷ [])))) ++ spelt "\n"
 
 -- A merge line as it is written.
 unfoldable pub merge-text : ℕ → Triple → ℕ → List ℕ

@@ -17,7 +17,7 @@ pub record Obedient (job : Job) (texts : List (List ℕ)) (history : List Triple
   pub lawful : LawfulHistory (job .modes) history
   pub within : length history ≤ job .modes
   pub a-line-each : length history ≡ length texts - 1
-  pub header : 0 < length texts → header-of (getD texts 0 []) ≡ HeaderIs (job .modes) (length (job .terms))
+  pub header : 0 < length texts → header-of (getD texts 0 []) ≡ HeaderIs (job .rule) (job .modes) (length (job .terms))
   pub says : (i : ℕ) → i < length history
       → merge-of-line (getD texts (suc i) [])
       ≡ MergeIs

@@ -19,6 +19,7 @@ use Rattle.entities.specs.declared.Triple.{Triple}
 use Rattle.fields.specs.Decimal.{is-number, value}
 use Rattle.fields.specs.Lines.{lines}
 use Rattle.fields.specs.Fields.{fields}
+use Rattle.terms.specs.Rules.{rule-number}
 use Rattle.terms.specs.Job.{Job}
 use Rattle.history.specs.Lawful.{three-open, paired}
 use Rattle.history.specs.Choice.{weight-in}
@@ -92,9 +93,12 @@ unfoldable pub obeyed-lines : Bool → Job → Obeyed → List (List ℕ) → Ob
 obeyed-lines by-hand job so-far [] = so-far
 obeyed-lines by-hand job so-far (bytes ∷ rest) = obeyed-lines by-hand job (obeyed-next by-hand job bytes so-far) rest
 
--- 7 "header's n or T differ".
+-- 7 "header's n or T differ", and "a header with the other rule's word".
 unfoldable pub obeyed-header : Job → Header → Obeyed
-obeyed-header job (HeaderIs n t) = cond (not (eqb n (job .modes) && eqb t (length (job .terms)))) (refused [] OtherHeader) (went [])
+obeyed-header job (HeaderIs rule n t) =
+    cond (not (eqb (rule-number rule) (rule-number (job .rule)) && (eqb n (job .modes) && eqb t (length (job .terms)))))
+    (refused [] OtherHeader)
+    (went [])
 obeyed-header job HeaderBroken = refused [] (LineForm 0)
 
 -- The header is line 0, the merges follow; no complete line is nothing to obey.

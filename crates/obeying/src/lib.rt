@@ -20,6 +20,8 @@ use fields::lines;
 use merging::run;
 use merging::run::Run;
 use refusal::Refusal;
+use terms::rules;
+use terms::rules::Rule;
 
 mod by_hand;
 mod header;
@@ -55,12 +57,15 @@ fn obey_line(run: Run, modes: usize, rows: &mut [u16], bytes: &[u8], by_hand: bo
     }
 }
 
-// The header, which has to say the call's modes and terms.
-fn obey_header(modes: usize, count: usize, bytes: &[u8]) -> Verdict
-    ensures { λ r. ⌜ ((job : Job) (run : State) → Sized job modes count → history-of run ≡ [] → came-to r run ≡ obeyed-header job (header-of (now (bytes .entry)))) ⌝ }
+// The header, which has to say the call's rule, modes and terms.
+fn obey_header(modes: usize, rule: Rule, count: usize, bytes: &[u8]) -> Verdict
+    ensures { λ r. ⌜ ((job : Job) (run : State) → Sized job modes rule count → history-of run ≡ [] → came-to r run ≡ obeyed-header job (header-of (now (bytes .entry)))) ⌝ }
 {
     match header::read_header(bytes) {
-        Header::Is(n, t) => {
+        Header::Is(said, n, t) => {
+            if rules::number(said) != rules::number(rule) {
+                return Verdict::Refused(Refusal::Header);
+            }
             if entities::wide(n) != modes {
                 return Verdict::Refused(Refusal::Header);
             }
@@ -110,12 +115,12 @@ fn obey_lines(
 }
 
 // A journal obeyed from the first state on: the header, then the merges.
-pub fn obey(modes: usize, count: usize, rows: &mut [u16], read: &[u8]) -> Obeying
+pub fn obey(modes: usize, rule: Rule, count: usize, rows: &mut [u16], read: &[u8]) -> Obeying
     requires { ⌜ (1 ≤ modes) × (modes ≤ most-modes) × (count ≤ most-terms) ⌝ }
     requires { ⌜ Held row-width count (now rows) ⌝ }
-    ensures { λ r. ⌜ Obeys (job-of modes count (now (rows .entry))) (obeyed (job-of modes count (now (rows .entry))) (now (read .entry))) (now (rows .entry)) (now (rows .exit)) r ⌝ }
+    ensures { λ r. ⌜ Obeys (job-of modes rule count (now (rows .entry))) (obeyed (job-of modes rule count (now (rows .entry))) (now (read .entry))) (now (rows .entry)) (now (rows .exit)) r ⌝ }
 {
-    let first = run::fresh(modes, count);
+    let first = run::fresh(modes, rule, count);
     let end = lines::line_end(read, 0);
     if end == 0 {
         return Obeying {
@@ -123,7 +128,7 @@ pub fn obey(modes: usize, count: usize, rows: &mut [u16], read: &[u8]) -> Obeyin
             run: first,
         };
     }
-    if let Verdict::Refused(why) = obey_header(modes, count, &read[..end]) {
+    if let Verdict::Refused(why) = obey_header(modes, rule, count, &read[..end]) {
         return Obeying {
             verdict: Verdict::Refused(why),
             run: first,
@@ -133,10 +138,10 @@ pub fn obey(modes: usize, count: usize, rows: &mut [u16], read: &[u8]) -> Obeyin
 }
 
 // Merges by hand obeyed from the first state on.
-pub fn obey_by_hand(modes: usize, count: usize, rows: &mut [u16], read: &[u8]) -> Obeying
+pub fn obey_by_hand(modes: usize, rule: Rule, count: usize, rows: &mut [u16], read: &[u8]) -> Obeying
     requires { ⌜ (1 ≤ modes) × (modes ≤ most-modes) × (count ≤ most-terms) ⌝ }
     requires { ⌜ Held row-width count (now rows) ⌝ }
-    ensures { λ r. ⌜ Obeys (job-of modes count (now (rows .entry))) (obeyed-by-hand (job-of modes count (now (rows .entry))) (now (read .entry))) (now (rows .entry)) (now (rows .exit)) r ⌝ }
+    ensures { λ r. ⌜ Obeys (job-of modes rule count (now (rows .entry))) (obeyed-by-hand (job-of modes rule count (now (rows .entry))) (now (read .entry))) (now (rows .entry)) (now (rows .exit)) r ⌝ }
 {
-    obey_lines(run::fresh(modes, count), modes, rows, read, 0, true)
+    obey_lines(run::fresh(modes, rule, count), modes, rows, read, 0, true)
 }

@@ -1,4 +1,5 @@
 -- The laws of rows and their weight.
+pub mod RuleNumbers
 pub mod RowSteps
 pub mod GoodSteps
 pub mod OwnRows

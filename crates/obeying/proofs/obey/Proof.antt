@@ -22,7 +22,7 @@ returns c =
     let args = start .args in
     let rows = args .rows .now in
     let read = args .read .now in
-    let job = job-of (args .modes) (args .count) rows in
+    let job = job-of (args .modes) (args .rule) (args .count) rows in
     let first = c .before .before .fresh .ensures rows (start .pre .1) in
     let end = c .before .line-end in
     nothing-to-obey job rows read (c .before .before .fresh .result) (first .0) (first .1) (lines-none read 0 (end .result) (end .ensures .0) (c .if1 .taken))
@@ -44,12 +44,12 @@ returns-2 c =
     let args = start .args in
     let rows = args .rows .now in
     let read = args .read .now in
-    let job = job-of (args .modes) (args .count) rows in
+    let job = job-of (args .modes) (args .rule) (args .count) rows in
     let run = c .before .before .before .before .before .before .before .fresh .result in
     let first = c .before .before .before .before .before .before .before .fresh .ensures rows (start .pre .1) in
     let end = c .before .before .before .before .before .before .line-end in
     let next = text-begins read (end .result) (end .ensures .0) (c .before .before .before .before .before .if1 .left) in
-    let sized : Sized job (args .modes) (args .count) = record { modes-are = refl; count-is = length-terms 8 (args .count) rows } in
+    let sized : Sized job (args .modes) (args .rule) (args .count) = record { modes-are = refl; rule-is = refl; count-is = length-terms 8 (args .count) rows } in
     header-refused job rows read run (first .0) _ _ next _ (c .before .before .before .obey-header .ensures job run sized (first .1)) _ (c .before .why .given .1)
 
 enum-told : tie.Need-enum-told
@@ -62,7 +62,7 @@ obey-lines-requires c κs =
     let rows = args .rows .now in
     let first = c .before .before .before .before .before .before .before .fresh .ensures rows (start .pre .1) in
     let end = c .before .before .before .before .before .before .line-end in
-    ((job-of (args .modes) (args .count) rows, (first .0, refl)), end .ensures .1)
+    ((job-of (args .modes) (args .rule) (args .count) rows, (first .0, refl)), end .ensures .1)
 
 same-length : tie.Need-same-length
 same-length c = search needs
@@ -73,12 +73,12 @@ returns-3 c =
     let args = start .args in
     let rows = args .rows .now in
     let read = args .read .now in
-    let job = job-of (args .modes) (args .count) rows in
+    let job = job-of (args .modes) (args .rule) (args .count) rows in
     let run = c .before .before .before .before .before .before .before .before .before .before .fresh .result in
     let first = c .before .before .before .before .before .before .before .before .before .before .fresh .ensures rows (start .pre .1) in
     let end = c .before .before .before .before .before .before .before .before .before .line-end in
     let next = text-begins read (end .result) (end .ensures .0) (c .before .before .before .before .before .before .before .before .if1 .left) in
-    let sized : Sized job (args .modes) (args .count) = record { modes-are = refl; count-is = length-terms 8 (args .count) rows } in
+    let sized : Sized job (args .modes) (args .rule) (args .count) = record { modes-are = refl; rule-is = refl; count-is = length-terms 8 (args .count) rows } in
     let obeyed = c .before .before .obey-lines in
     lines-behind job rows read run (first .0) _ _ next _ (c .before .before .before .before .before .before .obey-header .ensures job run sized (first .1)) (c .before .before .before .before .enum-told .given .1)
     (obeyed .last .1 .1 .0) (obeyed .result) (obeyed .ensures job (first .0) refl)

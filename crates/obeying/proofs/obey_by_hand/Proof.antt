@@ -16,7 +16,7 @@ obey-lines-requires c κs =
     let args = start .args in
     let rows = args .rows .now in
     let first = c .before .fresh .ensures rows (start .pre .1) in
-    ((job-of (args .modes) (args .count) rows, (first .0, refl)), omega arith)
+    ((job-of (args .modes) (args .rule) (args .count) rows, (first .0, refl)), omega arith)
 
 same-length : tie.Need-same-length
 same-length c = search needs
@@ -28,7 +28,7 @@ returns c =
     let args = start .args in
     let rows = args .rows .now in
     let first = c .before .before .before .before .fresh .ensures rows (start .pre .1) in
-    rw (first .1) at (c .before .before .obey-lines .ensures (job-of (args .modes) (args .count) rows) (first .0) refl)
+    rw (first .1) at (c .before .before .obey-lines .ensures (job-of (args .modes) (args .rule) (args .count) rows) (first .0) refl)
 
 pub obey-by-hand-spec : {M : Type 1} → statement M
 obey-by-hand-spec = tie.close (tie.spec fresh-requires obey-lines-requires same-length returns)
