@@ -1,5 +1,6 @@
 -- Demand 3: the journal of a call that is done, cut after any byte that isn't before the end of what it kept, resumes to the same end.
 use mathlib.Core.Path.{_≡_, ap, _∙_, sym}
+use mathlib.Core.Bool.{true}
 use mathlib.Core.List.{List, [], _++_, flatMap}
 use mathlib.Core.Logic.{⊎-elim}
 use Prim.Native.Nat.{ℕ, _+_, _-_, _*_, _<_, _≤_}
@@ -11,6 +12,7 @@ use Rattle.lists.proofs.Parts.{nothing-in}
 use Rattle.lists.proofs.Tests.{both, same-or-not}
 use Rattle.entities.specs.declared.Triple.{Triple}
 use Rattle.fields.specs.Lines.{lines, lines-after, kept-of}
+use Rattle.terms.specs.Rules.{rule-good, rule-of}
 use Rattle.terms.specs.Job.{Job, job-of}
 use Rattle.terms.specs.Good.{modes-good, checked}
 use Rattle.terms.specs.declared.checking.Checked.the-variants.{Good}
@@ -54,11 +56,11 @@ module _ (job : Job) (few : 3 * job .modes ≤ 65535) (light : length (job .term
   cut-anywhere = ⊎-elim from-nothing (λ some. from-lines (omega arith)) (same-or-not (length (lines bytes)) 0)
 
 -- The end of a run from a journal that is obeyed to another history of it.
-module _ (other : Rooms) (modes count : ℕ) (numbers bytes : List ℕ) (history : List Triple) (good : checked modes numbers ≡ Good count)
-    (fits : Suffice other modes (ending (job-of modes count numbers) bytes history))
-    (obeys : obeyed (job-of modes count numbers) bytes ≡ went history) (cut : ℕ) (behind : length (kept-of bytes) ≤ cut) where
+module _ (other : Rooms) (modes rule count : ℕ) (numbers bytes : List ℕ) (history : List Triple) (named : rule-good rule ≡ true) (good : checked modes numbers ≡ Good count)
+    (fits : Suffice other modes (ending (job-of modes (rule-of rule) count numbers) bytes history))
+    (obeys : obeyed (job-of modes (rule-of rule) count numbers) bytes ≡ went history) (cut : ℕ) (behind : length (kept-of bytes) ≤ cut) where
   abbrev job : Job
-  job = job-of modes count numbers
+  job = job-of modes (rule-of rule) count numbers
 
   counted : length (job .terms) ≡ count
   counted = length-terms 8 count numbers
@@ -70,11 +72,11 @@ module _ (other : Rooms) (modes count : ℕ) (numbers bytes : List ℕ) (history
       let light = accepted modes numbers count good .at-most in
       cut-anywhere job (omega (arith, few, fits .numbers-fit)) (omega (arith, counted, light)) bytes history obeys cut behind
 
-  resumes-on : resumed other modes numbers (take cut (whole job bytes history)) ≡ done (ending job (take cut (whole job bytes history)) (found .history))
+  resumes-on : resumed other modes rule numbers (take cut (whole job bytes history)) ≡ done (ending job (take cut (whole job bytes history)) (found .history))
   unfolding ending
-  resumes-on = done-in other modes count numbers _ (found .history) (fits .modes-taken) good (rw counted at (fits .room)) (found .obeys)
+  resumes-on = done-in other modes rule count numbers _ (found .history) (fits .modes-taken) named good (rw counted at (fits .room)) (found .obeys)
 
-  pub resumes-ending : ResumesCut other modes numbers (journal-of bytes (ending job bytes history)) (ending job bytes history) cut
+  pub resumes-ending : ResumesCut other modes rule numbers (journal-of bytes (ending job bytes history)) (ending job bytes history) cut
   unfolding ending journal-of
   resumes-ending =
       record {
@@ -83,17 +85,17 @@ module _ (other : Rooms) (modes count : ℕ) (numbers bytes : List ℕ) (history
         same-rows = ap (flatpack modes) (found .same-end);
         same-weight = ap (run-weight job) (found .same-end);
         same-journal = found .same-bytes;
-        told = obeyed-then-greedy other modes numbers _ _ resumes-on;
+        told = obeyed-then-greedy other modes rule numbers _ _ resumes-on;
       }
 
 pub cut-and-resumed : JournalsResume
-cut-and-resumed rooms other modes numbers bytes part says fits cut behind =
-    let known = call-done rooms modes numbers bytes part says in
-    let as-ended : (p : Ending) → p ≡ ending (job-of modes (known .count) numbers) bytes (known .history) → Suffice other modes p
-    → ResumesCut other modes numbers (journal-of bytes p) p cut =
-    λ p e. rw e (λ enough. resumes-ending other modes (known .count) numbers bytes (known .history) (known .terms-are) enough (known .obeys) cut behind) in
+cut-and-resumed rooms other modes rule numbers bytes part says fits cut behind =
+    let known = call-done rooms modes rule numbers bytes part says in
+    let as-ended : (p : Ending) → p ≡ ending (job-of modes (rule-of rule) (known .count) numbers) bytes (known .history) → Suffice other modes p
+    → ResumesCut other modes rule numbers (journal-of bytes p) p cut =
+    λ p e. rw e (λ enough. resumes-ending other modes rule (known .count) numbers bytes (known .history) (known .rule-is) (known .terms-are) enough (known .obeys) cut behind) in
     as-ended part (known .ends) fits
 
 pub unbroken-resumed : UnbrokenResume
 unfolding hatt-run journal-of kept-of lines lines-after flatMap
-unbroken-resumed rooms other modes numbers whole says fits cut = cut-and-resumed rooms other modes numbers [] whole says fits cut (omega arith)
+unbroken-resumed rooms other modes rule numbers whole says fits cut = cut-and-resumed rooms other modes rule numbers [] whole says fits cut (omega arith)

@@ -4,7 +4,6 @@ use mathlib.Core.List.{List, [], _++_, flatMap}
 use Prim.Native.Nat.{ℕ, zero, suc, _+_, _-_, _*_, _≤_}
 use native.Mathlib.Nat.{zero-add}
 use native.Mathlib.Omega.{arith}
-use borrow.Author.Tests.{eq-eqb}
 use lib.ListN.{length, take}
 use Rattle.entities.specs.declared.Triple.{Triple}
 use Rattle.fields.specs.Lines.{lines, kept-of}
@@ -13,9 +12,9 @@ use Rattle.terms.specs.Job.{Job}
 use Rattle.history.specs.computed.Greedy.{greedy, finished}
 use Rattle.history.proofs.RunLawful.{greedy-length}
 use Rattle.history.proofs.GreedySteps.{greedy-on}
-use Rattle.obeying.specs.Obeying.{went, obeyed, obeyed-texts, obeyed-header}
+use Rattle.obeying.specs.Obeying.{went, obeyed, obeyed-texts}
 use Rattle.journal.specs.computed.NewText.{new-text, unbroken}
-use Rattle.obeying.proofs.LineRead.{header-read}
+use Rattle.obeying.proofs.LineRead.{own-header}
 use Rattle.journal.proofs.ObeyGreedy.{greedy-obeyed}
 use Rattle.journal.proofs.GreedyLines.{unbroken-lines, unbroken-joined, unbroken-are-lines, length-unbroken-lines, kept-and-new}
 
@@ -47,13 +46,11 @@ module _ (job : Job) (few : 3 * job .modes ≤ 65535) (light : length (job .term
   texts = unbroken-lines job
 
   texts-obeyed : (whole : ℕ) → whole - 1 ≤ job .modes → obeyed-texts job (take whole texts) ≡ went (greedy job (whole - 1) [])
-  unfolding unbroken-lines obeyed-texts obeyed-header greedy
+  unfolding unbroken-lines obeyed-texts greedy
   texts-obeyed zero h = refl
   texts-obeyed (suc j) h =
       let e : suc j - 1 ≡ j = omega arith in
-      rw (header-read (job .modes) (length (job .terms)) (omega arith) (omega arith), e)
-      (rw (eq-eqb (job .modes) (job .modes) refl, eq-eqb (length (job .terms)) (length (job .terms)) refl)
-      (greedy-obeyed job few light j (job .modes) [] tt (omega arith) (omega arith)))
+      rw (own-header job (omega arith) (omega arith), e) (greedy-obeyed job few light j (job .modes) [] tt (omega arith) (omega arith))
 
   -- Any cut.
   module _ (k : ℕ) where

@@ -61,7 +61,7 @@ module _ (job : Job) where
 module _ (job : Job) where
   -- The lines of an unbroken run.
   unfoldable pub unbroken-lines : List (List ℕ)
-  unbroken-lines = header-text (job .modes) (length (job .terms)) ∷ greedy-lines job (job .modes) []
+  unbroken-lines = header-text (job .rule) (job .modes) (length (job .terms)) ∷ greedy-lines job (job .modes) []
 
   pub unbroken-joined : unbroken job ≡ flatMap (λ line. line) unbroken-lines
   unfolding unbroken new-text header-behind unbroken-lines flatMap
@@ -70,7 +70,7 @@ module _ (job : Job) where
   pub unbroken-are-lines : every is-line unbroken-lines ≡ true
   unfolding unbroken-lines
   unbroken-are-lines =
-      every-cons is-line (header-text (job .modes) (length (job .terms))) (greedy-lines job (job .modes) []) (header-is-line (job .modes) (length (job .terms))) (greedy-are-lines job (job .modes) [])
+      every-cons is-line (header-text (job .rule) (job .modes) (length (job .terms))) (greedy-lines job (job .modes) []) (header-is-line (job .rule) (job .modes) (length (job .terms))) (greedy-are-lines job (job .modes) [])
 
   pub length-unbroken-lines : length unbroken-lines ≡ suc (job .modes)
   unfolding unbroken-lines
@@ -84,18 +84,18 @@ module _ (job : Job) where
 
   -- The header and some merge lines, and what a run writes that goes on behind them.
   goes-on : (j : ℕ) → j ≤ job .modes
-      → (header-text (job .modes) (length (job .terms)) ++ flatMap (λ line. line) (take j (greedy-lines job (job .modes) [])))
+      → (header-text (job .rule) (job .modes) (length (job .terms)) ++ flatMap (λ line. line) (take j (greedy-lines job (job .modes) [])))
       ++ new-text job
-      (length (header-text (job .modes) (length (job .terms)) ++ flatMap (λ line. line) (take j (greedy-lines job (job .modes) [])))) (greedy job j [])
+      (length (header-text (job .rule) (job .modes) (length (job .terms)) ++ flatMap (λ line. line) (take j (greedy-lines job (job .modes) [])))) (greedy job j [])
       ≡ unbroken job
   unfolding unbroken-lines flatMap
   goes-on j h =
-      let header = header-text (job .modes) (length (job .terms)) in
+      let header = header-text (job .rule) (job .modes) (length (job .terms)) in
       let all = greedy-lines job (job .modes) [] in
       let first = flatMap (λ line. line) (take j all) in
       let reached = greedy job j [] in
       let rest = greedy-lines job (job .modes - j) reached in
-      let some : 0 < length (header ++ first) = omega (arith, length-append header first, length-header (job .modes) (length (job .terms))) in
+      let some : 0 < length (header ++ first) = omega (arith, length-append header first, length-header (job .rule) (job .modes) (length (job .terms))) in
       let left : job .modes - length reached ≡ job .modes - j = omega (arith, greedy-length job j []) in
       ap (λ l. (header ++ first) ++ l)
       (no-header (length (header ++ first)) reached some ∙ ap (λ n. flatMap (λ line. line) (greedy-lines job n reached)) left)

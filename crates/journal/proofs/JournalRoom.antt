@@ -52,12 +52,12 @@ module _ (job : Job) (few : 3 * job .modes < 1000) (light : length (job .terms) 
       → length (new-text job kept history) ≤ 16 + 21 * (job .modes - length history)
   unfolding new-text header-behind
   new-fits kept history lawful h =
-      let header = header-text (job .modes) (length (job .terms)) in
+      let header = header-text (job .rule) (job .modes) (length (job .terms)) in
       let rest = flatMap (λ line. line) (greedy-lines job (job .modes - length history) history) in
       omega (
         arith,
         length-append (header-behind job kept) rest,
-        whichever length 16 (eqb kept 0) header [] (λ e. header-short (job .modes) (length (job .terms)) (omega arith) light) (omega arith),
+        whichever length 16 (eqb kept 0) header [] (λ e. header-short (job .rule) (job .modes) (length (job .terms)) (omega arith) light) (omega arith),
         steps-fit (job .modes - length history) history lawful (omega arith),
       )
 
@@ -81,10 +81,10 @@ module _ (job : Job) (few : 3 * job .modes < 1000) (light : length (job .terms) 
       → length (journal-text job history) ≤ 16 + 21 * job .modes
   unfolding journal-text
   journal-fits history lawful h =
-      let header = header-text (job .modes) (length (job .terms)) in
+      let header = header-text (job .rule) (job .modes) (length (job .terms)) in
       omega (
         arith,
         length-append header (flatMap (λ line. line) (lines-of job history)),
-        header-short (job .modes) (length (job .terms)) (omega arith) light,
+        header-short (job .rule) (job .modes) (length (job .terms)) (omega arith) light,
         lines-fit history lawful h,
       )

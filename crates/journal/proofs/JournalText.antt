@@ -5,7 +5,6 @@ use mathlib.Core.List.{List, [], _∷_, _++_, flatMap}
 use Prim.Native.Nat.{ℕ, zero, suc, _+_, _-_, _*_, _<_, _≤_}
 use native.Mathlib.Nat.{zero-add, sub-zero}
 use native.Mathlib.Omega.{arith}
-use borrow.Author.Tests.{eq-eqb}
 use lib.ListN.{length}
 use Rattle.lists.specs.Members.{every}
 use Rattle.lists.specs.Ranges.{listed}
@@ -20,8 +19,8 @@ use Rattle.history.specs.Choice.{weight-in}
 use Rattle.history.proofs.Amounts.{newest-merge, older-merge}
 use Rattle.history.proofs.RowsAfter.{weight-in-most}
 use Rattle.obeying.specs.LineForms.{header-text}
-use Rattle.obeying.specs.Obeying.{went, obeyed-header, obeyed-lines, obeyed-texts, obeyed}
-use Rattle.obeying.proofs.LineRead.{header-read}
+use Rattle.obeying.specs.Obeying.{went, obeyed-lines, obeyed-texts, obeyed}
+use Rattle.obeying.proofs.LineRead.{own-header}
 use Rattle.obeying.proofs.LinesObeyed.{lines-on-lines}
 use Rattle.journal.specs.Writing.{line-of, lines-of, journal-text}
 use Rattle.journal.specs.code.NewLines.{noted-line, noted-text, noted-behind}
@@ -38,12 +37,12 @@ module _ (job : Job) where
       (every-cons is-line (line-of job history merge) [] (merge-is-line (length history) merge (weight-in job history merge)) refl)
 
   -- The lines of the journal are the header and those of the merges.
-  pub journal-lines : (history : List Triple) → lines (journal-text job history) ≡ header-text (job .modes) (length (job .terms)) ∷ lines-of job history
+  pub journal-lines : (history : List Triple) → lines (journal-text job history) ≡ header-text (job .rule) (job .modes) (length (job .terms)) ∷ lines-of job history
   unfolding journal-text flatMap
   journal-lines history =
-      let header = header-text (job .modes) (length (job .terms)) in
+      let header = header-text (job .rule) (job .modes) (length (job .terms)) in
       lines-read-back (header ∷ lines-of job history)
-      (every-cons is-line header (lines-of job history) (header-is-line (job .modes) (length (job .terms))) (are-lines history))
+      (every-cons is-line header (lines-of job history) (header-is-line (job .rule) (job .modes) (length (job .terms))) (are-lines history))
 
   module _ (few : 3 * job .modes ≤ 65535) (light : length (job .terms) ≤ 65535) where
     lines-obeyed : (history : List Triple) → LawfulHistory (job .modes) history → length history ≤ job .modes
@@ -57,11 +56,10 @@ module _ (job : Job) where
 
     pub journal-obeyed : (history : List Triple) → LawfulHistory (job .modes) history → length history ≤ job .modes
         → obeyed job (journal-text job history) ≡ went history
-    unfolding obeyed obeyed-texts obeyed-header
+    unfolding obeyed obeyed-texts
     journal-obeyed history lawful h =
         ap (obeyed-texts job) (journal-lines history)
-        ∙ rw (header-read (job .modes) (length (job .terms)) (omega arith) (omega arith))
-        (rw (eq-eqb (job .modes) (job .modes) refl, eq-eqb (length (job .terms)) (length (job .terms)) refl) (lines-obeyed history lawful h))
+        ∙ rw (own-header job (omega arith) (omega arith)) (lines-obeyed history lawful h)
 
   -- What the code notes of a run's merges are their lines.
   older-line : (merge : Triple) (history : List Triple) (step : ℕ) → step < length history

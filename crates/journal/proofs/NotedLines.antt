@@ -31,7 +31,7 @@ module _ (job : Job) where
   unfolding header-behind
   no-header kept some = rw (ne-eqb kept 0 some)
 
-  pub header-first : (kept : ℕ) → kept ≡ 0 → header-behind job kept ≡ header-text (job .modes) (length (job .terms))
+  pub header-first : (kept : ℕ) → kept ≡ 0 → header-behind job kept ≡ header-text (job .rule) (job .modes) (length (job .terms))
   unfolding header-behind
   header-first kept none-kept = rw (eq-eqb kept 0 none-kept)
 

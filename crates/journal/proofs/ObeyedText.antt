@@ -21,9 +21,9 @@ module _ (job : Job) (bytes : List ℕ) (history : List Triple) (e : obeyed job 
   ends-well : (i : ℕ) → i < length (lines bytes) → getD (getD (lines bytes) i []) (length (getD (lines bytes) i []) - 1) 0 ≡ 10
   ends-well i h = line-ends (getD (lines bytes) i []) (every-at is-line (lines bytes) i [] h (lines-are-lines bytes))
 
-  pub header-stands : 0 < length (lines bytes) → getD (lines bytes) 0 [] ≡ header-text (job .modes) (length (job .terms))
+  pub header-stands : 0 < length (lines bytes) → getD (lines bytes) 0 [] ≡ header-text (job .rule) (job .modes) (length (job .terms))
   header-stands some =
-      header-written (getD (lines bytes) 0 []) (job .modes) (length (job .terms)) (obedient job bytes history e .header some) (ends-well 0 some)
+      header-written (getD (lines bytes) 0 []) (job .rule) (job .modes) (length (job .terms)) (ends-well 0 some) (obedient job bytes history e .header some)
 
   pub merge-stands : (i : ℕ) → i < length history
       → getD (lines bytes) (suc i) [] ≡ line-of job (history-before history i) (merge-of history i)

@@ -10,6 +10,8 @@ use Rattle.lists.specs.Ranges.{listed}
 use Rattle.lists.proofs.Tests.{both}
 use Rattle.entities.specs.declared.Triple.{Triple}
 use Rattle.fields.specs.Lines.{lines, kept-of}
+use Rattle.terms.specs.declared.rules.Rule.{Rule}
+use Rattle.terms.specs.Rules.{rule-of}
 use Rattle.terms.specs.Job.{Job, job-of}
 use Rattle.terms.specs.Good.{modes-good, checked}
 use Rattle.terms.specs.declared.checking.Checked.the-variants.{Good}
@@ -36,10 +38,10 @@ joined-lines line from zero = refl
 joined-lines line from (suc count) = ap (λ l. line from ++ l) (joined-lines line (suc from) count)
 
 -- The end of a run from the merges that a journal says.
-module _ (modes count : ℕ) (numbers bytes : List ℕ) (good : checked modes numbers ≡ Good count) (some : 1 ≤ modes) (history : List Triple)
-    (obeys : obeyed (job-of modes count numbers) bytes ≡ went history) where
+module _ (modes : ℕ) (rule : Rule) (count : ℕ) (numbers bytes : List ℕ) (good : checked modes numbers ≡ Good count) (some : 1 ≤ modes) (history : List Triple)
+    (obeys : obeyed (job-of modes rule count numbers) bytes ≡ went history) where
   abbrev job : Job
-  job = job-of modes count numbers
+  job = job-of modes rule count numbers
 
   told : Obedient job (lines bytes) history
   told = obedient job bytes history obeys
@@ -56,7 +58,7 @@ module _ (modes count : ℕ) (numbers bytes : List ℕ) (good : checked modes nu
       ∙ ap (λ n. header ++ noted-text job merges (length history) (n - length history)) (finished-length job history (told .lawful) (told .within))
       ∙ ap (λ l. header ++ l) (joined-lines (noted-line job merges) (length history) (modes - length history))
 
-  pub ending-told : ObeyedThenGreedy modes numbers bytes (ending job bytes history)
+  pub ending-told : ObeyedThenGreedy modes rule numbers bytes (ending job bytes history)
   unfolding ending
   ending-told =
       record {
@@ -75,10 +77,10 @@ module _ (modes count : ℕ) (numbers bytes : List ℕ) (good : checked modes nu
 
 pub obeyed-then-greedy : EveryCall
 unfolding modes-good
-obeyed-then-greedy rooms modes numbers bytes part says =
-    let known = call-done rooms modes numbers bytes part says in
+obeyed-then-greedy rooms modes rule numbers bytes part says =
+    let known = call-done rooms modes rule numbers bytes part says in
     let some = leb-true 1 modes (both (leb 1 modes) (leb modes (rooms .modes)) (known .modes-are) .0) in
-    let whole = ending-told modes (known .count) numbers bytes (known .terms-are) some (known .history) (known .obeys) in
-    let as-ended : (p : Ending) → p ≡ ending (job-of modes (known .count) numbers) bytes (known .history) → ObeyedThenGreedy modes numbers bytes p =
+    let whole = ending-told modes (rule-of rule) (known .count) numbers bytes (known .terms-are) some (known .history) (known .obeys) in
+    let as-ended : (p : Ending) → p ≡ ending (job-of modes (rule-of rule) (known .count) numbers) bytes (known .history) → ObeyedThenGreedy modes (rule-of rule) numbers bytes p =
     λ p e. rw e whole in
     as-ended part (known .ends)

@@ -7,6 +7,7 @@ use borrow.Author.Tests.{leb-true}
 use lib.Dec.{leb}
 use lib.ListN.{length}
 use Rattle.lists.proofs.Tests.{both}
+use Rattle.terms.specs.Rules.{rule-of}
 use Rattle.terms.specs.Job.{job-of}
 use Rattle.terms.specs.Good.{modes-good}
 use Rattle.history.specs.computed.Greedy.{finished}
@@ -22,12 +23,12 @@ pub record RowsFit (rooms : Rooms) (modes : ℕ) (part : Ending) : Type 0 where
   pub room : 4 * modes ≤ rooms .rows
   pub exact : length (part .rows) ≡ 4 * modes
 
-pub rows-fit : (rooms : Rooms) (modes : ℕ) (numbers bytes : List ℕ) (part : Ending) → 3 * rooms .modes ≤ 65535
-    → resumed rooms modes numbers bytes ≡ done part → RowsFit rooms modes part
+pub rows-fit : (rooms : Rooms) (modes rule : ℕ) (numbers bytes : List ℕ) (part : Ending) → 3 * rooms .modes ≤ 65535
+    → resumed rooms modes rule numbers bytes ≡ done part → RowsFit rooms modes part
 unfolding modes-good ending
-rows-fit rooms modes numbers bytes part small says =
-    let known = call-done rooms modes numbers bytes part says in
-    let job = job-of modes (known .count) numbers in
+rows-fit rooms modes rule numbers bytes part small says =
+    let known = call-done rooms modes rule numbers bytes part says in
+    let job = job-of modes (rule-of rule) (known .count) numbers in
     let history = known .history in
     let m = both (leb 1 modes) (leb modes (rooms .modes)) (known .modes-are) in
     let some = leb-true 1 modes (m .0) in

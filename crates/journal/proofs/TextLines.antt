@@ -1,5 +1,5 @@
 -- The header and a merge line, as they are written, are one line each: no digit, tab or letter is an LF.
-use mathlib.Core.Path.{_≡_}
+use mathlib.Core.Path.{_≡_, refl}
 use mathlib.Core.Bool.{true}
 use mathlib.Core.List.{[], _∷_, map}
 use Prim.Native.Nat.{ℕ}
@@ -11,13 +11,20 @@ use Rattle.fields.specs.Lines.{is-line}
 use Rattle.fields.specs.Fields.{tabbed}
 use Rattle.fields.proofs.LinesJoined.{no-feed, line-ended}
 use Rattle.fields.proofs.NumbersTabbed.{tabbed-free, decimals-free}
-use Rattle.obeying.specs.LineForms.{header-text, merge-text}
+use Rattle.terms.specs.declared.rules.Rule.{Rule}
+use Rattle.terms.specs.declared.rules.Rule.the-variants.{Published, Keep}
+use Rattle.obeying.specs.LineForms.{rule-word, header-text, merge-text}
 
-pub header-is-line : (modes terms : ℕ) → is-line (header-text modes terms) ≡ true
+word-no-feed : (rule : Rule) → no-feed (rule-word rule) ≡ true
+unfolding rule-word every no-feed
+word-no-feed Published = refl
+word-no-feed Keep = refl
+
+pub header-is-line : (rule : Rule) (modes terms : ℕ) → is-line (header-text rule modes terms) ≡ true
 unfolding header-text no-feed every
-header-is-line modes terms =
-    line-ended (tabbed (spelt "hatt" ∷ (spelt "1" ∷ map decimal (modes ∷ (terms ∷ [])))))
-    (tabbed-free (spelt "hatt" ∷ (spelt "1" ∷ map decimal (modes ∷ (terms ∷ [])))) (decimals-free (modes ∷ (terms ∷ []))))
+header-is-line rule modes terms =
+    let parts = rule-word rule ∷ (spelt "1" ∷ map decimal (modes ∷ (terms ∷ []))) in
+    line-ended (tabbed parts) (tabbed-free parts (rw (word-no-feed rule) (decimals-free (modes ∷ (terms ∷ [])))))
 
 pub merge-is-line : (step : ℕ) (triple : Triple) (weight : ℕ) → is-line (merge-text step triple weight) ≡ true
 unfolding merge-text

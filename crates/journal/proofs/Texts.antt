@@ -9,8 +9,10 @@ use Rattle.entities.specs.declared.Triple.{Triple}
 use Rattle.fields.specs.Decimal.{decimal}
 use Rattle.fields.specs.Fields.{tabbed}
 use Rattle.fields.proofs.PuttingBytes.{field, Put, put-wrote}
+use Rattle.terms.specs.declared.rules.Rule.{Rule}
 use Rattle.obeying.specs.LineForms.{header-text, merge-text}
-use Rattle.obeying.proofs.LineSaid.{header-opening}
+use Rattle.obeying.specs.code.Openings.{header-opening}
+use Rattle.obeying.proofs.LineSaid.{length-word, length-opening}
 
 module _ (step : ℕ) (triple : Triple) (weight : ℕ) where
   merge-fields : (((field step 9 ++ field (triple .x) 9) ++ field (triple .y) 9) ++ field (triple .z) 9) ++ field weight 10
@@ -40,21 +42,22 @@ module _ (step : ℕ) (triple : Triple) (weight : ℕ) where
       rw (← merge-fields)
       (then-wrote four (put-wrote weight 10 fifth) (omega (arith, first .0, second .0, third .0, fourth .0, length-merge)))
 
-module _ (modes terms : ℕ) where
-  header-fields : (header-opening ++ field modes 9) ++ field terms 10 ≡ header-text modes terms
-  unfolding header-text tabbed
+module _ (rule : Rule) (modes terms : ℕ) where
+  header-fields : (header-opening rule ++ field modes 9) ++ field terms 10 ≡ header-text rule modes terms
+  unfolding header-text header-opening tabbed
   header-fields = simp append-assoc
 
-  pub length-header : length (header-text modes terms) ≡ 7 + ((length (decimal modes) + 1) + (length (decimal terms) + 1))
+  pub length-header : length (header-text rule modes terms) ≡ 7 + ((length (decimal modes) + 1) + (length (decimal terms) + 1))
   unfolding header-text tabbed
-  length-header = simp length-append (omega arith)
+  length-header = simp length-append (omega (arith, length-word rule))
 
-  pub header-wrote : (s : List ℕ) → length (header-text modes terms) ≤ length s
+  pub header-wrote : (s : List ℕ) → length (header-text rule modes terms) ≤ length s
       → {out₁ out₂ out₃ : List ℕ} {at₁ at₂ at₃ : ℕ}
-      → Wrote 0 header-opening s out₁ at₁
+      → Wrote 0 (header-opening rule) s out₁ at₁
       → Put out₁ at₁ modes 9 out₂ at₂
       → Put out₂ at₂ terms 10 out₃ at₃
-      → Wrote 0 (header-text modes terms) s out₃ at₃
+      → Wrote 0 (header-text rule modes terms) s out₃ at₃
   header-wrote s room begun first second =
+      let seven = length-opening rule in
       let one = then-wrote begun (put-wrote modes 9 first) (omega (arith, begun .behind, length-header)) in
       rw (← header-fields) (then-wrote one (put-wrote terms 10 second) (omega (arith, begun .behind, first .0, length-header)))

@@ -5,10 +5,12 @@ use Prim.Native.Nat.{ℕ, _+_, _-_, _*_}
 use lib.Dec.{leb}
 use lib.ListN.{length}
 use Rattle.refusal.specs.declared.Refusal.{Refusal}
-use Rattle.refusal.specs.declared.Refusal.the-variants.{Modes, Room}
+use Rattle.refusal.specs.declared.Refusal.the-variants.{Modes, Room, Rule as NoRule}
 use Rattle.entities.specs.declared.Triple.{Triple}
 use Rattle.entities.specs.Limits.{row-width}
 use Rattle.fields.specs.Lines.{kept-of}
+use Rattle.terms.specs.declared.rules.Rule.{Rule}
+use Rattle.terms.specs.Rules.{rule-good, rule-of}
 use Rattle.terms.specs.Job.{Job, job-of}
 use Rattle.terms.specs.Good.{modes-good, checked}
 use Rattle.terms.specs.declared.checking.Checked.{Checked}
@@ -62,17 +64,18 @@ roomy rooms modes count =
     leb (row-width * count) (rooms .work) && (leb (4 * modes) (rooms .rows) && leb (16 + 21 * modes) (rooms .journal))
 
 -- 5: "any buffer below its room"; then the journal's lines.
-unfoldable pub with-terms : Rooms → ℕ → List ℕ → List ℕ → Checked → Outcome
-with-terms rooms modes numbers bytes (Good count) =
+unfoldable pub with-terms : Rooms → ℕ → Rule → List ℕ → List ℕ → Checked → Outcome
+with-terms rooms modes rule numbers bytes (Good count) =
     cond (not (roomy rooms modes count)) (refuses Room)
-    (with-journal (job-of modes count numbers) bytes (obeyed (job-of modes count numbers) bytes))
-with-terms rooms modes numbers bytes (BadTerms refusal) = refuses refusal
+    (with-journal (job-of modes rule count numbers) bytes (obeyed (job-of modes rule count numbers) bytes))
+with-terms rooms modes rule numbers bytes (BadTerms refusal) = refuses refusal
 
--- The meaning of `resume`: from the rooms, the modes, the terms' numbers and the journal read.
-unfoldable pub resumed : Rooms → ℕ → List ℕ → List ℕ → Outcome
-resumed rooms modes numbers bytes =
-    cond (not (modes-good (rooms .modes) modes)) (refuses Modes) (with-terms rooms modes numbers bytes (checked modes numbers))
+-- The meaning of `resume`: from the rooms, the modes, the rule's number, the terms' numbers and the journal read. 20 is "checked after 1".
+unfoldable pub resumed : Rooms → ℕ → ℕ → List ℕ → List ℕ → Outcome
+resumed rooms modes rule numbers bytes =
+    cond (not (modes-good (rooms .modes) modes)) (refuses Modes)
+    (cond (not (rule-good rule)) (refuses NoRule) (with-terms rooms modes (rule-of rule) numbers bytes (checked modes numbers)))
 
 -- "The HATT call is resuming from an empty journal."
-unfoldable pub hatt-run : Rooms → ℕ → List ℕ → Outcome
-hatt-run rooms modes numbers = resumed rooms modes numbers []
+unfoldable pub hatt-run : Rooms → ℕ → ℕ → List ℕ → Outcome
+hatt-run rooms modes rule numbers = resumed rooms modes rule numbers []

@@ -15,7 +15,7 @@ line-of job history merge = merge-text (length history) merge (weight-in job his
 
 -- "the header first if nothing was kept".
 unfoldable pub header-behind : Job → ℕ → List ℕ
-header-behind job kept = cond (eqb kept 0) (header-text (job .modes) (length (job .terms))) []
+header-behind job kept = cond (eqb kept 0) (header-text (job .rule) (job .modes) (length (job .terms))) []
 
 -- The lines of merges, the oldest first.
 unfoldable pub lines-of : Job → List Triple → List (List ℕ)
@@ -24,4 +24,4 @@ lines-of job (merge ∷ history) = lines-of job history ++ (line-of job history 
 
 -- The journal of merges: the header and their lines.
 unfoldable pub journal-text : Job → List Triple → List ℕ
-journal-text job history = header-text (job .modes) (length (job .terms)) ++ flatMap (λ line. line) (lines-of job history)
+journal-text job history = header-text (job .rule) (job .modes) (length (job .terms)) ++ flatMap (λ line. line) (lines-of job history)

@@ -12,6 +12,7 @@ ghost use Rattle.journal.specs.code.NewLines.{«noted-line», «noted-fr
 use crate::writing;
 use merging::asked;
 use merging::run::Run;
+use terms::rules::Rule;
 
 // The line of one step written at this place; the place after it.
 fn put_step(run: Run, step: usize, journal: &mut [u8], at: usize) -> usize
@@ -39,15 +40,15 @@ fn put_steps(run: Run, from: usize, journal: &mut [u8], start: usize) -> usize
 }
 
 // The header, if nothing was kept; how many bytes it has.
-fn put_first(modes: usize, count: usize, kept: usize, journal: &mut [u8]) -> usize
+fn put_first(rule: Rule, modes: usize, count: usize, kept: usize, journal: &mut [u8]) -> usize
     requires { ⌜ (modes < 65536) × (count < 65536) ⌝ }
-    requires { ⌜ ((job : Job) × (Sized job modes count × (length (header-behind job kept) ≤ length (now journal)))) ⌝ }
-    ensures { λ r. ⌜ ((job : Job) → Sized job modes count → (r ≡ length (header-behind job kept)) × (now (journal .exit) ≡ written-at 0 (header-behind job kept) (now (journal .entry)))) ⌝ }
+    requires { ⌜ ((job : Job) × (Sized job modes count × ((job .rule ≡ rule) × (length (header-behind job kept) ≤ length (now journal))))) ⌝ }
+    ensures { λ r. ⌜ ((job : Job) → Sized job modes count → job .rule ≡ rule → (r ≡ length (header-behind job kept)) × (now (journal .exit) ≡ written-at 0 (header-behind job kept) (now (journal .entry)))) ⌝ }
 {
     if kept != 0 {
         return 0;
     }
-    writing::put_header(journal, modes as u16, count as u16)
+    writing::put_header(journal, rule, modes as u16, count as u16)
 }
 
 // The lines of a run's merges from one on, behind the header if nothing was kept, written over the front; how many bytes that is.
@@ -62,6 +63,6 @@ pub fn write_new(
     requires { ⌜ ((job : Job) × ((own : List ℕ) × TextFits job own run modes count from kept (length (now journal)))) ⌝ }
     ensures { λ r. ⌜ ((job : Job) (own : List ℕ) → TextFits job own run modes count from kept (length (now (journal .entry))) → (r ≡ length (noted-behind job kept (history-of run) from)) × (now (journal .exit) ≡ written-at 0 (noted-behind job kept (history-of run) from) (now (journal .entry)))) ⌝ }
 {
-    let start = put_first(modes, count, kept, journal);
+    let start = put_first(asked::rule_of(run), modes, count, kept, journal);
     put_steps(run, from, journal, start)
 }

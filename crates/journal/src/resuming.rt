@@ -24,6 +24,8 @@ use obeying::Verdict;
 use refusal::Refusal;
 use terms::checking;
 use terms::checking::Checked;
+use terms::rules;
+use terms::rules::Rule;
 use terms::slices;
 
 // The four numbers of a run: greedy weight, trials, kept bytes and new bytes.
@@ -90,6 +92,7 @@ fn finish_lent(
 // The journal obeyed on rows of the call's own, and the run that goes on from it.
 fn resume_own(
     modes: usize,
+    rule: Rule,
     count: usize,
     own: &mut [u16],
     read: &[u8],
@@ -99,10 +102,10 @@ fn resume_own(
 ) -> Answer
     requires { ⌜ (1 ≤ modes) × (modes ≤ most-modes) × (count ≤ most-terms) × Held row-width count (now own) ⌝ }
     requires { ⌜ roomy (rooms-of most-modes (lent (now work) (now rows) (now journal))) modes count ≡ true ⌝ }
-    ensures { λ r. ⌜ Answers (λ given. with-journal (job-of modes count (now (own .entry))) (now (read .entry)) (obeyed (job-of modes count (now (own .entry))) (now (read .entry))))
+    ensures { λ r. ⌜ Answers (λ given. with-journal (job-of modes rule count (now (own .entry))) (now (read .entry)) (obeyed (job-of modes rule count (now (own .entry))) (now (read .entry))))
         (lent (now (work .entry)) (now (rows .entry)) (now (journal .entry))) (lent (now (work .exit)) (now (rows .exit)) (now (journal .exit))) r ⌝ }
 {
-    let found = obeying::obey(modes, count, own, read);
+    let found = obeying::obey(modes, rule, count, own, read);
     let verdict = found.verdict;
     match verdict {
         Verdict::Refused(why) => Answer::Refused(why),
@@ -116,6 +119,7 @@ fn resume_own(
 // A run from good terms with room for all it writes: the journal is obeyed on a copy of the terms, so that a refusal alters nothing.
 fn resume_copy(
     modes: usize,
+    rule: Rule,
     count: usize,
     terms: &[u16],
     read: &[u8],
@@ -125,16 +129,17 @@ fn resume_copy(
 ) -> Answer
     requires { ⌜ (1 ≤ modes) × (modes ≤ most-modes) × (checked modes (now terms) ≡ Good count) ⌝ }
     requires { ⌜ roomy (rooms-of most-modes (lent (now work) (now rows) (now journal))) modes count ≡ true ⌝ }
-    ensures { λ r. ⌜ Answers (λ given. with-journal (job-of modes count (now (terms .entry))) (now (read .entry)) (obeyed (job-of modes count (now (terms .entry))) (now (read .entry))))
+    ensures { λ r. ⌜ Answers (λ given. with-journal (job-of modes rule count (now (terms .entry))) (now (read .entry)) (obeyed (job-of modes rule count (now (terms .entry))) (now (read .entry))))
         (lent (now (work .entry)) (now (rows .entry)) (now (journal .entry))) (lent (now (work .exit)) (now (rows .exit)) (now (journal .exit))) r ⌝ }
 {
     let mut own = checking::own_copy(terms);
-    resume_own(modes, count, &mut own, read, work, rows, journal)
+    resume_own(modes, rule, count, &mut own, read, work, rows, journal)
 }
 
 // Good terms: the rooms, and then the run.
 fn resume_good(
     modes: usize,
+    rule: Rule,
     count: usize,
     terms: &[u16],
     read: &[u8],
@@ -143,7 +148,7 @@ fn resume_good(
     journal: &mut [u8],
 ) -> Answer
     requires { ⌜ (1 ≤ modes) × (modes ≤ most-modes) × (checked modes (now terms) ≡ Good count) ⌝ }
-    ensures { λ r. ⌜ Answers (λ given. with-terms (rooms-of most-modes given) modes (now (terms .entry)) (now (read .entry)) (Good count))
+    ensures { λ r. ⌜ Answers (λ given. with-terms (rooms-of most-modes given) modes rule (now (terms .entry)) (now (read .entry)) (Good count))
         (lent (now (work .entry)) (now (rows .entry)) (now (journal .entry))) (lent (now (work .exit)) (now (rows .exit)) (now (journal .exit))) r ⌝ }
 {
     if work.len() < 8 * count {
@@ -155,19 +160,20 @@ fn resume_good(
     if journal.len() < 16 + 21 * modes {
         return Answer::Refused(Refusal::Room);
     }
-    resume_copy(modes, count, terms, read, work, rows, journal)
+    resume_copy(modes, rule, count, terms, read, work, rows, journal)
 }
 
-// The run that a journal leads to, from its last complete line to the end.
+// The run by this rule that a journal leads to, from its last complete line to the end.
 pub fn resume(
     modes: usize,
+    rule: usize,
     terms: &[u16],
     read: &[u8],
     work: &mut [u16],
     rows: &mut [u16],
     journal: &mut [u8],
 ) -> Answer
-    ensures { λ r. ⌜ Answers (λ given. resumed (rooms-of most-modes given) modes (now (terms .entry)) (now (read .entry)))
+    ensures { λ r. ⌜ Answers (λ given. resumed (rooms-of most-modes given) modes rule (now (terms .entry)) (now (read .entry)))
         (lent (now (work .entry)) (now (rows .entry)) (now (journal .entry))) (lent (now (work .exit)) (now (rows .exit)) (now (journal .exit))) r ⌝ }
 {
     if modes < 1 {
@@ -176,22 +182,26 @@ pub fn resume(
     if 256 < modes {
         return Answer::Refused(Refusal::Modes);
     }
+    if 1 < rule {
+        return Answer::Refused(Refusal::Rule);
+    }
     match checking::check_terms(modes, terms) {
         Checked::Refused(refusal) => Answer::Refused(refusal),
-        Checked::Good(count) => resume_good(modes, count, terms, read, work, rows, journal),
+        Checked::Good(count) => resume_good(modes, rules::rule_of(rule), count, terms, read, work, rows, journal),
     }
 }
 
-// An unbroken run: resuming from an empty journal.
+// An unbroken run by this rule: resuming from an empty journal.
 pub fn hatt(
     modes: usize,
+    rule: usize,
     terms: &[u16],
     work: &mut [u16],
     rows: &mut [u16],
     journal: &mut [u8],
 ) -> Answer
-    ensures { λ r. ⌜ Answers (λ given. hatt-run (rooms-of most-modes given) modes (now (terms .entry)))
+    ensures { λ r. ⌜ Answers (λ given. hatt-run (rooms-of most-modes given) modes rule (now (terms .entry)))
         (lent (now (work .entry)) (now (rows .entry)) (now (journal .entry))) (lent (now (work .exit)) (now (rows .exit)) (now (journal .exit))) r ⌝ }
 {
-    resume(modes, terms, b"", work, rows, journal)
+    resume(modes, rule, terms, b"", work, rows, journal)
 }

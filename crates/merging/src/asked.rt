@@ -14,6 +14,7 @@ ghost use Rattle.merging.specs.code.Runs.{Holds};
 use crate::run::Run;
 use choosing::lawful;
 use entities::Triple;
+use terms::rules::Rule;
 use terms::weight;
 
 // How many merges were made.
@@ -21,6 +22,13 @@ pub fn merges(run: Run) -> usize
     ensures { λ r. ⌜ r ≡ length (history-of run) ⌝ }
 {
     run.step
+}
+
+// The rule by which it reduces its rows.
+pub fn rule_of(run: Run) -> Rule
+    ensures { λ r. ⌜ ((job : Job) (rows : List ℕ) → Holds job rows run → r ≡ job .rule) ⌝ }
+{
+    run.rule
 }
 
 // The sum of their weights.

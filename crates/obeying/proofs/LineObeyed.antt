@@ -52,7 +52,7 @@ module _ (job : Job) (rows : List ℕ) (run : Run) (holds : Holds job rows run) 
       line-made after now-rows gone =
           record { comes-to = rw (← judged) (ap went (gone .merges)); went = went-here job _ after rows now-rows gone }
 
-module _ (job : Job) (modes : ℕ) (rule : Rule) (count : ℕ) (sized : Sized job modes rule count) (run : Run) (none-yet : history-of run ≡ []) where
+module _ (job : Job) (modes count : ℕ) (sized : Sized job modes count) (rule : Rule) (ruled : job .rule ≡ rule) (run : Run) (none-yet : history-of run ≡ []) where
   -- A header that is refused comes before any merge.
   refused-first : (why : Refusal) → refused (history-of run) why ≡ refused [] why
   refused-first why = ap (λ made. refused made why) none-yet
@@ -64,22 +64,22 @@ module _ (job : Job) (modes : ℕ) (rule : Rule) (count : ℕ) (sized : Sized jo
   module _ (said : Rule) (n t : ℕ) (found : Header) (says : found ≡ HeaderIs said n t) where
     pub other-rule : (rule-number said ≡ rule-number rule → ⊥) → came-to (Refused OtherHeader) run ≡ obeyed-header job found
     unfolding came-to obeyed-header
-    other-rule other = rw (says, sized .rule-is, ne-eqb _ _ other) (refused-first OtherHeader)
+    other-rule other = rw (says, ruled, ne-eqb _ _ other) (refused-first OtherHeader)
 
     module _ (same-rule : rule-number said ≡ rule-number rule) where
       pub other-modes : (n ≡ modes → ⊥) → came-to (Refused OtherHeader) run ≡ obeyed-header job found
       unfolding came-to obeyed-header
-      other-modes other = rw (says, sized .rule-is, eq-eqb _ _ same-rule, sized .modes-are, ne-eqb _ _ other) (refused-first OtherHeader)
+      other-modes other = rw (says, ruled, eq-eqb _ _ same-rule, sized .modes-are, ne-eqb _ _ other) (refused-first OtherHeader)
 
       module _ (same : n ≡ modes) where
         pub other-terms : (t ≡ count → ⊥) → came-to (Refused OtherHeader) run ≡ obeyed-header job found
         unfolding came-to obeyed-header
         other-terms other =
-            rw (says, sized .rule-is, eq-eqb _ _ same-rule, sized .modes-are, eq-eqb _ _ same, sized .count-is, ne-eqb _ _ other)
+            rw (says, ruled, eq-eqb _ _ same-rule, sized .modes-are, eq-eqb _ _ same, sized .count-is, ne-eqb _ _ other)
             (refused-first OtherHeader)
 
         pub same-header : t ≡ count → came-to Fine run ≡ obeyed-header job found
         unfolding came-to obeyed-header
         same-header counted =
-            rw (says, sized .rule-is, eq-eqb _ _ same-rule, sized .modes-are, eq-eqb _ _ same, sized .count-is, eq-eqb _ _ counted)
+            rw (says, ruled, eq-eqb _ _ same-rule, sized .modes-are, eq-eqb _ _ same, sized .count-is, eq-eqb _ _ counted)
             (ap went none-yet)

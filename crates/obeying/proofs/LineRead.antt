@@ -4,7 +4,7 @@ use mathlib.Core.Bool.{Bool, true, false, _&&_}
 use mathlib.Core.List.{List, [], _∷_, _++_, map}
 use Prim.Native.Nat.{ℕ, _-_, _≤_}
 use native.Mathlib.Omega.{arith}
-use borrow.Author.Tests.{eqb-true, le-leb}
+use borrow.Author.Tests.{eqb-true, eq-eqb, le-leb}
 use lib.Dec.{eqb}
 use lib.ListN.{length, getD, drop}
 use Rattle.lists.specs.Members.{every, alike}
@@ -21,13 +21,14 @@ use Rattle.fields.proofs.Tabbed.{no-tab}
 use Rattle.fields.proofs.NumbersTabbed.{decimal-no-tab, fits, decimals-no-tab, decimals-are-numbers, values-of-decimals, fields-line, numbers-are, line-is}
 use Rattle.terms.specs.declared.rules.Rule.{Rule}
 use Rattle.terms.specs.declared.rules.Rule.the-variants.{Published, Keep}
+use Rattle.terms.specs.Rules.{rule-number}
 use Rattle.terms.specs.Job.{Job}
 use Rattle.obeying.specs.declared.header.Header.{Header}
 use Rattle.obeying.specs.declared.header.Header.the-variants.{Is as HeaderIs, Broken as HeaderBroken}
 use Rattle.obeying.specs.declared.merge_line.MergeLine.{MergeLine}
 use Rattle.obeying.specs.declared.merge_line.Merge.the-variants.{Is as MergeIs, Broken as MergeBroken}
 use Rattle.obeying.specs.LineForms.{rule-word, header-good, header-by, header-of, merge-good, merge-of-line, header-text, merge-text}
-use Rattle.obeying.specs.Obeying.{completed, merge-by-hand}
+use Rattle.obeying.specs.Obeying.{went, obeyed-header, completed, merge-by-hand}
 use Rattle.obeying.proofs.LineSaid.{merge-said, header-fields, word-no-tab}
 
 module _ (rule : Rule) (modes terms : ℕ) (m : modes ≤ 65535) (t : terms ≤ 65535) where
@@ -53,6 +54,18 @@ pub header-read : (rule : Rule) (modes terms : ℕ) → modes ≤ 65535 → term
 unfolding header-of rule-word alike
 header-read Published modes terms m t = said-back Published modes terms m t _
 header-read Keep modes terms m t = other-word Keep modes terms m t Published _ refl ∙ said-back Keep modes terms m t _
+
+-- A job's own header is obeyed.
+pub own-header : (job : Job) → job .modes ≤ 65535 → length (job .terms) ≤ 65535
+    → obeyed-header job (header-of (header-text (job .rule) (job .modes) (length (job .terms)))) ≡ went []
+unfolding obeyed-header
+own-header job few light =
+    rw (header-read (job .rule) (job .modes) (length (job .terms)) few light)
+    (rw (
+      eq-eqb (rule-number (job .rule)) (rule-number (job .rule)) refl,
+      eq-eqb (job .modes) (job .modes) refl,
+      eq-eqb (length (job .terms)) (length (job .terms)) refl,
+    ))
 
 module _ (said : MergeLine) where
   abbrev numbers-said : List ℕ

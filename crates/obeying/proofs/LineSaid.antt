@@ -6,7 +6,7 @@ use Prim.Native.Nat.{ℕ, suc}
 use native.Mathlib.Omega.{arith}
 use borrow.Author.Tests.{eqb-true}
 use lib.Dec.{eqb, eqb·suc-suc}
-use lib.ListN.{length, getD}
+use lib.ListN.{length, getD, length-append}
 use Rattle.lists.specs.Members.{every, alike}
 use Rattle.lists.specs.Ranges.{listed}
 use Rattle.lists.proofs.Tests.{both, not-so}
@@ -80,6 +80,16 @@ pub word-no-tab : (rule : Rule) → every no-tab (rule-word rule) ≡ true
 unfolding rule-word every no-tab
 word-no-tab Published = refl
 word-no-tab Keep = refl
+
+-- Either rule's word has four letters: no journal's room turns on the rule.
+pub length-word : (rule : Rule) → length (rule-word rule) ≡ 4
+unfolding rule-word
+length-word Published = refl
+length-word Keep = refl
+
+pub length-opening : (rule : Rule) → length (header-opening rule) ≡ 7
+unfolding header-opening
+length-opening rule = simp length-append (omega (arith, length-word rule))
 
 -- With its opening a line says what the two numbers behind it say, and without it nothing.
 module _ (rule : Rule) (line : List ℕ) where

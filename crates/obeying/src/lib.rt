@@ -59,7 +59,7 @@ fn obey_line(run: Run, modes: usize, rows: &mut [u16], bytes: &[u8], by_hand: bo
 
 // The header, which has to say the call's rule, modes and terms.
 fn obey_header(modes: usize, rule: Rule, count: usize, bytes: &[u8]) -> Verdict
-    ensures { λ r. ⌜ ((job : Job) (run : State) → Sized job modes rule count → history-of run ≡ [] → came-to r run ≡ obeyed-header job (header-of (now (bytes .entry)))) ⌝ }
+    ensures { λ r. ⌜ ((job : Job) (run : State) → Sized job modes count → job .rule ≡ rule → history-of run ≡ [] → came-to r run ≡ obeyed-header job (header-of (now (bytes .entry)))) ⌝ }
 {
     match header::read_header(bytes) {
         Header::Is(said, n, t) => {

@@ -49,8 +49,8 @@ returns-2 c =
     let first = c .before .before .before .before .before .before .before .fresh .ensures rows (start .pre .1) in
     let end = c .before .before .before .before .before .before .line-end in
     let next = text-begins read (end .result) (end .ensures .0) (c .before .before .before .before .before .if1 .left) in
-    let sized : Sized job (args .modes) (args .rule) (args .count) = record { modes-are = refl; rule-is = refl; count-is = length-terms 8 (args .count) rows } in
-    header-refused job rows read run (first .0) _ _ next _ (c .before .before .before .obey-header .ensures job run sized (first .1)) _ (c .before .why .given .1)
+    let sized : Sized job (args .modes) (args .count) = record { modes-are = refl; count-is = length-terms 8 (args .count) rows } in
+    header-refused job rows read run (first .0) _ _ next _ (c .before .before .before .obey-header .ensures job run sized refl (first .1)) _ (c .before .why .given .1)
 
 enum-told : tie.Need-enum-told
 enum-told c = search needs
@@ -78,9 +78,9 @@ returns-3 c =
     let first = c .before .before .before .before .before .before .before .before .before .before .fresh .ensures rows (start .pre .1) in
     let end = c .before .before .before .before .before .before .before .before .before .line-end in
     let next = text-begins read (end .result) (end .ensures .0) (c .before .before .before .before .before .before .before .before .if1 .left) in
-    let sized : Sized job (args .modes) (args .rule) (args .count) = record { modes-are = refl; rule-is = refl; count-is = length-terms 8 (args .count) rows } in
+    let sized : Sized job (args .modes) (args .count) = record { modes-are = refl; count-is = length-terms 8 (args .count) rows } in
     let obeyed = c .before .before .obey-lines in
-    lines-behind job rows read run (first .0) _ _ next _ (c .before .before .before .before .before .before .obey-header .ensures job run sized (first .1)) (c .before .before .before .before .enum-told .given .1)
+    lines-behind job rows read run (first .0) _ _ next _ (c .before .before .before .before .before .before .obey-header .ensures job run sized refl (first .1)) (c .before .before .before .before .enum-told .given .1)
     (obeyed .last .1 .1 .0) (obeyed .result) (obeyed .ensures job (first .0) refl)
 
 pub obey-spec : {M : Type 1} → statement M

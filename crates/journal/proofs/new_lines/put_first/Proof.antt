@@ -8,7 +8,7 @@ use Rattle.journal.proofs.new_lines.put_first.Tie as tie
 
 returns : tie.Need-returns
 unfolding written-at
-returns c job sized = rw (no-header job (c .before .before .args .kept) (c .if1 .taken)) (refl, refl)
+returns c job sized ruled = rw (no-header job (c .before .before .args .kept) (c .if1 .taken)) (refl, refl)
 
 cast-put-header : tie.Need-cast-put-header
 cast-put-header c = search needs
@@ -21,14 +21,14 @@ put-header-requires c κs =
     let start = c .before .before .before in
     let job = start .pre .1 .0 in
     let sized = start .pre .1 .1 .0 in
-    rw (header-first job (start .args .kept) (c .before .if1 .left), sized .modes-are, sized .count-is) at (start .pre .1 .1 .1)
+    rw (header-first job (start .args .kept) (c .before .if1 .left), start .pre .1 .1 .1 .0, sized .modes-are, sized .count-is) at (start .pre .1 .1 .1 .1)
 
 same-length : tie.Need-same-length
 same-length c = search needs
 
 returns-2 : tie.Need-returns-2
-returns-2 c job sized =
-    rw (header-first job (c .before .before .before .before .before .before .args .kept) (c .before .before .before .before .if1 .left), sized .modes-are, sized .count-is) (c .before .before .put-header .ensures)
+returns-2 c job sized ruled =
+    rw (header-first job (c .before .before .before .before .before .before .args .kept) (c .before .before .before .before .if1 .left), ruled, sized .modes-are, sized .count-is) (c .before .before .put-header .ensures)
 
 pub put-first-spec : {M : Type 1} → statement M
 put-first-spec =

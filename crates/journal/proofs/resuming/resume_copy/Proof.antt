@@ -51,7 +51,7 @@ returns c =
     let copy = c .before .before .before .before .before .before .before .before .before .before .before .before .own-copy in
     let same = own-terms 8 (args .count) terms (copy .result) (good .whole) (copy .ensures .1) in
     answers-so _ (lent (args .work .now) (args .rows .now) (args .journal .now)) _ _ _
-    (ap (λ l. with-journal (record { modes = args .modes; terms = l }) (args .read .now) (obeyed (record { modes = args .modes; terms = l }) (args .read .now))) (sym same))
+    (ap (λ l. with-journal (record { modes = args .modes; rule = args .rule; terms = l }) (args .read .now) (obeyed (record { modes = args .modes; rule = args .rule; terms = l }) (args .read .now))) (sym same))
     (c .before .before .before .before .before .before .before .resume-own .ensures)
 
 pub resume-copy-spec : {M : Type 1} → statement M

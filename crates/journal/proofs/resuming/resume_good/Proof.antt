@@ -79,7 +79,7 @@ returns-4 c =
     let start = tests .before .before .before .before .before .before .before .before in
     let args = start .args in
     let given = lent (args .work .now) (args .rows .now) (args .journal .now) in
-    answers-so _ given _ _ _ (with-room (rooms-of 256 given) (args .modes) (args .terms .now) (args .read .now) (args .count) (all-room tests))
+    answers-so _ given _ _ _ (with-room (rooms-of 256 given) (args .modes) (args .rule) (args .terms .now) (args .read .now) (args .count) (all-room tests))
     (c .before .before .before .before .before .before .resume-copy .ensures)
 
 pub resume-good-spec : {M : Type 1} → statement M

@@ -4,6 +4,7 @@ use mathlib.Core.Bool.{true}
 use mathlib.Core.List.{List}
 use Prim.Native.Nat.{ℕ, _≤_}
 use borrow.Author.Needs.{needs}
+use Rattle.terms.specs.declared.rules.Rule.{Rule}
 use Rattle.terms.specs.Job.{job-of}
 use Rattle.terms.proofs.RowSteps.{length-terms}
 use Rattle.merging.specs.declared.run.Run.{Run}
@@ -17,10 +18,10 @@ use Rattle.journal.proofs.resuming.resume_own.Statement.{statement}
 use Rattle.journal.proofs.resuming.resume_own.Tie as tie
 
 -- The run that an accepted journal leads to, on the call's own rows.
-accepted : (modes count : ℕ) (own now-own : List ℕ) (run : Run) (given : Lent) → Holds (job-of modes count own) now-own run
+accepted : (modes : ℕ) (rule : Rule) (count : ℕ) (own now-own : List ℕ) (run : Run) (given : Lent) → Holds (job-of modes rule count own) now-own run
     → modes ≤ 256 → count ≤ 2048 → roomy (rooms-of 256 given) modes count ≡ true
-    → FromOwn (job-of modes count own) run modes count now-own given
-accepted modes count own now-own run given holds few light room =
+    → FromOwn (job-of modes rule count own) run modes count now-own given
+accepted modes rule count own now-own run given holds few light room =
     record {
       holds = holds;
       sized = record { modes-are = refl; count-is = length-terms 8 count own };
@@ -46,8 +47,8 @@ finish-lent-requires c κs =
     let start = c .before .before .before .before .before .before .before .before .before .before .before .before .before .before .before .before in
     let args = start .args in
     let own = args .own .now in (
-      job-of (args .modes) (args .count) own,
-      accepted (args .modes) (args .count) own _ _ _ (c .before .before .before .before .before .before .before .before .before .obey .ensures .went .holds) (start .pre .0 .1) (start .pre .0 .2) (start .pre .1),
+      job-of (args .modes) (args .rule) (args .count) own,
+      accepted (args .modes) (args .rule) (args .count) own _ _ _ (c .before .before .before .before .before .before .before .before .before .obey .ensures .went .holds) (start .pre .0 .1) (start .pre .0 .2) (start .pre .1),
     )
 
 same-length : tie.Need-same-length
@@ -56,7 +57,7 @@ same-length c = search needs
 returns : tie.Need-returns
 returns c =
     let args = c .before .before .before .before .before .before .before .before .before .before .before .before .args in
-    let job = job-of (args .modes) (args .count) (args .own .now) in
+    let job = job-of (args .modes) (args .rule) (args .count) (args .own .now) in
     let obey = c .before .before .before .before .before .obey in
     nothing-altered _ (lent (args .work .now) (args .rows .now) (args .journal .now)) _
     (journal-refused job (args .read .now) (obeyed job (args .read .now)) (obey .result .verdict) (obey .result .run) (obey .ensures .comes-to) _ (c .before .verdict .given .1))
@@ -77,9 +78,9 @@ returns-2 : tie.Need-returns-2
 returns-2 c =
     let start = c .before .before .before .before .before .before .before .before .before .before .before .before .before .before .before .before .before .before .before .before .before .before .before in
     let args = start .args in
-    let job = job-of (args .modes) (args .count) (args .own .now) in
+    let job = job-of (args .modes) (args .rule) (args .count) (args .own .now) in
     let obey = c .before .before .before .before .before .before .before .before .before .before .before .before .before .before .before .before .obey in
-    let from = accepted (args .modes) (args .count) (args .own .now) _ _ _ (obey .ensures .went .holds) (start .pre .0 .1) (start .pre .0 .2) (start .pre .1) in
+    let from = accepted (args .modes) (args .rule) (args .count) (args .own .now) _ _ _ (obey .ensures .went .holds) (start .pre .0 .1) (start .pre .0 .2) (start .pre .1) in
     answers-so _ (lent (args .work .now) (args .rows .now) (args .journal .now)) _ _ _
     (journal-obeyed job (args .read .now) (obeyed job (args .read .now)) (obey .result .verdict) (obey .result .run) (obey .ensures .comes-to) (c .before .before .before .before .before .before .before .before .before .before .before .before .enum-told .given .1))
     (c .before .before .before .before .before .before .finish-lent .ensures job (args .read .now) from (c .before .before .before .before .before .before .before .before .before .before .before .kept-bytes .ensures .0))
