@@ -6,7 +6,8 @@ use Prim.Native.Nat.{ℕ, _*_}
 use native.Mathlib.Omega.{arith}
 use lib.Dec.{leb}
 use Rattle.refusal.specs.declared.Refusal.{Refusal}
-use Rattle.terms.specs.Good.{checked}
+use Rattle.terms.specs.Rules.{rule-good}
+use Rattle.terms.specs.Good.{modes-good, checked}
 use Rattle.terms.specs.declared.checking.Checked.{Checked}
 use Rattle.terms.specs.declared.checking.Checked.the-variants.{Good, Refused as BadTerms}
 use Rattle.terms.proofs.RowSteps.{length-terms}
@@ -62,4 +63,9 @@ module _ (rooms : Rooms) (call : Asked) (count weight : ℕ) (answer : List ℕ)
 
   pub assign-done : outcome rooms call ≡ done count weight answer → AssignDone
   unfolding outcome
-  assign-done says = from-tree (tree-checked (rooms .modes) (call .modes) (call .tree)) refl says
+  assign-done says = go (modes-good (rooms .modes) (call .modes)) refl (rule-good (call .rule)) refl
+    where
+      go : (b : Bool) → modes-good (rooms .modes) (call .modes) ≡ b → (c : Bool) → rule-good (call .rule) ≡ c → AssignDone
+      go true m true u = from-tree (tree-checked (rooms .modes) (call .modes) (call .tree)) refl (rw (m, u) at says)
+      go true m false u = not-done _ (rw (m, u) at says)
+      go false m c u = not-done _ (rw m at says)

@@ -8,6 +8,7 @@ use native.Mathlib.Omega.{arith}
 use lib.Dec.{eqb}
 use lib.ListN.{length, replicate}
 use Rattle.lists.specs.Least.{best-of}
+use Rattle.terms.specs.declared.rules.Rule.{Rule}
 use Rattle.terms.specs.Rows.{terms-of}
 use Rattle.terms.specs.Weight.{weight-of}
 use Rattle.reduction.specs.Reduction.{reduction, live}
@@ -23,7 +24,7 @@ use Rattle.topphatt.specs.code.Going.{task-with, state-of}
 pub stepped : (task : Task) (rows assigned : List ℕ) (progress : Progress) (now-rows now-assigned : List ℕ) (r : Progress) (choice : Choice)
     → choice ≡ choice-in task (state-of rows assigned progress)
     → now-assigned ≡ fixed-by (task .job .modes) (task .table) choice assigned
-    → terms-of 8 (r .count) now-rows ≡ reduction (choice .triple) (2 * task .job .modes + 1 + choice .node) (terms-of 8 (progress .count) rows)
+    → terms-of 8 (r .count) now-rows ≡ reduction (task .job .rule) (choice .triple) (2 * task .job .modes + 1 + choice .node) (terms-of 8 (progress .count) rows)
     → r .weight ≡ progress .weight + weight-of (choice .triple) (terms-of 8 (progress .count) rows)
     → state-of now-rows now-assigned r ≡ next task (state-of rows assigned progress)
 unfolding state-of next after
@@ -46,11 +47,11 @@ module _ (task : Task) where
     unfolding rounds
     rounds-end h = let none : task .job .modes - at ≡ 0 = omega arith in rw none
 
-pub rounds-start : (modes : ℕ) (table : List ℕ) (heuristic count : ℕ) (rows assigned : List ℕ) → assigned ≡ replicate modes modes
-    → rounds (task-with modes table heuristic (terms-of 8 count rows)) (modes - 0) (state-of rows assigned (record { round = 0; count = count; weight = 0 }))
-    ≡ ended (task-with modes table heuristic (terms-of 8 count rows))
+pub rounds-start : (modes : ℕ) (rule : Rule) (table : List ℕ) (heuristic count : ℕ) (rows assigned : List ℕ) → assigned ≡ replicate modes modes
+    → rounds (task-with modes rule table heuristic (terms-of 8 count rows)) (modes - 0) (state-of rows assigned (record { round = 0; count = count; weight = 0 }))
+    ≡ ended (task-with modes rule table heuristic (terms-of 8 count rows))
 unfolding ended before state-of
-rounds-start modes table heuristic count rows assigned e = rw (sub-zero, e)
+rounds-start modes rule table heuristic count rows assigned e = rw (sub-zero, e)
 
 pub state-assigned : (rows assigned : List ℕ) (progress : Progress) → state-of rows assigned progress .assigned ≡ assigned
 unfolding state-of

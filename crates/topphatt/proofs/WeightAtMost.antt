@@ -20,7 +20,7 @@ module _ (task : Task) where
 
   pub round-keeps : (choice : Choice) (state : Rounds) → length (after task choice state .rows) ≡ length (state .rows)
   unfolding after
-  round-keeps choice state = length-reduction (choice .triple) (2 * task .job .modes + 1 + choice .node) (state .rows)
+  round-keeps choice state = length-reduction (task .job .rule) (choice .triple) (2 * task .job .modes + 1 + choice .node) (state .rows)
 
   rounds-add : (more : ℕ) (state : Rounds) → rounds task more state .weight ≤ state .weight + more * length (state .rows)
   unfolding rounds next

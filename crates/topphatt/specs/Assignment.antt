@@ -77,7 +77,7 @@ pub record AnswerRight (most : ℕ) (task : Task) (weight : ℕ) (answer : List 
   pub shape : SameShape (task .job .modes) (task .table) answer
   pub accepted : tree-checked most (task .job .modes) answer ≡ Accepted
 
--- Demand 2 of every call that is done: its rounds are those that document 01 tells, each with the choice that it describes.
+-- Demand 2 of every call that is done, by either rule: its rounds are those that document 01 tells, each with the choice that it describes.
 abbrev pub EveryAssignment : Type 0
 EveryAssignment =
     (rooms : Rooms) (call : Asked) (count weight : ℕ) (answer : List ℕ)

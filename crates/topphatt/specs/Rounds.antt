@@ -45,6 +45,6 @@ fixed-by modes table choice assigned =
 unfoldable pub after : Task → Choice → Rounds → Rounds
 after task choice state = record {
   assigned = fixed-by (task .job .modes) (task .table) choice (state .assigned);
-  rows = reduction (choice .triple) (parent-number (task .job .modes) (choice .node)) (state .rows);
+  rows = reduction (task .job .rule) (choice .triple) (parent-number (task .job .modes) (choice .node)) (state .rows);
   weight = state .weight + weight-of (choice .triple) (state .rows);
 }

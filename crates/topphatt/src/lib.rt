@@ -8,10 +8,11 @@ ghost use Rattle.entities.specs.Limits.{«most-modes», «most-terms», «row-w
 ghost use Rattle.terms.specs.Rows.{«terms-of»};
 ghost use Rattle.terms.specs.code.Held.{Held};
 ghost use Rattle.terms.specs.Good.{checked};
+ghost use Rattle.tree.specs.Check.{«tree-checked»};
 ghost use Rattle.slots.specs.Slots.{«slot-of», «stands-as»};
 ghost use Rattle.slots.specs.code.Promises.{Distances};
 ghost use Rattle.topphatt.specs.computed.Rounding.{ended};
-ghost use Rattle.topphatt.specs.Answer.{«answer-table», asked, «task-of», «done-by», «with-room», «with-terms», outcome};
+ghost use Rattle.topphatt.specs.Answer.{«answer-table», asked, «task-of», «done-by», «with-room», «with-terms», «with-tree», outcome};
 ghost use Rattle.topphatt.specs.Promises.{lent, «rooms-of», Assigns};
 ghost use Rattle.topphatt.specs.code.Going.{«task-with», Tabled};
 use entities::codes;
@@ -19,6 +20,8 @@ use refusal::Refusal;
 use slots::nodes;
 use terms::checking;
 use terms::checking::Checked;
+use terms::rules;
+use terms::rules::Rule;
 use terms::slices;
 use tree::TreeChecked;
 
@@ -54,6 +57,7 @@ fn write_table(modes: usize, tree: &[u16], assigned: &[u16], table: &mut [u16])
 // The rounds, and the leaves that they fixed written into the front of the table; the sum of chosen weights.
 fn assign_pairs<'a>(
     modes: usize,
+    rule: Rule,
     tree: &'a [u16],
     distances: &'a [usize],
     heuristic: usize,
@@ -65,9 +69,9 @@ fn assign_pairs<'a>(
     requires { ⌜ (1 ≤ modes) × (modes ≤ most-modes) × (count ≤ most-terms) × (length (now tree) ≡ 3 * modes) × (now assigned ≡ replicate modes modes) × (3 * modes ≤ length (now table)) ⌝ }
     requires { ⌜ Distances modes (now tree) (now distances) ⌝ }
     requires { ⌜ Held row-width count (now rows) ⌝ }
-    ensures { λ r. ⌜ Tabled modes count (now (tree .entry)) (ended (task-with modes (now (tree .entry)) heuristic (terms-of row-width count (now (rows .entry))))) (now (rows .entry)) (now (table .entry)) (now (rows .exit)) (now (table .exit)) r ⌝ }
+    ensures { λ r. ⌜ Tabled modes count (now (tree .entry)) (ended (task-with modes rule (now (tree .entry)) heuristic (terms-of row-width count (now (rows .entry))))) (now (rows .entry)) (now (table .entry)) (now (rows .exit)) (now (table .exit)) r ⌝ }
 {
-    let weight = rounds::topphatt(modes, tree, distances, heuristic, rows, count, assigned);
+    let weight = rounds::topphatt(modes, rule, tree, distances, heuristic, rows, count, assigned);
     write_table(modes, tree, assigned, table);
     weight
 }
@@ -75,6 +79,7 @@ fn assign_pairs<'a>(
 // The same, with no pair having a mode at first and the distances found once.
 fn assign_rows(
     modes: usize,
+    rule: Rule,
     tree: &[u16],
     heuristic: usize,
     rows: &mut [u16],
@@ -83,13 +88,14 @@ fn assign_rows(
 ) -> usize
     requires { ⌜ (1 ≤ modes) × (modes ≤ most-modes) × (count ≤ most-terms) × (length (now tree) ≡ 3 * modes) × (3 * modes ≤ length (now table)) ⌝ }
     requires { ⌜ Held row-width count (now rows) ⌝ }
-    ensures { λ r. ⌜ Tabled modes count (now (tree .entry)) (ended (task-with modes (now (tree .entry)) heuristic (terms-of row-width count (now (rows .entry))))) (now (rows .entry)) (now (table .entry)) (now (rows .exit)) (now (table .exit)) r ⌝ }
+    ensures { λ r. ⌜ Tabled modes count (now (tree .entry)) (ended (task-with modes rule (now (tree .entry)) heuristic (terms-of row-width count (now (rows .entry))))) (now (rows .entry)) (now (table .entry)) (now (rows .exit)) (now (table .exit)) r ⌝ }
 {
     let mut distances = [0usize; 256];
     nodes::fill_distances(modes, tree, &mut distances);
     let mut assigned = [modes as u16; 256];
     assign_pairs(
         modes,
+        rule,
         tree,
         &distances,
         heuristic,
@@ -103,6 +109,7 @@ fn assign_rows(
 // The answer where nothing can refuse any more: the rows are worked on in the work that is lent, which is zeros then.
 fn assign_in(
     modes: usize,
+    rule: Rule,
     tree: &[u16],
     heuristic: usize,
     terms: &[u16],
@@ -113,10 +120,10 @@ fn assign_in(
     requires { ⌜ (1 ≤ modes) × (modes ≤ most-modes) × (count ≤ most-terms) × (length (now tree) ≡ 3 * modes) ⌝ }
     requires { ⌜ (length (now terms) ≡ row-width * count) × Held row-width count (now terms) ⌝ }
     requires { ⌜ (row-width * count ≤ length (now work)) × (3 * modes ≤ length (now table)) ⌝ }
-    ensures { λ r. ⌜ Assigns (λ given. done-by (task-with modes (now (tree .entry)) heuristic (terms-of row-width count (now (terms .entry))))) (lent (now (work .entry)) (now (table .entry))) (lent (now (work .exit)) (now (table .exit))) r ⌝ }
+    ensures { λ r. ⌜ Assigns (λ given. done-by (task-with modes rule (now (tree .entry)) heuristic (terms-of row-width count (now (terms .entry))))) (lent (now (work .entry)) (now (table .entry))) (lent (now (work .exit)) (now (table .exit))) r ⌝ }
 {
     slices::put_front(terms, work);
-    let weight = assign_rows(modes, tree, heuristic, work, count, table);
+    let weight = assign_rows(modes, rule, tree, heuristic, work, count, table);
     slices::clear_front(work, 8 * count);
     Assigned::Weight(weight as u64)
 }
@@ -124,6 +131,7 @@ fn assign_in(
 // The answer where all is good but perhaps the rooms.
 fn assign_good(
     modes: usize,
+    rule: usize,
     tree: &[u16],
     heuristic: usize,
     terms: &[u16],
@@ -133,7 +141,7 @@ fn assign_good(
 ) -> Assigned
     requires { ⌜ (1 ≤ modes) × (modes ≤ most-modes) × (count ≤ most-terms) × (length (now tree) ≡ 3 * modes) ⌝ }
     requires { ⌜ (length (now terms) ≡ row-width * count) × Held row-width count (now terms) ⌝ }
-    ensures { λ r. ⌜ Assigns (λ given. with-room (rooms-of most-modes given) (task-of (asked modes (now (tree .entry)) heuristic (now (terms .entry))) count)) (lent (now (work .entry)) (now (table .entry))) (lent (now (work .exit)) (now (table .exit))) r ⌝ }
+    ensures { λ r. ⌜ Assigns (λ given. with-room (rooms-of most-modes given) (task-of (asked modes rule (now (tree .entry)) heuristic (now (terms .entry))) count)) (lent (now (work .entry)) (now (table .entry))) (lent (now (work .exit)) (now (table .exit))) r ⌝ }
 {
     if work.len() < 8 * count {
         return Assigned::Unassigned(Refusal::Room);
@@ -141,12 +149,13 @@ fn assign_good(
     if table.len() < 3 * modes {
         return Assigned::Unassigned(Refusal::Room);
     }
-    assign_in(modes, tree, heuristic, terms, count, work, table)
+    assign_in(modes, rules::rule_of(rule), tree, heuristic, terms, count, work, table)
 }
 
 // The answer where the tree and the heuristic are good.
 fn assign_accepted(
     modes: usize,
+    rule: usize,
     tree: &[u16],
     heuristic: usize,
     terms: &[u16],
@@ -154,24 +163,25 @@ fn assign_accepted(
     table: &mut [u16],
 ) -> Assigned
     requires { ⌜ (1 ≤ modes) × (modes ≤ most-modes) × (length (now tree) ≡ 3 * modes) ⌝ }
-    ensures { λ r. ⌜ Assigns (λ given. with-terms (rooms-of most-modes given) (asked modes (now (tree .entry)) heuristic (now (terms .entry))) (checked modes (now (terms .entry)))) (lent (now (work .entry)) (now (table .entry))) (lent (now (work .exit)) (now (table .exit))) r ⌝ }
+    ensures { λ r. ⌜ Assigns (λ given. with-terms (rooms-of most-modes given) (asked modes rule (now (tree .entry)) heuristic (now (terms .entry))) (checked modes (now (terms .entry)))) (lent (now (work .entry)) (now (table .entry))) (lent (now (work .exit)) (now (table .exit))) r ⌝ }
 {
     match checking::check_terms(modes, terms) {
         Checked::Refused(refusal) => Assigned::Unassigned(refusal),
-        Checked::Good(count) => assign_good(modes, tree, heuristic, terms, count, work, table),
+        Checked::Good(count) => assign_good(modes, rule, tree, heuristic, terms, count, work, table),
     }
 }
 
-// The leaves of an accepted tree assigned to modes at the least weight; or why the call is refused.
-pub fn assign(
+// The answer where the modes and the rule are good.
+fn assign_ruled(
     modes: usize,
+    rule: usize,
     tree: &[u16],
     heuristic: usize,
     terms: &[u16],
     work: &mut [u16],
     table: &mut [u16],
 ) -> Assigned
-    ensures { λ r. ⌜ Assigns (λ given. outcome (rooms-of most-modes given) (asked modes (now (tree .entry)) heuristic (now (terms .entry)))) (lent (now (work .entry)) (now (table .entry))) (lent (now (work .exit)) (now (table .exit))) r ⌝ }
+    ensures { λ r. ⌜ Assigns (λ given. with-tree (rooms-of most-modes given) (asked modes rule (now (tree .entry)) heuristic (now (terms .entry))) (tree-checked most-modes modes (now (tree .entry)))) (lent (now (work .entry)) (now (table .entry))) (lent (now (work .exit)) (now (table .exit))) r ⌝ }
 {
     match tree::check_tree(modes, tree) {
         TreeChecked::Refused(refusal) => Assigned::Unassigned(refusal),
@@ -179,7 +189,31 @@ pub fn assign(
             if 2 < heuristic {
                 return Assigned::Unassigned(Refusal::Heuristic);
             }
-            assign_accepted(modes, tree, heuristic, terms, work, table)
+            assign_accepted(modes, rule, tree, heuristic, terms, work, table)
         }
     }
+}
+
+// The leaves of an accepted tree assigned to modes at the least weight, by this rule; or why the call is refused.
+pub fn assign(
+    modes: usize,
+    rule: usize,
+    tree: &[u16],
+    heuristic: usize,
+    terms: &[u16],
+    work: &mut [u16],
+    table: &mut [u16],
+) -> Assigned
+    ensures { λ r. ⌜ Assigns (λ given. outcome (rooms-of most-modes given) (asked modes rule (now (tree .entry)) heuristic (now (terms .entry)))) (lent (now (work .entry)) (now (table .entry))) (lent (now (work .exit)) (now (table .exit))) r ⌝ }
+{
+    if modes < 1 {
+        return Assigned::Unassigned(Refusal::Modes);
+    }
+    if 256 < modes {
+        return Assigned::Unassigned(Refusal::Modes);
+    }
+    if 1 < rule {
+        return Assigned::Unassigned(Refusal::Rule);
+    }
+    assign_ruled(modes, rule, tree, heuristic, terms, work, table)
 }

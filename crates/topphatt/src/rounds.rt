@@ -17,6 +17,7 @@ use choice::Selection;
 use entities::parents;
 use reduction::live_rows;
 use slots::nodes;
+use terms::rules::Rule;
 use terms::weight;
 use tree::table;
 
@@ -96,6 +97,7 @@ fn chosen_weight(rows: &[u16], count: usize, selection: Selection) -> usize
 // One round; its choice is sought in the rows that are there, gathered once.
 fn round<'a>(
     modes: usize,
+    rule: Rule,
     tree: &'a [u16],
     distances: &'a [usize],
     heuristic: usize,
@@ -105,7 +107,7 @@ fn round<'a>(
 ) -> Progress
     requires { ⌜ Going most-modes modes (now tree) (now distances) (now rows) (now assigned) progress ⌝ }
     requires { ⌜ progress .round < modes ⌝ }
-    ensures { λ r. ⌜ RoundMade most-modes modes (now (tree .entry)) (now (distances .entry)) heuristic (now (rows .entry)) (now (assigned .entry)) progress (now (rows .exit)) (now (assigned .exit)) r ⌝ }
+    ensures { λ r. ⌜ RoundMade most-modes modes rule (now (tree .entry)) (now (distances .entry)) heuristic (now (rows .entry)) (now (assigned .entry)) progress (now (rows .exit)) (now (assigned .exit)) r ⌝ }
 {
     let mut live = [0u16; 16384];
     let kept = live_rows::put_live(rows, progress.count, &mut live);
@@ -118,7 +120,7 @@ fn round<'a>(
     let weight = chosen_weight(&live, kept, selection);
     fix_all(modes, tree, selection, assigned);
     let parent = parents::parent_number(modes, entities::wide(selection.min_parent));
-    reduction::reduce_hamiltonian(rows, progress.count, parent, selection.leaf_indices);
+    reduction::reduce_hamiltonian(rows, progress.count, rule, parent, selection.leaf_indices);
     Progress {
         round: progress.round + 1,
         count: progress.count,
@@ -138,6 +140,7 @@ fn is_finished(modes: usize, assigned: &[u16]) -> bool
 // All rounds; the sum of chosen weights.
 pub fn topphatt<'a>(
     modes: usize,
+    rule: Rule,
     tree: &'a [u16],
     distances: &'a [usize],
     heuristic: usize,
@@ -148,7 +151,7 @@ pub fn topphatt<'a>(
     requires { ⌜ (1 ≤ modes) × (modes ≤ most-modes) × (count ≤ most-terms) × (length (now tree) ≡ 3 * modes) × (now assigned ≡ replicate modes modes) ⌝ }
     requires { ⌜ Distances modes (now tree) (now distances) ⌝ }
     requires { ⌜ Held row-width count (now rows) ⌝ }
-    ensures { λ r. ⌜ Ended modes count (ended (task-with modes (now (tree .entry)) heuristic (terms-of row-width count (now (rows .entry))))) (now (rows .entry)) (now (rows .exit)) (now (assigned .exit)) r ⌝ }
+    ensures { λ r. ⌜ Ended modes count (ended (task-with modes rule (now (tree .entry)) heuristic (terms-of row-width count (now (rows .entry))))) (now (rows .entry)) (now (rows .exit)) (now (assigned .exit)) r ⌝ }
 {
     let mut progress = Progress {
         round: 0,
@@ -159,7 +162,7 @@ pub fn topphatt<'a>(
         if is_finished(modes, assigned) {
             return progress.weight;
         }
-        progress = round(modes, tree, distances, heuristic, rows, assigned, progress);
+        progress = round(modes, rule, tree, distances, heuristic, rows, assigned, progress);
     }
     progress.weight
 }

@@ -1,35 +1,28 @@
--- By what the check of the tree answered, then the heuristic.
-use mathlib.Core.Path.{refl, sym, _∙_}
+-- The modes, then the rule, then what the tree and the terms come to.
+use mathlib.Core.Path.{refl}
 use borrow.Author.Tests.{le-leb, lt-leb}
 use borrow.Author.Needs.{needs}
-use Rattle.tree.proofs.AcceptedParts.{accepted-parts}
-use Rattle.topphatt.specs.Answer.{outcome, with-tree}
+use Rattle.terms.specs.Rules.{rule-good}
+use Rattle.terms.specs.Good.{modes-good}
+use Rattle.topphatt.specs.Answer.{outcome}
 use Rattle.topphatt.proofs.Answers.{refused-so}
 use Rattle.topphatt.proofs.assign.Statement.{statement}
 use Rattle.topphatt.proofs.assign.Tie as tie
 
-check-tree-requires : tie.Need-check-tree-requires
-check-tree-requires c κs = search needs
-
-enum-known-refusal : tie.Need-enum-known-refusal
-enum-known-refusal c = search needs
-
-enum-told : tie.Need-enum-told
-enum-told c = search needs
-
 returns : tie.Need-returns
-unfolding outcome with-tree
-returns c = rw (sym (c .before .before .before .check-tree .ensures .answer) ∙ c .before .enum-told .given .1) (rw (lt-leb _ 2 (c .if1 .taken)) (refused-so _ _ _ refl))
-
-assign-accepted-requires : tie.Need-assign-accepted-requires
-assign-accepted-requires c κs =
-    let start = c .before .before .before .before .before .before .before .before .before .before in
-    let parts = accepted-parts 256 (start .args .modes) (start .args .tree .now) (sym (c .before .before .before .before .before .check-tree .ensures .answer) ∙ c .before .before .before .enum-told .given .1) in
-    (parts .some, parts .few, parts .whole)
+unfolding outcome modes-good
+returns c = rw (lt-leb _ _ (c .if1 .taken)) (refused-so _ _ _ refl)
 
 returns-2 : tie.Need-returns-2
-unfolding outcome with-tree
-returns-2 c = rw (sym (c .before .before .before .check-tree .ensures .answer) ∙ c .before .refusal .given .1) (refused-so _ _ _ refl)
+unfolding outcome modes-good
+returns-2 c = rw (le-leb _ _ (c .before .if1 .left), lt-leb _ _ (c .if2 .taken)) (refused-so _ _ _ refl)
+
+returns-3 : tie.Need-returns-3
+unfolding outcome modes-good rule-good
+returns-3 c = rw (le-leb _ _ (c .before .before .if1 .left), le-leb _ _ (c .before .if2 .left), lt-leb _ _ (c .if3 .taken)) (refused-so _ _ _ refl)
+
+assign-ruled-requires : tie.Need-assign-ruled-requires
+assign-ruled-requires c κs = search needs
 
 same-length : tie.Need-same-length
 same-length c = search needs
@@ -37,22 +30,21 @@ same-length c = search needs
 same-length-2 : tie.Need-same-length-2
 same-length-2 c = search needs
 
-returns-3 : tie.Need-returns-3
-unfolding outcome with-tree
-returns-3 c =
-    rw (sym (c .before .before .before .before .before .before .before .before .before .before .check-tree .ensures .answer) ∙ c .before .before .before .before .before .before .before .before .enum-told .given .1)
-    (rw (le-leb _ 2 (c .before .before .before .before .before .before .before .if1 .left)) (c .before .before .before .before .assign-accepted .ensures))
+returns-4 : tie.Need-returns-4
+unfolding outcome modes-good rule-good
+returns-4 c =
+    let gone = c .before .before .before .before in
+    let tests = gone .before .before .before in
+    rw (le-leb _ _ (tests .before .before .if1 .left), le-leb _ _ (tests .before .if2 .left), le-leb _ _ (tests .if3 .left)) (gone .assign-ruled .ensures)
 
 pub assign-spec : {M : Type 1} → statement M
 assign-spec =
     tie.close
     (tie.spec
-    check-tree-requires
-    enum-known-refusal
-    enum-told
     returns
-    assign-accepted-requires
     returns-2
+    returns-3
+    assign-ruled-requires
     same-length
     same-length-2
-    returns-3)
+    returns-4)

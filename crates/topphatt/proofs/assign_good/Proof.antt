@@ -13,7 +13,7 @@ mul-if1 c = search needs
 returns : tie.Need-returns
 returns c =
     let args = c .before .before .before .before .before .args in
-    let call = asked (args .modes) (args .tree .now) (args .heuristic) (args .terms .now) in
+    let call = asked (args .modes) (args .rule) (args .tree .now) (args .heuristic) (args .terms .now) in
     let given = lent (args .work .now) (args .table .now) in
     refused-so _ given _ (room-work (rooms-of 256 given) call (args .count) (c .if1 .taken))
 
@@ -23,9 +23,12 @@ mul-if2 c = search needs
 returns-2 : tie.Need-returns-2
 returns-2 c =
     let args = c .before .before .before .before .before .before .args in
-    let call = asked (args .modes) (args .tree .now) (args .heuristic) (args .terms .now) in
+    let call = asked (args .modes) (args .rule) (args .tree .now) (args .heuristic) (args .terms .now) in
     let given = lent (args .work .now) (args .table .now) in
     refused-so _ given _ (room-table (rooms-of 256 given) call (args .count) (c .before .if1 .left) (c .if2 .taken))
+
+rule-of-requires : tie.Need-rule-of-requires
+rule-of-requires c κs = search needs
 
 assign-in-requires : tie.Need-assign-in-requires
 assign-in-requires c κs = search needs
@@ -38,13 +41,14 @@ same-length-2 c = search needs
 
 returns-3 : tie.Need-returns-3
 returns-3 c =
-    let tests = c .before .before .before .before .before .before .before in
+    let named = c .before .before .before .before .before .before .before in
+    let tests = named .before in
     let args = tests .before .before .before .before .before .before .args in
-    let call = asked (args .modes) (args .tree .now) (args .heuristic) (args .terms .now) in
+    let call = asked (args .modes) (args .rule) (args .tree .now) (args .heuristic) (args .terms .now) in
     let given = lent (args .work .now) (args .table .now) in
     assigns-so (λ l. done-by (task-of call (args .count))) given (λ l. with-room (rooms-of 256 l) (task-of call (args .count))) _ _
     (sym (room-done (rooms-of 256 given) call (args .count) (tests .before .if1 .left) (tests .if2 .left)))
-    (c .before .before .before .before .assign-in .ensures)
+    (rw (named .rule-of .ensures) at (c .before .before .before .before .assign-in .ensures))
 
 pub assign-good-spec : {M : Type 1} → statement M
 assign-good-spec =
@@ -54,6 +58,7 @@ assign-good-spec =
     returns
     mul-if2
     returns-2
+    rule-of-requires
     assign-in-requires
     same-length
     same-length-2

@@ -48,12 +48,12 @@ returns c =
     let terms = args .terms .now in
     let count = args .count in
     let whole = start .pre .1 .0 .0 in
-    let task = task-with (args .modes) (args .tree .now) (args .heuristic) (terms-of 8 count terms) in
+    let task = task-with (args .modes) (args .rule) (args .tree .now) (args .heuristic) (terms-of 8 count terms) in
     let tabled = rw (own-terms 8 count terms (put .last .1 .0) whole (put .ensures .1)) at (made .assign-rows .ensures) in
     let fits : 0 + length terms ≤ length (args .work .now) = omega (arith, whole, start .pre .1 .1 .0) in
     let same : drop (8 * count) (put .last .1 .0) ≡ drop (8 * count) (args .work .now) =
     rw (put .ensures .0) (drop-written 0 terms (args .work .now) fits (8 * count) (omega (arith, whole))) in
-    done-so task count (args .work .now) (made .assign-rows .last .1 .1 .1 .0) (args .table .now) _ _ _ (length-terms 8 count terms)
+    done-so task count (args .work .now) (made .assign-rows .last .1 .1 .1 .1 .0) (args .table .now) _ _ _ (length-terms 8 count terms)
     (tabled .weight-is) (tabled .rest ∙ same) (c .before .before .clear-front .ensures) (tabled .table-is)
 
 pub assign-in-spec : {M : Type 1} → statement M

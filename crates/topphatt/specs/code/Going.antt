@@ -5,6 +5,7 @@ use Prim.Native.Nat.{ℕ, suc, _*_, _≤_, _<_}
 use lib.ListN.{length, drop}
 use Rattle.lists.specs.Written.{written-at}
 use Rattle.entities.specs.Limits.{most-terms, row-width}
+use Rattle.terms.specs.declared.rules.Rule.{Rule}
 use Rattle.terms.specs.Rows.{terms-of}
 use Rattle.terms.specs.code.Held.{Held}
 use Rattle.terms.specs.Weight.{weight-of}
@@ -19,8 +20,9 @@ use Rattle.topphatt.specs.computed.Rounding.{next}
 use Rattle.topphatt.specs.Answer.{answer-table}
 
 -- What is to be done, from bare numbers.
-abbrev pub task-with : ℕ → List ℕ → ℕ → List (List ℕ) → Task
-task-with modes table heuristic terms = record { job = record { modes = modes; terms = terms }; table = table; heuristic = heuristic }
+abbrev pub task-with : ℕ → Rule → List ℕ → ℕ → List (List ℕ) → Task
+task-with modes rule table heuristic terms =
+    record { job = record { modes = modes; rule = rule; terms = terms }; table = table; heuristic = heuristic }
 
 -- What the rounds have come to.
 unfoldable pub state-of : List ℕ → List ℕ → Progress → Rounds
@@ -53,11 +55,11 @@ pub record Fixed (modes : ℕ) (table : List ℕ) (choice : Choice) (assigned af
   pub right : after ≡ fixed-by modes table choice assigned
 
 -- A round was made; whatever the terms were at first, and the numbers behind the rows are as they were.
-pub record RoundMade (most modes : ℕ) (table distances : List ℕ) (heuristic : ℕ) (rows assigned : List ℕ) (progress : Progress) (now-rows now-assigned : List ℕ) (r : Progress) : Type 0 where
+pub record RoundMade (most modes : ℕ) (rule : Rule) (table distances : List ℕ) (heuristic : ℕ) (rows assigned : List ℕ) (progress : Progress) (now-rows now-assigned : List ℕ) (r : Progress) : Type 0 where
   pub on : r .round ≡ suc (progress .round)
   pub same-count : r .count ≡ progress .count
   pub right : (terms : List (List ℕ))
-      → state-of now-rows now-assigned r ≡ next (task-with modes table heuristic terms) (state-of rows assigned progress)
+      → state-of now-rows now-assigned r ≡ next (task-with modes rule table heuristic terms) (state-of rows assigned progress)
   pub going : Going most modes table distances now-rows now-assigned r
   pub rest : drop (row-width * progress .count) now-rows ≡ drop (row-width * progress .count) rows
 

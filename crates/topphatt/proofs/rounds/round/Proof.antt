@@ -61,15 +61,15 @@ reduce-hamiltonian-requires c κs =
     let pre = c .before .before .before .before .before .before .before .before .before .before .before .before .before .before .before .before .before .before .before .before .pre .0 in
     (pre .held, pre .fits)
 
-add-t27 : tie.Need-add-t27
-add-t27 c =
+add-t28 : tie.Need-add-t28
+add-t28 c =
     let start = c .before .before .before .before .before .before .before .before .before .before .before .before .before .before .before .before .before .before .before .before .before .before .before .before in
     let few = start .pre .0 .few in
     let turn = start .pre .1 in
     omega arith
 
-add-t30 : tie.Need-add-t30
-add-t30 c =
+add-t31 : tie.Need-add-t31
+add-t31 c =
     let start = c .before .before .before .before .before .before .before .before .before .before .before .before .before .before .before .before .before .before .before .before .before .before .before .before .before in
     let pre = start .pre .0 in
     let less = c .before .before .before .before .before .before .before .before .before .before .before .before .chosen-weight .ensures .1 in
@@ -108,9 +108,9 @@ returns c =
       on = omega arith;
       same-count = refl;
       right = λ first.
-          stepped (task-with (args .modes) (args .tree .now) (args .heuristic) first) (args .rows .now) (args .assigned .now) (args .progress) _ _ then
+          stepped (task-with (args .modes) (args .rule) (args .tree .now) (args .heuristic) first) (args .rows .now) (args .assigned .now) (args .progress) _ _ then
           (choice-of (chose .result)) right (fixing .right)
-          (reduced .terms ∙ ap (λ p. reduction triple p terms) (parent ∙ ap (λ n. 2 * args .modes + 1 + n) node))
+          (reduced .terms ∙ ap (λ p. reduction (args .rule) triple p terms) (parent ∙ ap (λ n. 2 * args .modes + 1 + n) node))
           (ap (λ w. args .progress .weight + w) weighs);
       going = record {
         some = pre .some;
@@ -139,8 +139,8 @@ round-spec =
     wide-requires
     parent-number-requires
     reduce-hamiltonian-requires
-    add-t27
-    add-t30
+    add-t28
+    add-t31
     same-length
     same-length-2
     returns)

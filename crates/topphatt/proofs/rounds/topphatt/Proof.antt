@@ -5,6 +5,7 @@ use Prim.Native.Nat.{ℕ, _-_, _*_, _≤_}
 use native.Mathlib.Omega.{arith}
 use borrow.Author.Needs.{needs}
 use lib.ListN.{length, drop, length-replicate}
+use Rattle.terms.specs.declared.rules.Rule.{Rule}
 use Rattle.terms.specs.Rows.{terms-of}
 use Rattle.topphatt.specs.code.Going.{task-with, Going, state-of}
 use Rattle.topphatt.specs.Rounds.{Task}
@@ -14,22 +15,22 @@ use Rattle.topphatt.proofs.rounds.topphatt.Statement.{statement}
 use Rattle.topphatt.proofs.rounds.topphatt.Tie as tie
 
 -- What is to be done, over the terms that stand in the rows at first.
-abbrev task-at : ℕ → List ℕ → ℕ → ℕ → List ℕ → Task
-task-at modes tree heuristic count rows = task-with modes tree heuristic (terms-of 8 count rows)
+abbrev task-at : ℕ → Rule → List ℕ → ℕ → ℕ → List ℕ → Task
+task-at modes rule tree heuristic count rows = task-with modes rule tree heuristic (terms-of 8 count rows)
 
 abbrev Inv-loop : tie.InvT-loop
-Inv-loop modes tree distances heuristic rows₀ count assigned₀ progress₀ rows assigned progress =
+Inv-loop modes rule tree distances heuristic rows₀ count assigned₀ progress₀ rows assigned progress =
     Going 256 modes tree distances rows assigned progress
     × (progress .round ≤ modes)
     × (length rows ≡ length rows₀)
     × (length assigned ≡ length assigned₀)
-    × (rounds (task-at modes tree heuristic count rows₀) (modes - progress .round) (state-of rows assigned progress)
-    ≡ ended (task-at modes tree heuristic count rows₀))
+    × (rounds (task-at modes rule tree heuristic count rows₀) (modes - progress .round) (state-of rows assigned progress)
+    ≡ ended (task-at modes rule tree heuristic count rows₀))
     × (progress .count ≡ count)
     × (drop (8 * count) rows ≡ drop (8 * count) rows₀)
 
 abbrev μ-loop : tie.MeasureT-loop
-μ-loop modes tree distances heuristic rows₀ count assigned₀ progress₀ rows assigned progress = modes - progress .round
+μ-loop modes rule tree distances heuristic rows₀ count assigned₀ progress₀ rows assigned progress = modes - progress .round
 
 loop-holds : tie.Need-loop-holds Inv-loop μ-loop
 loop-holds c =
@@ -48,7 +49,7 @@ loop-holds c =
       omega arith,
       omega arith,
       omega arith,
-      rounds-start (start .args .modes) (start .args .tree .now) (start .args .heuristic) (start .args .count) (start .args .rows .now) (start .args .assigned .now) (pre .4),
+      rounds-start (start .args .modes) (start .args .rule) (start .args .tree .now) (start .args .heuristic) (start .args .count) (start .args .rows .now) (start .args .assigned .now) (pre .4),
       refl,
       refl,
     )
@@ -68,7 +69,7 @@ returns c =
     let here = c .before .before .before .before .before in
     let args = here .before .before .before .before .before .args in
     let state = state-of (here .loop .rows) (here .loop .assigned) (here .loop .progress) in
-    let task = task-at (args .modes) (args .tree .now) (args .heuristic) (args .count) (args .rows .now) in
+    let task = task-at (args .modes) (args .rule) (args .tree .now) (args .heuristic) (args .count) (args .rows .now) in
     let e = sym (rounds-stop task state (here .loop .progress .round) (c .before .before .before .if1 .taken) (sym (c .before .is-finished .ensures) ∙ c .if2 .taken)) ∙ here .loop .inv .4 in
     record { weight-is = ap (λ s. s .weight) e; assigned-is = ap (λ s. s .assigned) e; pairs = here .loop .inv .0 .pairs; rest = here .loop .inv .6 }
 
@@ -91,11 +92,11 @@ loop-again c =
     let on = went .on in
     let unfinished = c .before .before .before .before .before .before .before .before .is-finished .ensures in
     let state = state-of (here .loop .rows) (here .loop .assigned) (here .loop .progress) in
-    let task = task-at (args .modes) (args .tree .now) (args .heuristic) (args .count) (args .rows .now) in (
+    let task = task-at (args .modes) (args .rule) (args .tree .now) (args .heuristic) (args .count) (args .rows .now) in (
       went .going,
       omega arith,
-      called .kept .1 .1 .1 .1 .0 ∙ here .loop .inv .2,
-      called .kept .1 .1 .1 .1 .1 .0 ∙ here .loop .inv .3,
+      called .kept .1 .1 .1 .1 .1 .0 ∙ here .loop .inv .2,
+      called .kept .1 .1 .1 .1 .1 .1 .0 ∙ here .loop .inv .3,
       rw (went .right (terms-of 8 (args .count) (args .rows .now)), went .on)
           (sym (rounds-on task state (here .loop .progress .round) h (rw (state-assigned (here .loop .rows) (here .loop .assigned) (here .loop .progress)) (sym unfinished ∙ c .before .before .before .before .before .before .before .if2 .left))) ∙ here .loop .inv .4),
       went .same-count ∙ here .loop .inv .5,
@@ -114,7 +115,7 @@ returns-2 c =
     let here = c .before .before in
     let args = here .before .before .before .before .before .args in
     let state = state-of (here .loop .rows) (here .loop .assigned) (here .loop .progress) in
-    let task = task-at (args .modes) (args .tree .now) (args .heuristic) (args .count) (args .rows .now) in
+    let task = task-at (args .modes) (args .rule) (args .tree .now) (args .heuristic) (args .count) (args .rows .now) in
     let e = sym (rounds-end task state (here .loop .progress .round) (c .if1 .left)) ∙ here .loop .inv .4 in
     record { weight-is = ap (λ s. s .weight) e; assigned-is = ap (λ s. s .assigned) e; pairs = here .loop .inv .0 .pairs; rest = here .loop .inv .6 }
 
