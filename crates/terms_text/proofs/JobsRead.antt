@@ -9,29 +9,30 @@ use Rattle.refusal.specs.declared.Refusal.{Refusal}
 use Rattle.refusal.specs.declared.Refusal.the-variants.{Malformed}
 use Rattle.refusal.specs.Numbers.{numberOf}
 use Rattle.entities.specs.Limits.{most-modes}
+use Rattle.terms.specs.declared.rules.Rule.{Rule}
 use Rattle.terms.specs.declared.checking.Checked.{Checked}
 use Rattle.terms.specs.declared.checking.Checked.the-variants.{Good, Refused as BadTerms}
 use Rattle.terms.proofs.GoodTerms.{accepted}
 use Rattle.terms_text.specs.declared.jobs.JobRead.{JobRead}
 use Rattle.terms_text.specs.declared.jobs.JobRead.the-variants.{Is, Refused}
 use Rattle.terms_text.specs.Input.{Said, given, malformed, said}
-use Rattle.terms_text.specs.Jobs.{JobSaid, no-job, counted, job-with, job-by, job-said}
+use Rattle.terms_text.specs.Jobs.{Request, JobSaid, no-job, counted, job-with, job-by, job-said}
 use Rattle.terms_text.specs.code.JobsRead.{ReadsJob}
 use Rattle.terms_text.proofs.JobCounted.{counted-good, counted-refusal}
 
-pub reads-refusal : (meant : JobSaid) (numbers : List ℕ) (why : Refusal) → meant ≡ no-job why → ReadsJob meant numbers (Refused why)
-reads-refusal meant numbers why e =
+pub reads-refusal : (rule : Rule) (meant : JobSaid) (numbers : List ℕ) (why : Refusal) → meant ≡ no-job why → ReadsJob rule meant numbers (Refused why)
+reads-refusal rule meant numbers why e =
     record {
       is-job = λ modes count f. let z : _≡_ {A = ℕ} 0 1 = cc in absurd (omega arith);
       is-refused = λ other f. let same : why ≡ other = cc in rw same at e;
     }
 
-module _ (modes : ℕ) (numbers : List ℕ) where
-  pub reads-bad : (why : Refusal) → counted most-modes modes numbers ≡ BadTerms why → ReadsJob (job-by most-modes (given modes numbers)) numbers (Refused why)
+module _ (rule : Rule) (modes : ℕ) (numbers : List ℕ) where
+  pub reads-bad : (why : Refusal) → counted most-modes modes numbers ≡ BadTerms why → ReadsJob rule (job-by most-modes rule (given modes numbers)) numbers (Refused why)
   unfolding job-by job-with
-  reads-bad why e = reads-refusal (job-by most-modes (given modes numbers)) numbers why (rw e)
+  reads-bad why e = reads-refusal rule (job-by most-modes rule (given modes numbers)) numbers why (rw e)
 
-  pub reads-good : (count : ℕ) → counted most-modes modes numbers ≡ Good count → ReadsJob (job-by most-modes (given modes numbers)) numbers (Is modes count)
+  pub reads-good : (count : ℕ) → counted most-modes modes numbers ≡ Good count → ReadsJob rule (job-by most-modes rule (given modes numbers)) numbers (Is modes count)
   unfolding job-by job-with
   reads-good count e =
       let good = counted-good most-modes modes numbers count e in
@@ -47,8 +48,8 @@ module _ (modes : ℕ) (numbers : List ℕ) where
       }
 
 -- The job of the front of some numbers is that of the numbers.
-pub reads-front : (meant : JobSaid) (numbers : List ℕ) (end : ℕ) (r : JobRead) → end ≤ length numbers → ReadsJob meant (take end numbers) r → ReadsJob meant numbers r
-reads-front meant numbers end r within reads =
+pub reads-front : (rule : Rule) (meant : JobSaid) (numbers : List ℕ) (end : ℕ) (r : JobRead) → end ≤ length numbers → ReadsJob rule meant (take end numbers) r → ReadsJob rule meant numbers r
+reads-front rule meant numbers end r within reads =
     record {
       is-job = λ modes count f.
           let known = reads .is-job modes count f in
@@ -59,11 +60,11 @@ reads-front meant numbers end r within reads =
     }
 
 -- A text and its terms are refused by 18, or by 1 to 4: never by 5.
-pub job-not-five : (most most-terms : ℕ) (bytes : List ℕ) (why : Refusal) → job-said most most-terms bytes ≡ no-job why → numberOf why ≡ 5 → ⊥
+pub job-not-five : (most most-terms : ℕ) (asks : Request) (why : Refusal) → job-said most most-terms asks ≡ no-job why → numberOf why ≡ 5 → ⊥
 unfolding job-said job-by job-with
-job-not-five most most-terms bytes why = by-text (said most-terms bytes)
+job-not-five most most-terms asks why = by-text (said most-terms (asks .text))
   where
-    by-terms : (modes : ℕ) (numbers : List ℕ) (found : Checked) → counted most modes numbers ≡ found → job-with modes numbers found ≡ no-job why
+    by-terms : (modes : ℕ) (numbers : List ℕ) (found : Checked) → counted most modes numbers ≡ found → job-with modes (asks .rule) numbers found ≡ no-job why
         → numberOf why ≡ 5 → ⊥
     by-terms modes numbers (Good count) counts e five = let z : _≡_ {A = ℕ} 0 1 = cc in omega arith
     by-terms modes numbers (BadTerms refusal) counts e five =
@@ -71,7 +72,7 @@ job-not-five most most-terms bytes why = by-text (said most-terms bytes)
         let few = rw same at (counted-refusal most modes numbers refusal counts) in
         omega arith
 
-    by-text : (says : Said) → job-by most says ≡ no-job why → numberOf why ≡ 5 → ⊥
+    by-text : (says : Said) → job-by most (asks .rule) says ≡ no-job why → numberOf why ≡ 5 → ⊥
     by-text (given modes numbers) e five = by-terms modes numbers (counted most modes numbers) refl e five
     by-text (malformed line) e five =
         let same : Malformed line ≡ why = cc in

@@ -3,8 +3,9 @@ ghost use mathlib.Core.Path.{_≡_};
 ghost use Prim.Native.Nat.{_*_};
 ghost use lib.ListN.{length};
 ghost use Rattle.entities.specs.Limits.{«most-modes», «most-terms», «row-width»};
+ghost use Rattle.terms.specs.declared.rules.Rule.{Rule};
 ghost use Rattle.terms_text.specs.Input.{given};
-ghost use Rattle.terms_text.specs.Jobs.{counted, «job-by», «job-said»};
+ghost use Rattle.terms_text.specs.Jobs.{request, counted, «job-by», «job-said»};
 ghost use Rattle.terms_text.specs.code.JobsRead.{ReadsJob};
 use crate::Said;
 use refusal::Refusal;
@@ -32,7 +33,7 @@ fn count_terms(modes: usize, numbers: &[u16]) -> Checked
 
 // The numbers of a text that is well formed, as a job's.
 fn count_job(modes: usize, numbers: &[u16]) -> JobRead
-    ensures { λ r. ⌜ ReadsJob (job-by most-modes (given modes (now (numbers .entry)))) (now (numbers .entry)) r ⌝ }
+    ensures { λ r. ⌜ ((rule : Rule) → ReadsJob rule (job-by most-modes rule (given modes (now (numbers .entry)))) (now (numbers .entry)) r) ⌝ }
 {
     match count_terms(modes, numbers) {
         Checked::Refused(why) => JobRead::Refused(why),
@@ -40,10 +41,10 @@ fn count_job(modes: usize, numbers: &[u16]) -> JobRead
     }
 }
 
-// The job of a text, its terms' rows put over the front of the numbers.
+// The job of a text by whatever rule is named, its terms' rows put over the front of the numbers.
 pub fn read_job(text: &[u8], numbers: &mut [u16]) -> JobRead
     requires { ⌜ length (now numbers) ≡ row-width * most-terms ⌝ }
-    ensures { λ r. ⌜ ReadsJob (job-said most-modes most-terms (now (text .entry))) (now (numbers .exit)) r ⌝ }
+    ensures { λ r. ⌜ ((rule : Rule) → ReadsJob rule (job-said most-modes most-terms (request rule (now (text .entry)))) (now (numbers .exit)) r) ⌝ }
 {
     match crate::read_input(text, numbers) {
         Said::Malformed(line) => JobRead::Refused(Refusal::Malformed(line)),

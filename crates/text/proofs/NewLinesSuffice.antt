@@ -17,8 +17,11 @@ use Rattle.fields.specs.Lines.{kept-of}
 use Rattle.fields.proofs.Numerals.{digit-above}
 use Rattle.fields.proofs.Digits.{some-digits}
 use Rattle.fields.proofs.DecimalRead.{decimal-without}
+use Rattle.terms.specs.declared.rules.Rule.{Rule}
+use Rattle.terms.specs.declared.rules.Rule.the-variants.{Published, Keep}
+use Rattle.terms.specs.Rules.{rule-number, rule-of}
 use Rattle.terms.specs.Job.{Job, job-of}
-use Rattle.obeying.specs.LineForms.{header-text, merge-text}
+use Rattle.obeying.specs.LineForms.{rule-word, header-text, merge-text}
 use Rattle.journal.specs.Writing.{line-of, header-behind}
 use Rattle.journal.specs.computed.NewText.{greedy-lines, new-text}
 use Rattle.journal.specs.Resuming.{Ending, Outcome, done, refuses, ending, resumed}
@@ -46,36 +49,41 @@ unfolding greedy-lines flatMap line-of merge-text tabbed
 lines-first job zero history e = omega arith
 lines-first job (suc steps) history e = decimal-first (length history) _ (simp append-assoc at e)
 
+header-first : (rule : Rule) (modes terms : ℕ) (rest : List ℕ) → getD (header-text rule modes terms ++ rest) 0 0 ≡ 114 → ⊥
+unfolding header-text rule-word tabbed
+header-first Published modes terms rest e = omega arith
+header-first Keep modes terms rest e = omega arith
+
 new-first : (job : Job) (kept : ℕ) (history : List Triple) → getD (new-text job kept history) 0 0 ≡ 114 → ⊥
-unfolding new-text header-behind header-text tabbed
+unfolding new-text header-behind
 new-first job kept history = go (eqb kept 0)
   where
     go : (b : Bool)
-        → getD (cond b (header-text (job .modes) (length (job .terms))) [] ++ flatMap (λ line. line) (greedy-lines job (job .modes - length history) history)) 0 0 ≡ 114
+        → getD (cond b (header-text (job .rule) (job .modes) (length (job .terms))) [] ++ flatMap (λ line. line) (greedy-lines job (job .modes - length history) history)) 0 0 ≡ 114
         → ⊥
-    go true e = omega arith
+    go true e = header-first (job .rule) (job .modes) (length (job .terms)) _ e
     go false e = lines-first job (job .modes - length history) history e
 
-module _ (modes : ℕ) (numbers read : List ℕ) (part : Ending) (says : resumed (program-rooms .run) modes numbers read ≡ done part) where
+module _ (modes rule : ℕ) (numbers read : List ℕ) (part : Ending) (says : resumed (program-rooms .run) modes rule numbers read ≡ done part) where
   new-never : part .new ≡ refusal-text Room → ⊥
   unfolding ending refusal-text text-line tabbed
   new-never e =
-      let known = call-done (program-rooms .run) modes numbers read part says in
-      let job = job-of modes (known .count) numbers in
+      let known = call-done (program-rooms .run) modes rule numbers read part says in
+      let job = job-of modes (rule-of rule) (known .count) numbers in
       new-first job (length (kept-of read)) (known .history)
       (ap (λ text. getD text 0 0) (sym (ap (λ p. p .new) (known .ends)) ∙ e))
 
 -- The theorem: 5 is never printed.
 pub new-lines-suffice : NewLinesSuffice
 unfolding continue-text new-printed number-in ran ran-by
-new-lines-suffice bytes read e = go (said most-terms bytes) refl e
+new-lines-suffice asks read e = go (said most-terms (asks .text)) refl e
   where
-    by-end : (modes : ℕ) (numbers : List ℕ) (end : Outcome) → resumed (program-rooms .run) modes numbers read ≡ end
+    by-end : (modes : ℕ) (numbers : List ℕ) (end : Outcome) → resumed (program-rooms .run) modes (rule-number (asks .rule)) numbers read ≡ end
         → new-printed end ≡ refusal-text Room → number-in end ≡ 5
-    by-end modes numbers (done part) f e = absurd (new-never modes numbers read part f e)
+    by-end modes numbers (done part) f e = absurd (new-never modes (rule-number (asks .rule)) numbers read part f e)
     by-end modes numbers (refuses refusal) f e = refusal-five refusal e
 
-    go : (says : Said) → said most-terms bytes ≡ says → new-printed (ran-by program-rooms says read) ≡ refusal-text Room → ⊥
+    go : (says : Said) → said most-terms (asks .text) ≡ says → new-printed (ran-by program-rooms (asks .rule) says read) ≡ refusal-text Room → ⊥
     go (given modes numbers) f e =
-        ran-never bytes read (rw f (by-end modes numbers (resumed (program-rooms .run) modes numbers read) refl e))
-    go (malformed line) f e = ran-never bytes read (rw f (refusal-five _ e))
+        ran-never asks read (rw f (by-end modes numbers (resumed (program-rooms .run) modes (rule-number (asks .rule)) numbers read) refl e))
+    go (malformed line) f e = ran-never asks read (rw f (refusal-five _ e))

@@ -10,7 +10,7 @@ use lib.ListN.{length, getD, length-append}
 use Rattle.lists.specs.Members.{every}
 use Rattle.lists.proofs.Tests.{both}
 use Rattle.refusal.specs.declared.Refusal.{Refusal}
-use Rattle.refusal.specs.declared.Refusal.the-variants.{Modes, Room}
+use Rattle.refusal.specs.declared.Refusal.the-variants.{Modes, Room, Rule as NoRule}
 use Rattle.refusal.specs.Numbers.{numberOf, placeOf}
 use Rattle.entities.specs.Limits.{most-modes, most-terms}
 use Rattle.fields.specs.Texts.{spelt}
@@ -22,12 +22,14 @@ use Rattle.fields.proofs.NumbersTabbed.{decimal-no-tab, fields-line}
 use Rattle.terms.specs.declared.checking.Checked.{Checked}
 use Rattle.terms.specs.declared.checking.Checked.the-variants.{Good, Refused}
 use Rattle.terms.specs.Good.{modes-good, checked}
+use Rattle.terms.specs.Rules.{rule-number, rule-good, rule-of}
 use Rattle.terms.specs.Job.{Job, job-of}
 use Rattle.terms.proofs.GoodTerms.{accepted}
 use Rattle.obeying.specs.Obeying.{Obeyed, went, refused, obeyed}
 use Rattle.journal.specs.Resuming.{Outcome, done, refuses, with-journal, with-terms, resumed}
 use Rattle.journal.proofs.CallDone.{rooms-fit, with-room}
 use Rattle.terms_text.specs.Input.{Said, given, malformed, said}
+use Rattle.terms_text.specs.Jobs.{Request}
 use Rattle.text.specs.Running.{program-rooms, ran-by, ran}
 use Rattle.text.specs.Output.{line-of, refusal-text, done-text, printed, resume-text, RoomSuffices}
 use Rattle.obeying.proofs.LineRefused.{journal-refusal}
@@ -67,9 +69,9 @@ unfolding number-in printed done-text refusal-text line-of tabbed
 five-ended (done ending) e = absurd (omega (arith, ap (λ text. getD text 0 0) e))
 five-ended (refuses refusal) e = refusal-five refusal e
 
-module _ (modes : ℕ) (numbers read : List ℕ) where
+module _ (modes rule : ℕ) (numbers read : List ℕ) where
   abbrev number-with : Checked → ℕ
-  number-with found = number-in (with-terms (program-rooms .run) modes numbers read found)
+  number-with found = number-in (with-terms (program-rooms .run) modes (rule-of rule) numbers read found)
 
   -- The journal's lines have numbers of their own, 6 to 12.
   journal-never : (job : Job) (found : Obeyed) → obeyed job read ≡ found → number-in (with-journal job read found) ≡ 5 → ⊥
@@ -81,33 +83,37 @@ module _ (modes : ℕ) (numbers read : List ℕ) where
   terms-never : modes ≤ most-modes → (found : Checked) → checked modes numbers ≡ found → number-with found ≡ 5 → ⊥
   unfolding number-in with-terms
   terms-never few (Good count) e h =
-      let job = job-of modes count numbers in
+      let job = job-of modes (rule-of rule) count numbers in
       let short = accepted modes numbers count e .at-most in
       let fits = rooms-fit (program-rooms .run) modes count (omega (arith, short)) (omega arith) (omega arith) in
-      let decides = ap number-in (with-room (program-rooms .run) modes numbers read count fits) in
+      let decides = ap number-in (with-room (program-rooms .run) modes (rule-of rule) numbers read count fits) in
       journal-never job (obeyed job read) refl (sym decides ∙ h)
   terms-never few (Refused why) e h = omega (arith, h, terms-refusal modes numbers why e)
 
-  run-never : number-in (resumed (program-rooms .run) modes numbers read) ≡ 5 → ⊥
+  run-never : number-in (resumed (program-rooms .run) modes rule numbers read) ≡ 5 → ⊥
   unfolding number-in resumed modes-good
-  run-never h = go (modes-good most-modes modes) refl h
+  run-never h = go (modes-good most-modes modes) refl (rule-good rule) h
     where
-      go : (b : Bool) → modes-good most-modes modes ≡ b
-          → number-in (cond (not b) (refuses Modes) (with-terms (program-rooms .run) modes numbers read (checked modes numbers))) ≡ 5
+      go : (b : Bool) → modes-good most-modes modes ≡ b → (c : Bool)
+          → number-in
+          (cond (not b) (refuses Modes)
+          (cond (not c) (refuses NoRule) (with-terms (program-rooms .run) modes (rule-of rule) numbers read (checked modes numbers))))
+          ≡ 5
           → ⊥
-      go false e h = omega arith
-      go true e h = terms-never (leb-true modes most-modes (both (leb 1 modes) (leb modes most-modes) e .1)) (checked modes numbers) refl h
+      go false e c h = omega arith
+      go true e false h = omega arith
+      go true e true h = terms-never (leb-true modes most-modes (both (leb 1 modes) (leb modes most-modes) e .1)) (checked modes numbers) refl h
 
 -- No text's run ends with 5, whatever journal is read.
-pub ran-never : (bytes read : List ℕ) → number-in (ran program-rooms bytes read) ≡ 5 → ⊥
+pub ran-never : (asks : Request) (read : List ℕ) → number-in (ran program-rooms asks read) ≡ 5 → ⊥
 unfolding number-in ran-by ran
-ran-never bytes read = go (said most-terms bytes)
+ran-never asks read = go (said most-terms (asks .text))
   where
-    go : (says : Said) → number-in (ran-by program-rooms says read) ≡ 5 → ⊥
-    go (given modes numbers) h = run-never modes numbers read h
+    go : (says : Said) → number-in (ran-by program-rooms (asks .rule) says read) ≡ 5 → ⊥
+    go (given modes numbers) h = run-never modes (rule-number (asks .rule)) numbers read h
     go (malformed line) h = omega arith
 
 -- The theorem: 5 is never printed.
 pub room-suffices : RoomSuffices
 unfolding resume-text
-room-suffices bytes read e = ran-never bytes read (five-ended (ran program-rooms bytes read) e)
+room-suffices asks read e = ran-never asks read (five-ended (ran program-rooms asks read) e)

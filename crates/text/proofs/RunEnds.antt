@@ -27,10 +27,10 @@ use Rattle.text.proofs.PrintedLines.{front-over}
 abbrev pub but-work : CallLent → Lent
 but-work given = lent (given .rows) (given .journal)
 
-module _ (modes : ℕ) (numbers read : List ℕ) (given after : CallLent) (r : Answer) (rooms : rooms-of most-modes given ≡ program-rooms .run)
-    (answers : Answers (λ lent. resumed (rooms-of most-modes lent) modes numbers read) given after r) where
+module _ (modes rule : ℕ) (numbers read : List ℕ) (given after : CallLent) (r : Answer) (rooms : rooms-of most-modes given ≡ program-rooms .run)
+    (answers : Answers (λ lent. resumed (rooms-of most-modes lent) modes rule numbers read) given after r) where
   abbrev meant : Outcome
-  meant = resumed (program-rooms .run) modes numbers read
+  meant = resumed (program-rooms .run) modes rule numbers read
 
   same-answer : r ≡ returned meant
   same-answer = rw (← rooms) (answers .answer)
@@ -58,7 +58,7 @@ module _ (modes : ℕ) (numbers read : List ℕ) (given after : CallLent) (r : A
     unfolding returned lent-then written-at
     done-as (refuses refusal) m e f = let z : _≡_ {A = ℕ} 0 1 = cc in absurd (omega arith)
     done-as (done end) m e f =
-        let fit = rows-fit (program-rooms .run) modes numbers read end (omega arith) m in
+        let fit = rows-fit (program-rooms .run) modes rule numbers read end (omega arith) m in
         let new : found .new ≡ length (end .new) = cc in
         let journal : after .journal ≡ written-at 0 (end .new) (given .journal) = ap (λ l. l .journal) f in
         record {

@@ -15,8 +15,10 @@ use Rattle.fields.specs.Decimal.{decimal}
 use Rattle.fields.specs.Fields.{tabbed}
 use Rattle.fields.specs.Lines.{kept-of}
 use Rattle.terms.specs.Rows.{rows-of}
+use Rattle.terms.specs.declared.rules.Rule.the-variants.{Published}
 use Rattle.journal.specs.Resuming.{Ending, Outcome, done, refuses}
 use Rattle.journal.specs.CutAndResumed.{journal-of}
+use Rattle.terms_text.specs.Jobs.{Request, request}
 use Rattle.text.specs.declared.Printed.{Printed}
 use Rattle.text.specs.Running.{Rooms, program-rooms, printed-room, ran}
 
@@ -51,13 +53,13 @@ unfoldable pub printed : Outcome → List ℕ
 printed (done ending) = done-text (ending .weight) (ending .trials) (ending .rows)
 printed (refuses refusal) = refusal-text refusal
 
--- What resuming prints for a text and the journal that is read, in these rooms.
-unfoldable pub resume-text : Rooms → List ℕ → List ℕ → List ℕ
-resume-text rooms bytes read = printed (ran rooms bytes read)
+-- What resuming prints for what is asked and the journal that is read, in these rooms.
+unfoldable pub resume-text : Rooms → Request → List ℕ → List ℕ
+resume-text rooms asks read = printed (ran rooms asks read)
 
--- The program's answer to a text: the unbroken run's.
+-- The program's answer to a text: the unbroken run's, by the published rule.
 unfoldable pub answer-text : Rooms → List ℕ → List ℕ
-answer-text rooms bytes = resume-text rooms bytes []
+answer-text rooms bytes = resume-text rooms (request Published bytes) []
 
 -- The new lines alone, so that what is kept of the journal that is read and these are the journal; or the refusal.
 unfoldable pub new-printed : Outcome → List ℕ
@@ -65,8 +67,8 @@ new-printed (done ending) = ending .new
 new-printed (refuses refusal) = refusal-text refusal
 
 -- What continuing a journal prints, in these rooms; of an empty one, the journal of an unbroken run.
-unfoldable pub continue-text : Rooms → List ℕ → List ℕ → List ℕ
-continue-text rooms bytes read = new-printed (ran rooms bytes read)
+unfoldable pub continue-text : Rooms → Request → List ℕ → List ℕ
+continue-text rooms asks read = new-printed (ran rooms asks read)
 
 -- What a program prints of this room: the bytes of its answer, as many as they are, and zeros behind them.
 pub record PrintsIn (room : ℕ) (answer printed : List ℕ) (r : ℕ) : Type 0 where
@@ -77,26 +79,26 @@ pub record PrintsIn (room : ℕ) (answer printed : List ℕ) (r : ℕ) : Type 0 
 abbrev pub Prints : List ℕ → Printed → Type 0
 Prints answer r = PrintsIn printed-room answer (r .bytes) (r .count)
 
--- 5 is never printed: whatever the text and the journal, the programs' own rooms suffice.
+-- 5 is never printed: whatever is asked and whatever the journal, the programs' own rooms suffice.
 abbrev pub RoomSuffices : Type 0
-RoomSuffices = (bytes read : List ℕ) → resume-text program-rooms bytes read ≡ refusal-text Room → ⊥
+RoomSuffices = (asks : Request) (read : List ℕ) → resume-text program-rooms asks read ≡ refusal-text Room → ⊥
 
 -- Nor where a journal is continued.
 abbrev pub NewLinesSuffice : Type 0
-NewLinesSuffice = (bytes read : List ℕ) → continue-text program-rooms bytes read ≡ refusal-text Room → ⊥
+NewLinesSuffice = (asks : Request) (read : List ℕ) → continue-text program-rooms asks read ≡ refusal-text Room → ⊥
 
--- A text's run resumed from the first bytes of a journal comes to the end that the journal had.
-pub record ResumesFrom (bytes journal : List ℕ) (part : Ending) (cut : ℕ) : Type 0 where
+-- The run that is asked for, resumed from the first bytes of a journal comes to the end that the journal had.
+pub record ResumesFrom (asks : Request) (journal : List ℕ) (part : Ending) (cut : ℕ) : Type 0 where
   pub again : Ending
-  pub resumes : ran program-rooms bytes (take cut journal) ≡ done again
+  pub resumes : ran program-rooms asks (take cut journal) ≡ done again
   pub same-rows : again .rows ≡ part .rows
   pub same-weight : again .weight ≡ part .weight
   pub same-journal : journal-of (take cut journal) again ≡ journal
 
 -- Continuing makes a journal whole: what is kept of it and what is printed are the run's journal, which may be cut after any byte that isn't before the end of what was kept.
-pub record Continues (bytes read : List ℕ) (part : Ending) : Type 0 where
-  pub whole : kept-of read ++ continue-text program-rooms bytes read ≡ journal-of read part
-  pub resumes : (cut : ℕ) → length (kept-of read) ≤ cut → ResumesFrom bytes (journal-of read part) part cut
+pub record Continues (asks : Request) (read : List ℕ) (part : Ending) : Type 0 where
+  pub whole : kept-of read ++ continue-text program-rooms asks read ≡ journal-of read part
+  pub resumes : (cut : ℕ) → length (kept-of read) ≤ cut → ResumesFrom asks (journal-of read part) part cut
 
 abbrev pub ContinuesWhole : Type 0
-ContinuesWhole = (bytes read : List ℕ) (part : Ending) → ran program-rooms bytes read ≡ done part → Continues bytes read part
+ContinuesWhole = (asks : Request) (read : List ℕ) (part : Ending) → ran program-rooms asks read ≡ done part → Continues asks read part

@@ -3,8 +3,11 @@ use mathlib.Core.List.{List}
 use Prim.Native.Nat.{ℕ, _+_, _*_}
 use Rattle.refusal.specs.declared.Refusal.the-variants.{Malformed}
 use Rattle.entities.specs.Limits.{most-modes, most-terms, row-width}
+use Rattle.terms.specs.declared.rules.Rule.{Rule}
+use Rattle.terms.specs.Rules.{rule-number}
 use Rattle.journal.specs.Resuming.{Outcome, refuses, resumed, Rooms as RunRooms}
 use Rattle.terms_text.specs.Input.{Said, given, malformed, said}
+use Rattle.terms_text.specs.Jobs.{Request}
 
 -- What a program has room for: the most terms that it reads, and what its run has room for.
 pub record Rooms : Type 0 where
@@ -21,10 +24,10 @@ abbrev pub printed-room : ℕ
 printed-room = 16384
 
 -- 18 is "before any other number".
-unfoldable pub ran-by : Rooms → Said → List ℕ → Outcome
-ran-by rooms (given modes numbers) read = resumed (rooms .run) modes numbers read
-ran-by rooms (malformed line) read = refuses (Malformed line)
+unfoldable pub ran-by : Rooms → Rule → Said → List ℕ → Outcome
+ran-by rooms rule (given modes numbers) read = resumed (rooms .run) modes (rule-number rule) numbers read
+ran-by rooms rule (malformed line) read = refuses (Malformed line)
 
--- What a text's run comes to in these rooms, resumed from the journal that is read; an empty one is an unbroken run.
-unfoldable pub ran : Rooms → List ℕ → List ℕ → Outcome
-ran rooms bytes read = ran-by rooms (said (rooms .terms) bytes) read
+-- What the run that is asked for comes to in these rooms, resumed from the journal that is read; an empty one is an unbroken run.
+unfoldable pub ran : Rooms → Request → List ℕ → Outcome
+ran rooms asks read = ran-by rooms (asks .rule) (said (rooms .terms) (asks .text)) read

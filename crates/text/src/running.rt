@@ -4,11 +4,14 @@ ghost use Prim.Native.Nat.{_+_, _*_};
 ghost use lib.ListN.{length};
 ghost use Rattle.entities.specs.Limits.{«most-modes», «most-terms», «row-width»};
 ghost use Rattle.terms_text.specs.Input.{given};
+ghost use Rattle.terms_text.specs.Jobs.{request};
 ghost use Rattle.text.specs.code.Runs.{lent, Runs};
 ghost use Rattle.text.specs.Running.{«program-rooms», «ran-by», ran};
 use journal::resuming;
 use journal::resuming::Answer;
 use refusal::Refusal;
+use terms::rules;
+use terms::rules::Rule;
 use terms_text::Said;
 
 // A run that is done: its modes, greedy weight and trials, and how many bytes its new lines have.
@@ -28,6 +31,7 @@ pub enum Ran {
 // The run of these terms, resumed from the journal that is read, in lent room for work, rows and journal.
 fn run_terms(
     modes: usize,
+    rule: Rule,
     numbers: &[u16],
     read: &[u8],
     work: &mut [u16],
@@ -35,10 +39,10 @@ fn run_terms(
     journal: &mut [u8],
 ) -> Ran
     requires { ⌜ (length (now work) ≡ row-width * most-terms) × (length (now rows) ≡ 4 * most-modes) × (length (now journal) ≡ 16 + 21 * most-modes) ⌝ }
-    ensures { λ r. ⌜ Runs most-modes (ran-by program-rooms (given modes (now (numbers .entry))) (now (read .entry)))
+    ensures { λ r. ⌜ Runs most-modes (ran-by program-rooms rule (given modes (now (numbers .entry))) (now (read .entry)))
         (lent (now (rows .entry)) (now (journal .entry))) (lent (now (rows .exit)) (now (journal .exit))) r ⌝ }
 {
-    match resuming::resume(modes, numbers, read, work, rows, journal) {
+    match resuming::resume(modes, rules::number(rule), numbers, read, work, rows, journal) {
         Answer::Refused(refusal) => Ran::Refused(refusal),
         Answer::Done(found) => Ran::Done(Run {
             modes: modes,
@@ -52,21 +56,23 @@ fn run_terms(
 // The same with work of its own.
 fn run_given(
     modes: usize,
+    rule: Rule,
     numbers: &[u16],
     read: &[u8],
     rows: &mut [u16],
     journal: &mut [u8],
 ) -> Ran
     requires { ⌜ (length (now rows) ≡ 4 * most-modes) × (length (now journal) ≡ 16 + 21 * most-modes) ⌝ }
-    ensures { λ r. ⌜ Runs most-modes (ran-by program-rooms (given modes (now (numbers .entry))) (now (read .entry)))
+    ensures { λ r. ⌜ Runs most-modes (ran-by program-rooms rule (given modes (now (numbers .entry))) (now (read .entry)))
         (lent (now (rows .entry)) (now (journal .entry))) (lent (now (rows .exit)) (now (journal .exit))) r ⌝ }
 {
     let mut work = [0u16; 16384];
-    run_terms(modes, numbers, read, &mut work, rows, journal)
+    run_terms(modes, rule, numbers, read, &mut work, rows, journal)
 }
 
-// The run that a text asks for, in lent room for its terms.
+// The run by this rule that a text asks for, in lent room for its terms.
 fn run_read(
+    rule: Rule,
     input: &[u8],
     read: &[u8],
     numbers: &mut [u16],
@@ -74,24 +80,24 @@ fn run_read(
     journal: &mut [u8],
 ) -> Ran
     requires { ⌜ (length (now numbers) ≡ row-width * most-terms) × (length (now rows) ≡ 4 * most-modes) × (length (now journal) ≡ 16 + 21 * most-modes) ⌝ }
-    ensures { λ r. ⌜ Runs most-modes (ran program-rooms (now (input .entry)) (now (read .entry)))
+    ensures { λ r. ⌜ Runs most-modes (ran program-rooms (request rule (now (input .entry))) (now (read .entry)))
         (lent (now (rows .entry)) (now (journal .entry))) (lent (now (rows .exit)) (now (journal .exit))) r ⌝ }
 {
     match terms_text::read_input(input, numbers) {
         Said::Malformed(line) => Ran::Refused(Refusal::Malformed(line)),
         Said::Given(modes, count) => {
             let end = 8 * count;
-            run_given(modes, &numbers[..end], read, rows, journal)
+            run_given(modes, rule, &numbers[..end], read, rows, journal)
         }
     }
 }
 
-// The run that a text asks for, resumed from the journal that is read: its rows and its new lines put over the fronts of what is lent.
-pub fn run_text(input: &[u8], read: &[u8], rows: &mut [u16], journal: &mut [u8]) -> Ran
+// The run by this rule that a text asks for, resumed from the journal that is read: its rows and its new lines put over the fronts of what is lent.
+pub fn run_text(rule: Rule, input: &[u8], read: &[u8], rows: &mut [u16], journal: &mut [u8]) -> Ran
     requires { ⌜ (length (now rows) ≡ 4 * most-modes) × (length (now journal) ≡ 16 + 21 * most-modes) ⌝ }
-    ensures { λ r. ⌜ Runs most-modes (ran program-rooms (now (input .entry)) (now (read .entry)))
+    ensures { λ r. ⌜ Runs most-modes (ran program-rooms (request rule (now (input .entry))) (now (read .entry)))
         (lent (now (rows .entry)) (now (journal .entry))) (lent (now (rows .exit)) (now (journal .exit))) r ⌝ }
 {
     let mut numbers = [0u16; 16384];
-    run_read(input, read, &mut numbers, rows, journal)
+    run_read(rule, input, read, &mut numbers, rows, journal)
 }

@@ -5,6 +5,7 @@ use Prim.Native.Nat.{ℕ, _*_, _≤_}
 use lib.ListN.{length, take}
 use Rattle.refusal.specs.declared.Refusal.{Refusal}
 use Rattle.entities.specs.Limits.{most-modes, row-width}
+use Rattle.terms.specs.declared.rules.Rule.{Rule}
 use Rattle.terms.specs.Job.{job-of}
 use Rattle.terms.specs.Good.{checked}
 use Rattle.terms.specs.declared.checking.Checked.the-variants.{Good}
@@ -18,10 +19,10 @@ pub record JobFits (modes count : ℕ) (terms : List ℕ) : Type 0 where
   pub few : modes ≤ most-modes
   pub good : checked modes terms ≡ Good count
 
--- What is known of an answer: the job is that of the front of the numbers, which it fits, or the refusal is the text's.
-pub record ReadsJob (meant : JobSaid) (numbers : List ℕ) (r : JobRead) : Type 0 where
+-- What is known of an answer to whoever names a rule: the job is that of the front of the numbers, which it fits, or the refusal is the text's.
+pub record ReadsJob (rule : Rule) (meant : JobSaid) (numbers : List ℕ) (r : JobRead) : Type 0 where
   pub is-job : (modes count : ℕ) → r ≡ Is modes count
       → (row-width * count ≤ length numbers)
       × JobFits modes count (take (row-width * count) numbers)
-      × (meant ≡ a-job (job-of modes count (take (row-width * count) numbers)))
+      × (meant ≡ a-job (job-of modes rule count (take (row-width * count) numbers)))
   pub is-refused : (why : Refusal) → r ≡ Refused why → meant ≡ no-job why

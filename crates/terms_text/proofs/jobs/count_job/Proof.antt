@@ -15,14 +15,14 @@ enum-known-count : tie.Need-enum-known-count
 enum-known-count c = search needs
 
 returns : tie.Need-returns
-returns c =
+returns c rule =
     let args = c .before .before .before .before .before .args in
-    reads-bad (args .modes) (args .numbers .now) _ (sym (c .before .before .before .count-terms .ensures) ∙ c .before .why .given .1)
+    reads-bad rule (args .modes) (args .numbers .now) _ (sym (c .before .before .before .count-terms .ensures) ∙ c .before .why .given .1)
 
 returns-2 : tie.Need-returns-2
-returns-2 c =
+returns-2 c rule =
     let args = c .before .before .before .before .before .args in
-    reads-good (args .modes) (args .numbers .now) _ (sym (c .before .before .before .count-terms .ensures) ∙ c .before .count .given .1)
+    reads-good rule (args .modes) (args .numbers .now) _ (sym (c .before .before .before .count-terms .ensures) ∙ c .before .count .given .1)
 
 pub count-job-spec : {M : Type 1} → statement M
 count-job-spec =

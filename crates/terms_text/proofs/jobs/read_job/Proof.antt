@@ -5,7 +5,7 @@ use native.Mathlib.Omega.{arith}
 use borrow.Author.Needs.{needs}
 use lib.ListN.{length}
 use lib.Seq.{length-take-le}
-use Rattle.terms_text.specs.Jobs.{job-by, job-said}
+use Rattle.terms_text.specs.Jobs.{request, job-by, job-said}
 use Rattle.terms_text.proofs.InputSaid.{given-few, given-says, malformed-says}
 use Rattle.terms_text.proofs.JobsRead.{reads-refusal, reads-front}
 use Rattle.terms_text.proofs.jobs.read_job.Statement.{statement}
@@ -47,9 +47,9 @@ same-length c = search needs
 
 returns : tie.Need-returns
 unfolding job-said job-by
-returns c =
+returns c rule =
     let start = c .before .before .before .before .before .before .before .before .before in
-    reads-refusal (job-said 256 2048 (start .args .text .now)) _ _
+    reads-refusal rule (job-said 256 2048 (request rule (start .args .text .now))) _ _
     (rw (sym (malformed-says 2048 (start .args .text .now) _ _ (c .before .before .before .before .before .read-input .ensures) _ (c .before .line .given .1))))
 
 same-length-2 : tie.Need-same-length-2
@@ -57,10 +57,10 @@ same-length-2 c = search needs
 
 returns-2 : tie.Need-returns-2
 unfolding job-said
-returns-2 c =
+returns-2 c rule =
     let start = c .before .before .before .before .before .before .before .before .before .before .before in
     let says = given-says 2048 (start .args .text .now) _ _ (c .before .before .before .before .before .before .before .read-input .ensures) _ _ (c .before .before .before .modes .given .1) in
-    reads-front (job-said 256 2048 (start .args .text .now)) _ _ _ (room (c .before .before)) (rw says at (c .count-job .ensures))
+    reads-front rule (job-said 256 2048 (request rule (start .args .text .now))) _ _ _ (room (c .before .before)) (rw says at (c .count-job .ensures rule))
 
 pub read-job-spec : {M : Type 1} → statement M
 read-job-spec =

@@ -32,14 +32,14 @@ slice-reshare-prefix-put-done : tie.Need-slice-reshare-prefix-put-done
 slice-reshare-prefix-put-done c =
     let run = c .before .before .before .before .before .before .before .before .before .run-text in
     let told = c .before .before .before .run .given in
-    omega (arith, (run-done 256 _ _ _ _ (run .ensures) _ (told .1)) .few, run .kept .1 .1 .0, c .before .before .before .before .before .before .before .before .before .before .before .before .before .before .before .before .before .pre .0)
+    omega (arith, (run-done 256 _ _ _ _ (run .ensures) _ (told .1)) .few, run .kept .1 .1 .1 .0, c .before .before .before .before .before .before .before .before .before .before .before .before .before .before .before .before .before .pre .0)
 
 slice-aggregate-put-done : tie.Need-slice-aggregate-put-done
 slice-aggregate-put-done c =
     let run = c .before .before .before .before .before .before .before .before .before .before .run-text in
     let told = c .before .before .before .before .run .given in
-    let room : 4 * told .0 .0 .modes ≤ length (run .last .1 .1 .0) = omega (arith, (run-done 256 _ _ _ _ (run .ensures) _ (told .1)) .few, run .kept .1 .1 .0, c .before .before .before .before .before .before .before .before .before .before .before .before .before .before .before .before .before .before .pre .0) in
-    sym (length-take-le (4 * told .0 .0 .modes) (run .last .1 .1 .0) room)
+    let room : 4 * told .0 .0 .modes ≤ length (run .last .1 .1 .1 .0) = omega (arith, (run-done 256 _ _ _ _ (run .ensures) _ (told .1)) .few, run .kept .1 .1 .1 .0, c .before .before .before .before .before .before .before .before .before .before .before .before .before .before .before .before .before .before .pre .0) in
+    sym (length-take-le (4 * told .0 .0 .modes) (run .last .1 .1 .1 .0) room)
 
 put-done-requires : tie.Need-put-done-requires
 put-done-requires c κs =
@@ -47,8 +47,8 @@ put-done-requires c κs =
     let run = c .before .before .before .before .before .before .before .before .before .before .run-text in
     let told = c .before .before .before .before .run .given in
     let few = (run-done 256 _ _ _ _ (run .ensures) _ (told .1)) .few in
-    let room : 4 * told .0 .0 .modes ≤ length (run .last .1 .1 .0) = omega (arith, few, run .kept .1 .1 .0, start .pre .0) in
-    omega (arith, length-take-le (4 * told .0 .0 .modes) (run .last .1 .1 .0) room, few, start .pre .2)
+    let room : 4 * told .0 .0 .modes ≤ length (run .last .1 .1 .1 .0) = omega (arith, few, run .kept .1 .1 .1 .0, start .pre .0) in
+    omega (arith, length-take-le (4 * told .0 .0 .modes) (run .last .1 .1 .1 .0) room, few, start .pre .2)
 
 same-length : tie.Need-same-length
 same-length c = search needs

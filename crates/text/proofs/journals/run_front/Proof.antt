@@ -3,6 +3,7 @@ use mathlib.Core.Path.{sym}
 use native.Mathlib.Omega.{arith}
 use borrow.Author.Needs.{needs}
 use lib.Seq.{length-take-le}
+use Rattle.terms_text.specs.Jobs.{request}
 use Rattle.text.specs.Running.{program-rooms, ran}
 use Rattle.text.proofs.RunEnds.{runs-over}
 use Rattle.text.proofs.journals.run_front.Statement.{statement}
@@ -32,7 +33,7 @@ returns c =
     let start = c .before .before .before .before .before .before .before .before .before .before .before in
     let args = start .args in
     let run = c .before .before .before .before .run-text in
-    runs-over 256 (ran program-rooms (args .input .now) (args .read .now)) (args .rows .now) _ (args .out .now) _ 5392 (run .result) (omega (arith, start .pre .1)) (run .ensures)
+    runs-over 256 (ran program-rooms (request (args .rule) (args .input .now)) (args .read .now)) (args .rows .now) _ (args .out .now) _ 5392 (run .result) (omega (arith, start .pre .1)) (run .ensures)
 
 pub run-front-spec : {M : Type 1} → statement M
 run-front-spec =

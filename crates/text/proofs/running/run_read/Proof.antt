@@ -45,7 +45,7 @@ returns : tie.Need-returns
 returns c =
     let args = c .before .before .before .before .before .before .before .before .before .before .before .before .args in
     let told = c .before .line .given in
-    record { is = malformed-ran 2048 (args .input .now) _ _ (c .before .before .before .before .before .read-input .ensures) _ (told .1) program-rooms (args .read .now) refl; leaves = refl }
+    record { is = malformed-ran 2048 (args .input .now) _ _ (c .before .before .before .before .before .read-input .ensures) _ (told .1) program-rooms (args .rule) (args .read .now) refl; leaves = refl }
 
 same-length-2 : tie.Need-same-length-2
 same-length-2 c = search needs
@@ -60,7 +60,7 @@ returns-2 : tie.Need-returns-2
 returns-2 c =
     let args = c .before .before .before .before .before .before .before .before .before .before .before .before .before .before .before .before .before .before .before .before .args in
     let told = c .before .before .before .before .before .before .before .before .before .modes .given in
-    rw (given-ran 2048 (args .input .now) _ _ (c .before .before .before .before .before .before .before .before .before .before .before .before .before .read-input .ensures) _ _ (told .1) program-rooms (args .read .now) refl) at (c .before .before .before .before .run-given .ensures)
+    rw (given-ran 2048 (args .input .now) _ _ (c .before .before .before .before .before .before .before .before .before .before .before .before .before .read-input .ensures) _ _ (told .1) program-rooms (args .rule) (args .read .now) refl) at (c .before .before .before .before .run-given .ensures)
 
 pub run-read-spec : {M : Type 1} → statement M
 run-read-spec =

@@ -4,6 +4,7 @@ use mathlib.Core.List.{List}
 use Prim.Native.Nat.{ℕ}
 use borrow.Author.Needs.{needs}
 use lib.ListN.{length}
+use Rattle.terms.specs.Rules.{rule-number}
 use Rattle.journal.specs.Promises.{lent, rooms-of}
 use Rattle.text.specs.Running.{program-rooms, ran-by}
 use Rattle.text.proofs.RunEnds.{refused-runs, done-runs}
@@ -14,6 +15,9 @@ use Rattle.text.proofs.running.run_terms.Tie as tie
 same-rooms : (work rows journal : List ℕ) → length work ≡ 16384 → length rows ≡ 1024 → length journal ≡ 5392
     → rooms-of 256 (lent work rows journal) ≡ program-rooms .run
 same-rooms work rows journal w r j = rw (w, r, j)
+
+number-requires : tie.Need-number-requires
+number-requires c κs = search needs
 
 resume-requires : tie.Need-resume-requires
 resume-requires c κs = search needs
@@ -36,10 +40,11 @@ same-length-3 c = search needs
 returns : tie.Need-returns
 unfolding ran-by
 returns c =
-    let start = c .before .before .before .before .before .before .before .before .before .before .before .before .before .before .before .before .before .before in
+    let start = c .before .before .before .before .before .before .before .before .before .before .before .before .before .before .before .before .before .before .before in
+    let resume = c .before .before .before .before .before .before .before .before .before in
     let refusal = c .before .refusal .given in
     let args = start .args in
-    refused-runs (args .modes) (args .numbers .now) (args .read .now) _ _ _ (same-rooms (args .work .now) (args .rows .now) (args .journal .now) (start .pre .0) (start .pre .1) (start .pre .2)) (c .before .before .before .before .before .before .before .before .before .resume .ensures) (refusal .0 .0) (refusal .1)
+    refused-runs (args .modes) (rule-number (args .rule)) (args .numbers .now) (args .read .now) _ _ _ (same-rooms (args .work .now) (args .rows .now) (args .journal .now) (start .pre .0) (start .pre .1) (start .pre .2)) (rw (resume .before .before .before .before .number .ensures) at (resume .resume .ensures)) (refusal .0 .0) (refusal .1)
 
 same-length-4 : tie.Need-same-length-4
 same-length-4 c = search needs
@@ -53,16 +58,17 @@ same-length-6 c = search needs
 returns-2 : tie.Need-returns-2
 unfolding ran-by
 returns-2 c =
-    let start = c .before .before .before .before .before .before .before .before .before .before .before .before .before .before .before .before .before .before in
-    let resume = c .before .before .before .before .before .before .before .before .before .resume in
+    let start = c .before .before .before .before .before .before .before .before .before .before .before .before .before .before .before .before .before .before .before in
+    let resume = c .before .before .before .before .before .before .before .before .before in
     let found = c .before .found .given in
     let args = start .args in
-    done-runs (args .modes) (args .numbers .now) (args .read .now) _ _ _ (same-rooms (args .work .now) (args .rows .now) (args .journal .now) (start .pre .0) (start .pre .1) (start .pre .2)) (resume .ensures) (found .0 .0) (resume .kept .1 .1 .1 .1 .1 .0) (found .1)
+    done-runs (args .modes) (rule-number (args .rule)) (args .numbers .now) (args .read .now) _ _ _ (same-rooms (args .work .now) (args .rows .now) (args .journal .now) (start .pre .0) (start .pre .1) (start .pre .2)) (rw (resume .before .before .before .before .number .ensures) at (resume .resume .ensures)) (found .0 .0) (resume .resume .kept .1 .1 .1 .1 .1 .1 .0) (found .1)
 
 pub run-terms-spec : {M : Type 1} → statement M
 run-terms-spec =
     tie.close
     (tie.spec
+    number-requires
     resume-requires
     enum-known-refusal
     enum-known-found
