@@ -52,5 +52,5 @@ module _ (read word : List ℕ) where
 
 pub letters-suffice : LettersSuffice
 unfolding number-in lettered
-letters-suffice bytes read word e =
-    job-never read word (job-said most-modes most-terms bytes) (job-not-five most-modes most-terms bytes) (ap number-in e)
+letters-suffice asks read word e =
+    job-never read word (job-said most-modes most-terms asks) (job-not-five most-modes most-terms asks) (ap number-in e)

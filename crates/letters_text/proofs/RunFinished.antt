@@ -4,6 +4,7 @@ use mathlib.Core.List.{List}
 use Prim.Native.Nat.{ℕ}
 use lib.ListN.{length}
 use Rattle.refusal.specs.declared.Refusal.{Refusal}
+use Rattle.terms.specs.declared.rules.Rule.{Rule}
 use Rattle.terms.specs.Rows.{terms-of}
 use Rattle.terms.specs.Job.{Job, job-of}
 use Rattle.terms.specs.code.Held.{Held}
@@ -23,13 +24,13 @@ use Rattle.letters_text.specs.Lettering.{asked, refuses, lettered-at, le
 use Rattle.letters_text.specs.code.Replaying.{Finished}
 
 -- Finished on rows of its own, while other numbers begin with the same terms.
-module _ (modes count : ℕ) (own terms now-own end-own : List ℕ) (run end : Run) where
-  pub run-finished : Holds (job-of modes count own) now-own run
-      → Went (job-of modes count own) (finished (job-of modes count own) (history-of run)) now-own end end-own
-      → Held 8 count terms → terms-of 8 count own ≡ terms-of 8 count terms → Finished (job-of modes count own) end-own end modes count terms
+module _ (modes : ℕ) (rule : Rule) (count : ℕ) (own terms now-own end-own : List ℕ) (run end : Run) where
+  pub run-finished : Holds (job-of modes rule count own) now-own run
+      → Went (job-of modes rule count own) (finished (job-of modes rule count own) (history-of run)) now-own end end-own
+      → Held 8 count terms → terms-of 8 count own ≡ terms-of 8 count terms → Finished (job-of modes rule count own) end-own end modes count terms
   unfolding rows-after
   run-finished holds went held same =
-      let job = job-of modes count own in
+      let job = job-of modes rule count own in
       record {
         holds = went .holds;
         modes-are = refl;

@@ -22,7 +22,7 @@ use Rattle.history.specs.History.{merge-of, history-before, rows-after}
 use Rattle.history.specs.Choice.{weight-in}
 use Rattle.history.specs.computed.Greedy.{finished}
 use Rattle.obeying.specs.Obeying.{Obeyed, went, refused, obeyed}
-use Rattle.terms_text.specs.Jobs.{JobSaid, a-job, no-job, job-said}
+use Rattle.terms_text.specs.Jobs.{Request, JobSaid, a-job, no-job, job-said}
 use Rattle.text.specs.Running.{Rooms, program-rooms}
 use Rattle.text.specs.Output.{line-of, refusal-text}
 use Rattle.letters_text.specs.declared.steps.Asked.{Asked}
@@ -70,9 +70,9 @@ unfoldable pub lettered-by : JobSaid → List ℕ → List ℕ → Lettered
 lettered-by (a-job job) read word = lettered-after job word (obeyed job read)
 lettered-by (no-job refusal) read word = refuses refusal
 
--- What a text's terms, a journal and a step's word come to, in these rooms.
-unfoldable pub lettered : Rooms → List ℕ → List ℕ → List ℕ → Lettered
-lettered rooms bytes read word = lettered-by (job-said (rooms .run .modes) (rooms .terms) bytes) read word
+-- What is asked, a journal and a step's word come to, in these rooms.
+unfoldable pub lettered : Rooms → Request → List ℕ → List ℕ → Lettered
+lettered rooms asks read word = lettered-by (job-said (rooms .run .modes) (rooms .terms) asks) read word
 
 -- What is printed: the lines; `steps` and how many there are; or the refusal as `hatt` prints it.
 unfoldable pub letters-printed : Lettered → List ℕ
@@ -80,8 +80,8 @@ letters-printed (shows these) = flatMap (λ line. line) these
 letters-printed (no-step steps) = line-of (spelt "steps" ∷ (decimal steps ∷ []))
 letters-printed (refuses refusal) = refusal-text refusal
 
-unfoldable pub letters-text : Rooms → List ℕ → List ℕ → List ℕ → List ℕ
-letters-text rooms bytes read word = letters-printed (lettered rooms bytes read word)
+unfoldable pub letters-text : Rooms → Request → List ℕ → List ℕ → List ℕ
+letters-text rooms asks read word = letters-printed (lettered rooms asks read word)
 
 -- A line that isn't `-`: what stands before its LF is something else.
 unfoldable pub has-letter : List ℕ → Bool
@@ -96,4 +96,4 @@ LettersWeigh =
 
 -- 5 is never the answer: the program's own rooms suffice.
 abbrev pub LettersSuffice : Type 0
-LettersSuffice = (bytes read word : List ℕ) → lettered program-rooms bytes read word ≡ refuses Room → ⊥
+LettersSuffice = (asks : Request) (read word : List ℕ) → lettered program-rooms asks read word ≡ refuses Room → ⊥

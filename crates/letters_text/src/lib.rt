@@ -11,6 +11,7 @@ ghost use Rattle.terms.specs.declared.checking.Checked.the-variants.{Good};
 ghost use Rattle.terms.specs.code.Held.{Held};
 ghost use Rattle.merging.specs.code.State.{«history-of»};
 ghost use Rattle.obeying.specs.Obeying.{obeyed};
+ghost use Rattle.terms_text.specs.Jobs.{request};
 ghost use Rattle.text.specs.Running.{«program-rooms», «printed-room»};
 ghost use Rattle.text.specs.Output.{Prints};
 ghost use Rattle.text.specs.code.Printing.{Puts};
@@ -30,6 +31,7 @@ use merging::run::Run;
 use obeying::Verdict;
 use refusal::Refusal;
 use terms::checking;
+use terms::rules::Rule;
 use terms_text::jobs;
 use terms_text::jobs::JobRead;
 use text::Printed;
@@ -79,6 +81,7 @@ fn put_asked(
 // A journal obeyed on rows that are the terms', the run finished there, and the answer printed over the front.
 fn letters_own(
     modes: usize,
+    rule: Rule,
     count: usize,
     own: &mut [u16],
     terms: &mut [u16],
@@ -89,9 +92,9 @@ fn letters_own(
     requires { ⌜ (1 ≤ modes) × (modes ≤ most-modes) × (count ≤ most-terms) × Held row-width count (now own) × Held row-width count (now terms) ⌝ }
     requires { ⌜ terms-of row-width count (now own) ≡ terms-of row-width count (now terms) ⌝ }
     requires { ⌜ length (now out) ≡ printed-room ⌝ }
-    ensures { λ r. ⌜ Puts (letters-printed (lettered-after (job-of modes count (now (terms .entry))) (now (word .entry)) (obeyed (job-of modes count (now (terms .entry))) (now (read .entry))))) (now (out .entry)) (now (out .exit)) r ⌝ }
+    ensures { λ r. ⌜ Puts (letters-printed (lettered-after (job-of modes rule count (now (terms .entry))) (now (word .entry)) (obeyed (job-of modes rule count (now (terms .entry))) (now (read .entry))))) (now (out .entry)) (now (out .exit)) r ⌝ }
 {
-    let found = obeying::obey(modes, count, own, read);
+    let found = obeying::obey(modes, rule, count, own, read);
     let verdict = found.verdict;
     match verdict {
         Verdict::Refused(why) => output::put_refusal(out, why),
@@ -102,6 +105,7 @@ fn letters_own(
 // The same on a copy of good terms.
 fn letters_job(
     modes: usize,
+    rule: Rule,
     count: usize,
     terms: &mut [u16],
     read: &[u8],
@@ -110,14 +114,15 @@ fn letters_job(
 ) -> usize
     requires { ⌜ (1 ≤ modes) × (modes ≤ most-modes) × (checked modes (now terms) ≡ Good count) ⌝ }
     requires { ⌜ length (now out) ≡ printed-room ⌝ }
-    ensures { λ r. ⌜ Puts (letters-printed (lettered-after (job-of modes count (now (terms .entry))) (now (word .entry)) (obeyed (job-of modes count (now (terms .entry))) (now (read .entry))))) (now (out .entry)) (now (out .exit)) r ⌝ }
+    ensures { λ r. ⌜ Puts (letters-printed (lettered-after (job-of modes rule count (now (terms .entry))) (now (word .entry)) (obeyed (job-of modes rule count (now (terms .entry))) (now (read .entry))))) (now (out .entry)) (now (out .exit)) r ⌝ }
 {
     let mut own = checking::own_copy(terms);
-    letters_own(modes, count, &mut own, terms, read, word, out)
+    letters_own(modes, rule, count, &mut own, terms, read, word, out)
 }
 
 // The same for a text's terms, in lent room for their numbers.
 fn print_letters(
+    rule: Rule,
     input: &[u8],
     read: &[u8],
     word: &[u8],
@@ -125,24 +130,24 @@ fn print_letters(
     out: &mut [u8],
 ) -> usize
     requires { ⌜ (length (now numbers) ≡ row-width * most-terms) × (length (now out) ≡ printed-room) ⌝ }
-    ensures { λ r. ⌜ Puts (letters-text program-rooms (now (input .entry)) (now (read .entry)) (now (word .entry))) (now (out .entry)) (now (out .exit)) r ⌝ }
+    ensures { λ r. ⌜ Puts (letters-text program-rooms (request rule (now (input .entry))) (now (read .entry)) (now (word .entry))) (now (out .entry)) (now (out .exit)) r ⌝ }
 {
     match jobs::read_job(input, numbers) {
         JobRead::Refused(why) => output::put_refusal(out, why),
         JobRead::Is(modes, count) => {
             let end = 8 * count;
-            letters_job(modes, count, &mut numbers[..end], read, word, out)
+            letters_job(modes, rule, count, &mut numbers[..end], read, word, out)
         }
     }
 }
 
-// The letters of a step of the run that a journal leads to, for a text's terms.
-pub fn letters_answer(input: &[u8], read: &[u8], step: &[u8]) -> Printed
-    ensures { λ r. ⌜ Prints (letters-text program-rooms (now (input .entry)) (now (read .entry)) (now (step .entry))) r ⌝ }
+// The letters of a step of the run that a journal leads to, for a text's terms and this rule.
+pub fn letters_answer(rule: Rule, input: &[u8], read: &[u8], step: &[u8]) -> Printed
+    ensures { λ r. ⌜ Prints (letters-text program-rooms (request rule (now (input .entry))) (now (read .entry)) (now (step .entry))) r ⌝ }
 {
     let mut numbers = [0u16; 16384];
     let mut bytes = [0u8; 16384];
-    let count = print_letters(input, read, step, &mut numbers, &mut bytes);
+    let count = print_letters(rule, input, read, step, &mut numbers, &mut bytes);
     Printed {
         bytes: bytes,
         count: count,

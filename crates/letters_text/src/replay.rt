@@ -17,7 +17,8 @@ pub fn rows_before(run: Run, modes: usize, count: usize, rows: &mut [u16], step:
     let mut at = 0;
     while at < step {
         let parent = parents::parent_number(modes, at);
-        reduction::reduce_hamiltonian(rows, count, parent, asked::merge_of(run, at));
+        let rule = asked::rule_of(run);
+        reduction::reduce_hamiltonian(rows, count, rule, parent, asked::merge_of(run, at));
         at += 1;
     }
 }

@@ -14,14 +14,14 @@ use Rattle.entities.specs.Limits.{most-modes, most-terms}
 use Rattle.fields.specs.Lines.{kept-of}
 use Rattle.fields.specs.Fields.{tabbed}
 use Rattle.terms.specs.Job.{Job}
-use Rattle.obeying.specs.LineForms.{header-text}
 use Rattle.obeying.specs.Obeying.{line-after, Obeyed, went, refused, obeyed-by-hand}
 use Rattle.obeying.proofs.LineRefused.{by-hand-refusal}
 use Rattle.journal.specs.Writing.{journal-text}
-use Rattle.terms_text.specs.Jobs.{JobSaid, a-job, no-job, job-said}
+use Rattle.terms_text.specs.Jobs.{Request, JobSaid, a-job, no-job, job-said}
 use Rattle.terms_text.proofs.JobsRead.{job-not-five}
 use Rattle.text.specs.Running.{program-rooms}
 use Rattle.text.specs.Output.{line-of, refusal-text}
+use Rattle.text.proofs.NewLinesSuffice.{header-first}
 use Rattle.text.proofs.RoomSuffices.{refusal-five}
 use Rattle.steering.specs.Steering.{
   Steered,
@@ -56,22 +56,22 @@ module _ (merges : List ℕ) where
   job-never (a-job job) other h = as-never job (obeyed-by-hand job merges) refl h
   job-never (no-job why) other h = other why refl h
 
-number-never : (bytes merges : List ℕ) → number-in (steered program-rooms bytes merges) ≡ 5 → ⊥
+number-never : (asks : Request) (merges : List ℕ) → number-in (steered program-rooms asks merges) ≡ 5 → ⊥
 unfolding steered
-number-never bytes merges = job-never merges (job-said most-modes most-terms bytes) (job-not-five most-modes most-terms bytes)
+number-never asks merges = job-never merges (job-said most-modes most-terms asks) (job-not-five most-modes most-terms asks)
 
--- A journal begins with `h`, a refusal with `r`.
+-- A journal begins with its rule's word, a refusal with `r`.
 journal-first : (job : Job) (history : List Triple) → journal-text job history ≡ refusal-text Room → ⊥
-unfolding journal-text header-text tabbed refusal-text line-of
-journal-first job history e = omega (arith, ap (λ text. getD text 0 0) e)
+unfolding journal-text tabbed refusal-text line-of
+journal-first job history e = header-first (job .rule) (job .modes) (length (job .terms)) _ (ap (λ text. getD text 0 0) e)
 
 -- The theorem: 5 is never printed.
 pub steer-suffices : SteerSuffices
 unfolding steer-text steer-printed number-in
-steer-suffices bytes merges e = go (steered program-rooms bytes merges) refl e
+steer-suffices asks merges e = go (steered program-rooms asks merges) refl e
   where
-    go : (end : Steered) → steered program-rooms bytes merges ≡ end → steer-printed end ≡ refusal-text Room → ⊥
+    go : (end : Steered) → steered program-rooms asks merges ≡ end → steer-printed end ≡ refusal-text Room → ⊥
     go (writes journal) f g =
-        let known = steered-is-obeyed bytes merges journal f in
+        let known = steered-is-obeyed asks merges journal f in
         journal-first (known .job) (known .history) (sym (known .journal-is) ∙ g)
-    go (refuses refusal) f g = number-never bytes merges (rw f (refusal-five refusal g))
+    go (refuses refusal) f g = number-never asks merges (rw f (refusal-five refusal g))

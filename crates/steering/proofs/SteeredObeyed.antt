@@ -14,10 +14,12 @@ use Rattle.entities.specs.declared.Triple.{Triple}
 use Rattle.entities.specs.Limits.{most-modes, most-terms}
 use Rattle.fields.specs.Lines.{kept-of}
 use Rattle.fields.proofs.LinesJoined.{kept-front}
+use Rattle.terms.specs.Rules.{rule-number}
 use Rattle.terms.specs.Job.{Job, job-of}
 use Rattle.terms.specs.Good.{modes-good}
 use Rattle.terms.specs.declared.checking.Checked.{Checked}
 use Rattle.terms.specs.declared.checking.Checked.the-variants.{Good, Refused as BadTerms}
+use Rattle.terms.proofs.RuleNumbers.{rule-of-number, number-good}
 use Rattle.terms.proofs.RowSteps.{length-terms}
 use Rattle.terms.proofs.GoodTerms.{accepted}
 use Rattle.obeying.specs.Obeying.{line-after, Obeyed, went, refused, obeyed-by-hand}
@@ -27,7 +29,7 @@ use Rattle.journal.specs.Writing.{journal-text}
 use Rattle.journal.proofs.CallDone.{rooms-fit, done-in}
 use Rattle.journal.proofs.JournalText.{journal-obeyed}
 use Rattle.terms_text.specs.Input.{Said, given, malformed, said}
-use Rattle.terms_text.specs.Jobs.{counted, job-with, job-by, job-said}
+use Rattle.terms_text.specs.Jobs.{Request, counted, job-with, job-by, job-said}
 use Rattle.text.specs.Running.{program-rooms, ran-by, ran}
 use Rattle.steering.specs.Steering.{writes, refuses, steered-as, steered-by, steered, AsWritten, Steers, SteeredIsObeyed}
 use Rattle.terms_text.proofs.JobCounted.{counted-good}
@@ -68,12 +70,12 @@ module _ (job : Job) (merges journal : List ℕ) where
       }
 
 -- Resuming from it.
-module _ (bytes merges journal : List ℕ) (modes count : ℕ) (numbers : List ℕ) (says : said most-terms bytes ≡ given modes numbers)
+module _ (asks : Request) (merges journal : List ℕ) (modes count : ℕ) (numbers : List ℕ) (says : said most-terms (asks .text) ≡ given modes numbers)
     (counts : counted most-modes modes numbers ≡ Good count) where
   abbrev job : Job
-  job = job-of modes count numbers
+  job = job-of modes (asks .rule) count numbers
 
-  steers : Written job merges journal → Steers bytes merges journal
+  steers : Written job merges journal → Steers asks merges journal
   unfolding ran ran-by modes-good job-said job-by job-with
   steers known =
       let good = counted-good most-modes modes numbers count counts in
@@ -90,21 +92,23 @@ module _ (bytes merges journal : List ℕ) (modes count : ℕ) (numbers : List �
         journal-is = known .journal-is;
         resumes =
             rw says
-            (done-in (program-rooms .run) modes count numbers journal (known .history) (rw (le-leb 1 modes (good .0), le-leb modes most-modes (good .1))) (good .2)
-            room (rw (known .journal-is) obeys));
+            (rw (rule-of-number (asks .rule)) at
+            (done-in (program-rooms .run) modes (rule-number (asks .rule)) count numbers journal (known .history)
+            (rw (le-leb 1 modes (good .0), le-leb modes most-modes (good .1))) (number-good (asks .rule)) (good .2) room
+            (rw (known .journal-is, rule-of-number (asks .rule)) obeys)));
       }
 
 pub steered-is-obeyed : SteeredIsObeyed
 unfolding steered steered-by job-said job-by job-with
-steered-is-obeyed bytes merges journal e = go (said most-terms bytes) refl e
+steered-is-obeyed asks merges journal e = go (said most-terms (asks .text)) refl e
   where
-    by-count : (modes : ℕ) (numbers : List ℕ) → said most-terms bytes ≡ given modes numbers → (found : Checked)
-        → counted most-modes modes numbers ≡ found → steered-by (job-with modes numbers found) merges ≡ writes journal → Steers bytes merges journal
+    by-count : (modes : ℕ) (numbers : List ℕ) → said most-terms (asks .text) ≡ given modes numbers → (found : Checked)
+        → counted most-modes modes numbers ≡ found → steered-by (job-with modes (asks .rule) numbers found) merges ≡ writes journal → Steers asks merges journal
     by-count modes numbers says (Good count) f g =
-        let job = job-of modes count numbers in
-        steers bytes merges journal modes count numbers says f (written-by job merges journal (obeyed-by-hand job merges) refl g)
+        let job = job-of modes (asks .rule) count numbers in
+        steers asks merges journal modes count numbers says f (written-by job merges journal (obeyed-by-hand job merges) refl g)
     by-count modes numbers says (BadTerms refusal) f g = not-written refusal journal g
 
-    go : (says : Said) → said most-terms bytes ≡ says → steered-by (job-by most-modes says) merges ≡ writes journal → Steers bytes merges journal
+    go : (says : Said) → said most-terms (asks .text) ≡ says → steered-by (job-by most-modes (asks .rule) says) merges ≡ writes journal → Steers asks merges journal
     go (given modes numbers) f g = by-count modes numbers f (counted most-modes modes numbers) refl g
     go (malformed line) f g = not-written _ journal g

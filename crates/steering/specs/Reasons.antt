@@ -16,7 +16,7 @@ use Rattle.obeying.specs.declared.merge_line.Merge.{Merge}
 use Rattle.obeying.specs.declared.merge_line.Merge.the-variants.{Is as MergeIs, Broken as MergeBroken}
 use Rattle.obeying.specs.LineForms.{merge-of-line}
 use Rattle.obeying.specs.Obeying.{Obeyed, went, refused, obeyed}
-use Rattle.terms_text.specs.Jobs.{JobSaid, a-job, no-job, job-said}
+use Rattle.terms_text.specs.Jobs.{Request, JobSaid, a-job, no-job, job-said}
 use Rattle.text.specs.Running.{Rooms}
 use Rattle.text.specs.Output.{line-of}
 
@@ -52,6 +52,6 @@ unfoldable pub reason-by : JobSaid → List ℕ → List ℕ
 reason-by (a-job job) read = reason-in job read (obeyed job read)
 reason-by (no-job refusal) read = []
 
--- What is told of the journal that is read, for a text's terms, in these rooms.
-unfoldable pub reason-text : Rooms → List ℕ → List ℕ → List ℕ
-reason-text rooms bytes read = reason-by (job-said (rooms .run .modes) (rooms .terms) bytes) read
+-- What is told of the journal that is read, for the job that is asked for, in these rooms.
+unfoldable pub reason-text : Rooms → Request → List ℕ → List ℕ
+reason-text rooms asks read = reason-by (job-said (rooms .run .modes) (rooms .terms) asks) read

@@ -17,7 +17,7 @@ use Rattle.history.specs.History.{merge-of}
 use Rattle.obeying.specs.Obeying.{line-after, Obeyed, went, refused, obeyed-by-hand}
 use Rattle.journal.specs.Writing.{journal-text}
 use Rattle.journal.specs.Resuming.{done, ending}
-use Rattle.terms_text.specs.Jobs.{JobSaid, a-job, no-job, job-said}
+use Rattle.terms_text.specs.Jobs.{Request, JobSaid, a-job, no-job, job-said}
 use Rattle.text.specs.Running.{Rooms, program-rooms, ran}
 use Rattle.text.specs.Output.{refusal-text}
 
@@ -37,17 +37,17 @@ unfoldable pub steered-by : JobSaid → List ℕ → Steered
 steered-by (a-job job) merges = steered-as job merges (obeyed-by-hand job merges)
 steered-by (no-job refusal) merges = refuses refusal
 
--- What a text's terms and a file of merges come to, in these rooms.
-unfoldable pub steered : Rooms → List ℕ → List ℕ → Steered
-steered rooms bytes merges = steered-by (job-said (rooms .run .modes) (rooms .terms) bytes) merges
+-- What is asked and a file of merges come to, in these rooms.
+unfoldable pub steered : Rooms → Request → List ℕ → Steered
+steered rooms asks merges = steered-by (job-said (rooms .run .modes) (rooms .terms) asks) merges
 
 -- What is printed: the journal, or the refusal as `hatt` prints it.
 unfoldable pub steer-printed : Steered → List ℕ
 steer-printed (writes journal) = journal
 steer-printed (refuses refusal) = refusal-text refusal
 
-unfoldable pub steer-text : Rooms → List ℕ → List ℕ → List ℕ
-steer-text rooms bytes merges = steer-printed (steered rooms bytes merges)
+unfoldable pub steer-text : Rooms → Request → List ℕ → List ℕ
+steer-text rooms asks merges = steer-printed (steered rooms asks merges)
 
 -- The merges of a history are those that the lines of a file say, in their order, and the file has nothing else.
 pub record AsWritten (merges : List ℕ) (history : List Triple) : Type 0 where
@@ -57,19 +57,20 @@ pub record AsWritten (merges : List ℕ) (history : List Triple) : Type 0 where
       → map value (fields (getD (lines merges) i [])) ≡ merge-of history i .x ∷ (merge-of history i .y ∷ (merge-of history i .z ∷ []))
   pub whole : kept-of merges ≡ merges
 
--- Steering that is done: the journal is that of the merges that were written, for the text's job, and resuming from it accepts it, obeys it to
+-- Steering that is done: the journal is that of the merges that were written, for the job that is asked for, and resuming from it accepts it, obeys it to
 -- those merges and goes on from there.
-pub record Steers (bytes merges journal : List ℕ) : Type 0 where
+pub record Steers (asks : Request) (merges journal : List ℕ) : Type 0 where
   pub job : Job
-  pub job-is : job-said (program-rooms .run .modes) (program-rooms .terms) bytes ≡ a-job job
+  pub job-is : job-said (program-rooms .run .modes) (program-rooms .terms) asks ≡ a-job job
   pub history : List Triple
   pub as-written : AsWritten merges history
   pub journal-is : journal ≡ journal-text job history
-  pub resumes : ran program-rooms bytes journal ≡ done (ending job journal history)
+  pub resumes : ran program-rooms asks journal ≡ done (ending job journal history)
 
 abbrev pub SteeredIsObeyed : Type 0
-SteeredIsObeyed = (bytes merges journal : List ℕ) → steered program-rooms bytes merges ≡ writes journal → Steers bytes merges journal
+SteeredIsObeyed =
+    (asks : Request) (merges journal : List ℕ) → steered program-rooms asks merges ≡ writes journal → Steers asks merges journal
 
 -- 5 is never printed.
 abbrev pub SteerSuffices : Type 0
-SteerSuffices = (bytes merges : List ℕ) → steer-text program-rooms bytes merges ≡ refusal-text Room → ⊥
+SteerSuffices = (asks : Request) (merges : List ℕ) → steer-text program-rooms asks merges ≡ refusal-text Room → ⊥

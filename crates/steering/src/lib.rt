@@ -9,6 +9,7 @@ ghost use Rattle.merging.specs.code.State.{«history-of»};
 ghost use Rattle.merging.specs.code.Runs.{Holds};
 ghost use Rattle.obeying.specs.Obeying.{went, «obeyed-by-hand»};
 ghost use Rattle.obeying.specs.code.Sized.{Sized};
+ghost use Rattle.terms_text.specs.Jobs.{request};
 ghost use Rattle.text.specs.Running.{«program-rooms», «printed-room»};
 ghost use Rattle.text.specs.Output.{Prints};
 ghost use Rattle.text.specs.code.Printing.{Puts};
@@ -19,6 +20,7 @@ use merging::asked;
 use merging::run::Run;
 use obeying::Verdict;
 use refusal::Refusal;
+use terms::rules::Rule;
 use terms_text::jobs;
 use terms_text::jobs::JobRead;
 use text::Printed;
@@ -46,12 +48,12 @@ fn put_journal(
 }
 
 // Merges by hand obeyed on the rows of good terms, and their journal or the refusal printed over the front.
-fn steer_job(modes: usize, count: usize, rows: &mut [u16], merges: &[u8], out: &mut [u8]) -> usize
+fn steer_job(modes: usize, rule: Rule, count: usize, rows: &mut [u16], merges: &[u8], out: &mut [u8]) -> usize
     requires { ⌜ (1 ≤ modes) × (modes ≤ most-modes) × (count ≤ most-terms) × Held row-width count (now rows) ⌝ }
     requires { ⌜ length (now out) ≡ printed-room ⌝ }
-    ensures { λ r. ⌜ Puts (steer-printed (steered-as (job-of modes count (now (rows .entry))) (now (merges .entry)) (obeyed-by-hand (job-of modes count (now (rows .entry))) (now (merges .entry))))) (now (out .entry)) (now (out .exit)) r ⌝ }
+    ensures { λ r. ⌜ Puts (steer-printed (steered-as (job-of modes rule count (now (rows .entry))) (now (merges .entry)) (obeyed-by-hand (job-of modes rule count (now (rows .entry))) (now (merges .entry))))) (now (out .entry)) (now (out .exit)) r ⌝ }
 {
-    let found = obeying::obey_by_hand(modes, count, rows, merges);
+    let found = obeying::obey_by_hand(modes, rule, count, rows, merges);
     let verdict = found.verdict;
     match verdict {
         Verdict::Refused(why) => output::put_refusal(out, why),
@@ -60,26 +62,26 @@ fn steer_job(modes: usize, count: usize, rows: &mut [u16], merges: &[u8], out: &
 }
 
 // The same for a text's terms, in lent room for their numbers.
-fn print_steered(input: &[u8], merges: &[u8], numbers: &mut [u16], out: &mut [u8]) -> usize
+fn print_steered(rule: Rule, input: &[u8], merges: &[u8], numbers: &mut [u16], out: &mut [u8]) -> usize
     requires { ⌜ (length (now numbers) ≡ row-width * most-terms) × (length (now out) ≡ printed-room) ⌝ }
-    ensures { λ r. ⌜ Puts (steer-text program-rooms (now (input .entry)) (now (merges .entry))) (now (out .entry)) (now (out .exit)) r ⌝ }
+    ensures { λ r. ⌜ Puts (steer-text program-rooms (request rule (now (input .entry))) (now (merges .entry))) (now (out .entry)) (now (out .exit)) r ⌝ }
 {
     match jobs::read_job(input, numbers) {
         JobRead::Refused(why) => output::put_refusal(out, why),
         JobRead::Is(modes, count) => {
             let end = 8 * count;
-            steer_job(modes, count, &mut numbers[..end], merges, out)
+            steer_job(modes, rule, count, &mut numbers[..end], merges, out)
         }
     }
 }
 
-// The journal of merges by hand, for a text's terms.
-pub fn steer_answer(input: &[u8], merges: &[u8]) -> Printed
-    ensures { λ r. ⌜ Prints (steer-text program-rooms (now (input .entry)) (now (merges .entry))) r ⌝ }
+// The journal of merges by hand, for a text's terms and this rule.
+pub fn steer_answer(rule: Rule, input: &[u8], merges: &[u8]) -> Printed
+    ensures { λ r. ⌜ Prints (steer-text program-rooms (request rule (now (input .entry))) (now (merges .entry))) r ⌝ }
 {
     let mut numbers = [0u16; 16384];
     let mut bytes = [0u8; 16384];
-    let count = print_steered(input, merges, &mut numbers, &mut bytes);
+    let count = print_steered(rule, input, merges, &mut numbers, &mut bytes);
     Printed {
         bytes: bytes,
         count: count,

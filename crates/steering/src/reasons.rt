@@ -9,6 +9,7 @@ ghost use Rattle.terms.specs.code.Held.{Held};
 ghost use Rattle.merging.specs.code.State.{«history-of»};
 ghost use Rattle.merging.specs.code.Runs.{Holds};
 ghost use Rattle.obeying.specs.Obeying.{refused, obeyed};
+ghost use Rattle.terms_text.specs.Jobs.{request};
 ghost use Rattle.text.specs.Running.{«program-rooms», «printed-room»};
 ghost use Rattle.text.specs.Output.{Prints};
 ghost use Rattle.text.specs.code.Printing.{Puts};
@@ -21,6 +22,7 @@ use obeying::Verdict;
 use obeying::merge_line;
 use obeying::merge_line::Merge;
 use refusal::Refusal;
+use terms::rules::Rule;
 use terms_text::jobs;
 use terms_text::jobs::JobRead;
 use text::Printed;
@@ -76,12 +78,12 @@ fn put_refused(run: Run, rows: &[u16], why: Refusal, read: &[u8], out: &mut [u8]
 }
 
 // A journal obeyed on the rows of good terms, and what its refused line lacks.
-fn reason_job(modes: usize, count: usize, rows: &mut [u16], read: &[u8], out: &mut [u8]) -> usize
+fn reason_job(modes: usize, rule: Rule, count: usize, rows: &mut [u16], read: &[u8], out: &mut [u8]) -> usize
     requires { ⌜ (1 ≤ modes) × (modes ≤ most-modes) × (count ≤ most-terms) × Held row-width count (now rows) ⌝ }
     requires { ⌜ length (now out) ≡ printed-room ⌝ }
-    ensures { λ r. ⌜ Puts (reason-in (job-of modes count (now (rows .entry))) (now (read .entry)) (obeyed (job-of modes count (now (rows .entry))) (now (read .entry)))) (now (out .entry)) (now (out .exit)) r ⌝ }
+    ensures { λ r. ⌜ Puts (reason-in (job-of modes rule count (now (rows .entry))) (now (read .entry)) (obeyed (job-of modes rule count (now (rows .entry))) (now (read .entry)))) (now (out .entry)) (now (out .exit)) r ⌝ }
 {
-    let found = obeying::obey(modes, count, rows, read);
+    let found = obeying::obey(modes, rule, count, rows, read);
     let verdict = found.verdict;
     match verdict {
         Verdict::Refused(why) => put_refused(found.run, rows, why, read, out),
@@ -90,26 +92,26 @@ fn reason_job(modes: usize, count: usize, rows: &mut [u16], read: &[u8], out: &m
 }
 
 // The same for a text's terms, in lent room for their numbers.
-fn print_reason(input: &[u8], read: &[u8], numbers: &mut [u16], out: &mut [u8]) -> usize
+fn print_reason(rule: Rule, input: &[u8], read: &[u8], numbers: &mut [u16], out: &mut [u8]) -> usize
     requires { ⌜ (length (now numbers) ≡ row-width * most-terms) × (length (now out) ≡ printed-room) ⌝ }
-    ensures { λ r. ⌜ Puts (reason-text program-rooms (now (input .entry)) (now (read .entry))) (now (out .entry)) (now (out .exit)) r ⌝ }
+    ensures { λ r. ⌜ Puts (reason-text program-rooms (request rule (now (input .entry))) (now (read .entry))) (now (out .entry)) (now (out .exit)) r ⌝ }
 {
     match jobs::read_job(input, numbers) {
         JobRead::Refused(why) => 0,
         JobRead::Is(modes, count) => {
             let end = 8 * count;
-            reason_job(modes, count, &mut numbers[..end], read, out)
+            reason_job(modes, rule, count, &mut numbers[..end], read, out)
         }
     }
 }
 
-// What the refused line of the journal that is read lacks, for a text's terms.
-pub fn reason_answer(input: &[u8], read: &[u8]) -> Printed
-    ensures { λ r. ⌜ Prints (reason-text program-rooms (now (input .entry)) (now (read .entry))) r ⌝ }
+// What the refused line of the journal that is read lacks, for a text's terms and this rule.
+pub fn reason_answer(rule: Rule, input: &[u8], read: &[u8]) -> Printed
+    ensures { λ r. ⌜ Prints (reason-text program-rooms (request rule (now (input .entry))) (now (read .entry))) r ⌝ }
 {
     let mut numbers = [0u16; 16384];
     let mut bytes = [0u8; 16384];
-    let count = print_reason(input, read, &mut numbers, &mut bytes);
+    let count = print_reason(rule, input, read, &mut numbers, &mut bytes);
     Printed {
         bytes: bytes,
         count: count,

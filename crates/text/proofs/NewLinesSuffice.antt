@@ -49,7 +49,8 @@ unfolding greedy-lines flatMap line-of merge-text tabbed
 lines-first job zero history e = omega arith
 lines-first job (suc steps) history e = decimal-first (length history) _ (simp append-assoc at e)
 
-header-first : (rule : Rule) (modes terms : ℕ) (rest : List ℕ) → getD (header-text rule modes terms ++ rest) 0 0 ≡ 114 → ⊥
+-- Neither rule's word begins with `r`.
+pub header-first : (rule : Rule) (modes terms : ℕ) (rest : List ℕ) → getD (header-text rule modes terms ++ rest) 0 0 ≡ 114 → ⊥
 unfolding header-text rule-word tabbed
 header-first Published modes terms rest e = omega arith
 header-first Keep modes terms rest e = omega arith

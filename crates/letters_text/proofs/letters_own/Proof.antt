@@ -27,8 +27,8 @@ put-asked-requires c κs =
     let args = start .args in
     let obeys = c .before .before .before .before .before .before .before .before .before .before .obey .ensures in
     let finished = c .before .before .before .before .finished .ensures _ (obeys .went .holds) in
-    let job = job-of (args .modes) (args .count) (args .own .now) in
-    ((job, (_, run-finished (args .modes) (args .count) (args .own .now) (args .terms .now) _ _ _ _ (obeys .went .holds) finished (start .pre .0 .4) (start .pre .1 .0))), start .pre .1 .1)
+    let job = job-of (args .modes) (args .rule) (args .count) (args .own .now) in
+    ((job, (_, run-finished (args .modes) (args .rule) (args .count) (args .own .now) (args .terms .now) _ _ _ _ (obeys .went .holds) finished (start .pre .0 .4) (start .pre .1 .0))), start .pre .1 .1)
 
 same-length : tie.Need-same-length
 same-length c = search needs
@@ -41,7 +41,7 @@ unfolding letters-printed
 returns c =
     let start = c .before .before .before .before .before .before .before .before .before .before .before .before .before .before .before .before in
     let args = start .args in
-    let job = job-of (args .modes) (args .count) (args .own .now) in
+    let job = job-of (args .modes) (args .rule) (args .count) (args .own .now) in
     let obey = c .before .before .before .before .before .before .before .before .before .obey in
     rw (← start .pre .1 .0, refused-lettered job (args .word .now) _ _ _ (obey .ensures .comes-to) _ (c .before .before .before .before .before .verdict .given .1)) (c .before .before .put-refusal .ensures)
 
@@ -58,11 +58,11 @@ returns-2 : tie.Need-returns-2
 returns-2 c =
     let start = c .before .before .before .before .before .before .before .before .before .before .before .before .before .before .before .before .before .before .before .before .before .before in
     let args = start .args in
-    let job = job-of (args .modes) (args .count) (args .own .now) in
+    let job = job-of (args .modes) (args .rule) (args .count) (args .own .now) in
     let obey = c .before .before .before .before .before .before .before .before .before .before .before .before .before .before .before .obey in
     let holds = obey .ensures .went .holds in
     let ended = c .before .before .before .before .before .before .before .before .before .finished .ensures job holds in
-    let finished = run-finished (args .modes) (args .count) (args .own .now) (args .terms .now) _ _ _ _ holds ended (start .pre .0 .4) (start .pre .1 .0) in
+    let finished = run-finished (args .modes) (args .rule) (args .count) (args .own .now) (args .terms .now) _ _ _ _ holds ended (start .pre .0 .4) (start .pre .1 .0) in
     rw (← start .pre .1 .0, fine-lettered job (args .word .now) _ _ _ (obey .ensures .comes-to) (c .before .before .before .before .before .before .before .before .before .before .before .enum-told .given .1), ← ended .merges) (c .before .before .before .before .put-asked .ensures job _ finished)
 
 pub letters-own-spec : {M : Type 1} → statement M

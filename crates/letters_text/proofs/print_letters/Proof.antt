@@ -22,17 +22,17 @@ enum-known-modes c = search needs
 mul-end : tie.Need-mul-end
 mul-end c =
     let start = c .before .before .before .before .before .before .before .before .before .before .before .before in
-    omega (arith, (c .before .before .before .before .before .read-job .ensures .is-job _ _ (c .before .modes .given .1)) .0, c .before .before .before .before .before .read-job .kept, start .pre .0)
+    omega (arith, (c .before .before .before .before .before .read-job .ensures (c .before .before .before .before .before .before .before .before .before .before .before .before .args .rule) .is-job _ _ (c .before .modes .given .1)) .0, c .before .before .before .before .before .read-job .kept, start .pre .0)
 
 slice-relend-prefix-letters-job : tie.Need-slice-relend-prefix-letters-job
-slice-relend-prefix-letters-job c = (c .before .before .before .before .before .read-job .ensures .is-job _ _ (c .before .modes .given .1)) .0
+slice-relend-prefix-letters-job c = (c .before .before .before .before .before .read-job .ensures (c .before .before .before .before .before .before .before .before .before .before .before .before .args .rule) .is-job _ _ (c .before .modes .given .1)) .0
 
 slice-aggregate-letters-job : tie.Need-slice-aggregate-letters-job
-slice-aggregate-letters-job c = sym (length-take-le _ _ ((c .before .before .before .before .before .before .read-job .ensures .is-job _ _ (c .before .before .modes .given .1)) .0))
+slice-aggregate-letters-job c = sym (length-take-le _ _ ((c .before .before .before .before .before .before .read-job .ensures (c .before .before .before .before .before .before .before .before .before .before .before .before .before .args .rule) .is-job _ _ (c .before .before .modes .given .1)) .0))
 
 letters-job-requires : tie.Need-letters-job-requires
 letters-job-requires c κs =
-    let fits = (c .before .before .before .before .before .before .before .read-job .ensures .is-job _ _ (c .before .before .before .modes .given .1)) .1 in
+    let fits = (c .before .before .before .before .before .before .before .read-job .ensures (c .before .before .before .before .before .before .before .before .before .before .before .before .before .before .args .rule) .is-job _ _ (c .before .before .before .modes .given .1)) .1 in
     ((fits .some, fits .few, fits .good), c .before .before .before .before .before .before .before .before .before .before .before .before .before .before .pre .1)
 
 same-length : tie.Need-same-length
@@ -44,7 +44,7 @@ same-length-2 c = search needs
 returns : tie.Need-returns
 unfolding letters-text lettered lettered-by letters-printed
 returns c =
-    rw (c .before .before .before .before .before .before .before .before .before .read-job .ensures .is-refused _ (c .before .before .before .before .before .why .given .1)) (c .before .before .put-refusal .ensures)
+    rw (c .before .before .before .before .before .before .before .before .before .read-job .ensures (c .before .before .before .before .before .before .before .before .before .before .before .before .before .before .before .before .args .rule) .is-refused _ (c .before .before .before .before .before .why .given .1)) (c .before .before .put-refusal .ensures)
 
 same-length-3 : tie.Need-same-length-3
 same-length-3 c = search needs
@@ -55,7 +55,7 @@ same-length-4 c = search needs
 returns-2 : tie.Need-returns-2
 unfolding letters-text lettered lettered-by
 returns-2 c =
-    rw ((c .before .before .before .before .before .before .before .before .before .before .before .before .read-job .ensures .is-job _ _ (c .before .before .before .before .before .before .before .before .modes .given .1)) .2) (c .before .before .before .before .letters-job .ensures)
+    rw ((c .before .before .before .before .before .before .before .before .before .before .before .before .read-job .ensures (c .before .before .before .before .before .before .before .before .before .before .before .before .before .before .before .before .before .before .before .args .rule) .is-job _ _ (c .before .before .before .before .before .before .before .before .modes .given .1)) .2) (c .before .before .before .before .letters-job .ensures)
 
 pub print-letters-spec : {M : Type 1} → statement M
 print-letters-spec =

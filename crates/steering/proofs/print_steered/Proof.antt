@@ -23,17 +23,17 @@ enum-known-modes c = search needs
 mul-end : tie.Need-mul-end
 mul-end c =
     let start = c .before .before .before .before .before .before .before .before .before .before .before in
-    omega (arith, (c .before .before .before .before .before .read-job .ensures .is-job _ _ (c .before .modes .given .1)) .0, c .before .before .before .before .before .read-job .kept, start .pre .0)
+    omega (arith, (c .before .before .before .before .before .read-job .ensures (c .before .before .before .before .before .before .before .before .before .before .before .args .rule) .is-job _ _ (c .before .modes .given .1)) .0, c .before .before .before .before .before .read-job .kept, start .pre .0)
 
 slice-relend-prefix-steer-job : tie.Need-slice-relend-prefix-steer-job
-slice-relend-prefix-steer-job c = (c .before .before .before .before .before .read-job .ensures .is-job _ _ (c .before .modes .given .1)) .0
+slice-relend-prefix-steer-job c = (c .before .before .before .before .before .read-job .ensures (c .before .before .before .before .before .before .before .before .before .before .before .args .rule) .is-job _ _ (c .before .modes .given .1)) .0
 
 slice-aggregate-steer-job : tie.Need-slice-aggregate-steer-job
-slice-aggregate-steer-job c = sym (length-take-le _ _ ((c .before .before .before .before .before .before .read-job .ensures .is-job _ _ (c .before .before .modes .given .1)) .0))
+slice-aggregate-steer-job c = sym (length-take-le _ _ ((c .before .before .before .before .before .before .read-job .ensures (c .before .before .before .before .before .before .before .before .before .before .before .before .args .rule) .is-job _ _ (c .before .before .modes .given .1)) .0))
 
 steer-job-requires : tie.Need-steer-job-requires
 steer-job-requires c κs =
-    let fits = (c .before .before .before .before .before .before .before .read-job .ensures .is-job _ _ (c .before .before .before .modes .given .1)) .1 in
+    let fits = (c .before .before .before .before .before .before .before .read-job .ensures (c .before .before .before .before .before .before .before .before .before .before .before .before .before .args .rule) .is-job _ _ (c .before .before .before .modes .given .1)) .1 in
     let terms = accepted _ _ _ (fits .good) in
     ((fits .some, fits .few, terms .at-most, terms .held), c .before .before .before .before .before .before .before .before .before .before .before .before .before .pre .1)
 
@@ -46,7 +46,7 @@ same-length-2 c = search needs
 returns : tie.Need-returns
 unfolding steer-text steered steered-by steer-printed
 returns c =
-    rw (c .before .before .before .before .before .before .before .before .before .read-job .ensures .is-refused _ (c .before .before .before .before .before .why .given .1)) (c .before .before .put-refusal .ensures)
+    rw (c .before .before .before .before .before .before .before .before .before .read-job .ensures (c .before .before .before .before .before .before .before .before .before .before .before .before .before .before .before .args .rule) .is-refused _ (c .before .before .before .before .before .why .given .1)) (c .before .before .put-refusal .ensures)
 
 same-length-3 : tie.Need-same-length-3
 same-length-3 c = search needs
@@ -57,7 +57,7 @@ same-length-4 c = search needs
 returns-2 : tie.Need-returns-2
 unfolding steer-text steered steered-by
 returns-2 c =
-    rw ((c .before .before .before .before .before .before .before .before .before .before .before .before .read-job .ensures .is-job _ _ (c .before .before .before .before .before .before .before .before .modes .given .1)) .2) (c .before .before .before .before .steer-job .ensures)
+    rw ((c .before .before .before .before .before .before .before .before .before .before .before .before .read-job .ensures (c .before .before .before .before .before .before .before .before .before .before .before .before .before .before .before .before .before .before .args .rule) .is-job _ _ (c .before .before .before .before .before .before .before .before .modes .given .1)) .2) (c .before .before .before .before .steer-job .ensures)
 
 pub print-steered-spec : {M : Type 1} → statement M
 print-steered-spec =

@@ -3,6 +3,7 @@ use mathlib.Core.Path.{refl}
 use mathlib.Core.List.{List}
 use Prim.Native.Nat.{ℕ}
 use borrow.Author.Needs.{needs}
+use Rattle.terms.specs.declared.rules.Rule.{Rule}
 use Rattle.terms.specs.Job.{job-of}
 use Rattle.terms.proofs.RowSteps.{length-terms}
 use Rattle.obeying.specs.code.Sized.{Sized}
@@ -11,8 +12,8 @@ use Rattle.steering.proofs.JournalSteered.{refused-steered, fine-steere
 use Rattle.steering.proofs.steer_job.Statement.{statement}
 use Rattle.steering.proofs.steer_job.Tie as tie
 
-sized : (modes count : ℕ) (rows : List ℕ) → Sized (job-of modes count rows) modes count
-sized modes count rows = record { modes-are = refl; count-is = length-terms 8 count rows }
+sized : (modes : ℕ) (rule : Rule) (count : ℕ) (rows : List ℕ) → Sized (job-of modes rule count rows) modes count
+sized modes rule count rows = record { modes-are = refl; count-is = length-terms 8 count rows }
 
 obey-by-hand-requires : tie.Need-obey-by-hand-requires
 obey-by-hand-requires c κs = search needs
@@ -31,7 +32,7 @@ put-journal-requires c κs =
     let start = c .before .before .before .before .before .before .before .before .before .before .before in
     let args = start .args in
     let obeys = c .before .before .before .before .before .before .obey-by-hand .ensures in
-    ((job-of (args .modes) (args .count) (args .rows .now), (obeys .went .holds, sized (args .modes) (args .count) (args .rows .now))), start .pre .1)
+    ((job-of (args .modes) (args .rule) (args .count) (args .rows .now), (obeys .went .holds, sized (args .modes) (args .rule) (args .count) (args .rows .now))), start .pre .1)
 
 same-length : tie.Need-same-length
 same-length c = search needs
@@ -43,7 +44,7 @@ returns : tie.Need-returns
 unfolding steer-printed
 returns c =
     let args = c .before .before .before .before .before .before .before .before .before .before .before .before .before .before .args in
-    let job = job-of (args .modes) (args .count) (args .rows .now) in
+    let job = job-of (args .modes) (args .rule) (args .count) (args .rows .now) in
     let obey = c .before .before .before .before .before .before .before .before .before .obey-by-hand in
     rw (refused-steered job (args .merges .now) (obey .result .verdict) (obey .result .run) _ (obey .ensures .comes-to) _ (c .before .before .before .before .before .verdict .given .1))
     (c .before .before .put-refusal .ensures)
@@ -57,10 +58,10 @@ same-length-4 c = search needs
 returns-2 : tie.Need-returns-2
 returns-2 c =
     let args = c .before .before .before .before .before .before .before .before .before .before .before .before .before .before .args in
-    let job = job-of (args .modes) (args .count) (args .rows .now) in
+    let job = job-of (args .modes) (args .rule) (args .count) (args .rows .now) in
     let obey = c .before .before .before .before .before .before .before .before .before .obey-by-hand in
     rw (fine-steered job (args .merges .now) (obey .result .verdict) (obey .result .run) _ (obey .ensures .comes-to) (c .before .before .before .before .before .enum-told .given .1))
-    (c .before .before .put-journal .ensures job (obey .ensures .went .holds) (sized (args .modes) (args .count) (args .rows .now)))
+    (c .before .before .put-journal .ensures job (obey .ensures .went .holds) (sized (args .modes) (args .rule) (args .count) (args .rows .now)))
 
 pub steer-job-spec : {M : Type 1} → statement M
 steer-job-spec =

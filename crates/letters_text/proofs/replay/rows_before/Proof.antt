@@ -32,18 +32,21 @@ parent-number-requires c κs =
     let finished = start .pre .1 .1 .0 in
     (omega (arith, finished .holds .few, finished .modes-are), omega (arith, finished .holds .few, finished .modes-are, start .pre .1 .1 .1, c .before .loop .inv .0))
 
+rule-of-requires : tie.Need-rule-of-requires Inv-loop μ-loop
+rule-of-requires c κs = search needs
+
 merge-of-requires : tie.Need-merge-of-requires Inv-loop μ-loop
 merge-of-requires c κs =
-    let start = c .before .before .before .before .before in
-    let here = c .before .before .before in
+    let start = c .before .before .before .before .before .before in
+    let here = c .before .before .before .before in
     let finished = start .pre .1 .1 .0 in
     (start .pre .0, (start .pre .1 .0, (finished .holds, omega (arith, finished .all, finished .modes-are, start .pre .1 .1 .1))))
 
 reduce-hamiltonian-requires : tie.Need-reduce-hamiltonian-requires Inv-loop μ-loop
 reduce-hamiltonian-requires c κs =
-    let start = c .before .before .before .before .before .before in
+    let start = c .before .before .before .before .before .before .before in
     let finished = start .pre .1 .1 .0 in
-    (rw (finished .count-is) at (c .before .before .before .before .loop .inv .2 (start .pre .0) (start .pre .1 .0) finished .held), rw (finished .count-is) at (finished .holds .light))
+    (rw (finished .count-is) at (c .before .before .before .before .before .loop .inv .2 (start .pre .0) (start .pre .1 .0) finished .held), rw (finished .count-is) at (finished .holds .light))
 
 add-at : tie.Need-add-at Inv-loop μ-loop
 add-at c = search needs
@@ -53,16 +56,17 @@ loop-less c = search needs
 
 loop-again : tie.Need-loop-again Inv-loop μ-loop
 loop-again c =
-    let here = c .before .before .before .before .before .before .before in
+    let here = c .before .before .before .before .before .before .before .before in
     let start = here .before .before in
     let args = start .args in
-    let history = history-of (args .run) in (
-      omega arith,
+    let history = history-of (args .run) in
+    let left = c .before .before .before .before .before .before .before .loop-test .taken in (
+      omega (arith, left),
       c .before .before .reduce-hamiltonian .kept .0 ∙ here .loop .inv .1,
       λ job own finished.
-          let made : here .loop .at < length history = omega (arith, finished .all, finished .modes-are, start .pre .1 .1 .1) in
-          replay-goes job history (here .loop .at) _ _ _ _ made (c .before .before .before .merge-of .ensures)
-          (c .before .before .before .before .before .parent-number .ensures ∙ ap (λ n. parent-number n (here .loop .at)) (sym (finished .modes-are))) (here .loop .inv .2 job own finished)
+          let made : here .loop .at < length history = omega (arith, finished .all, finished .modes-are, start .pre .1 .1 .1, left) in
+          replay-goes job history (here .loop .at) _ _ _ _ _ made (c .before .before .before .before .before .rule-of .ensures job own (finished .holds)) (c .before .before .before .merge-of .ensures)
+          (c .before .before .before .before .before .before .parent-number .ensures ∙ ap (λ n. parent-number n (here .loop .at)) (sym (finished .modes-are))) (here .loop .inv .2 job own finished)
           (rw (← finished .count-is) at (c .before .before .reduce-hamiltonian .ensures)),
     )
 
@@ -82,6 +86,7 @@ rows-before-spec =
     μ-loop
     loop-holds
     parent-number-requires
+    rule-of-requires
     merge-of-requires
     reduce-hamiltonian-requires
     add-at

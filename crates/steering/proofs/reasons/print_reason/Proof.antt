@@ -21,17 +21,17 @@ enum-known-modes c = search needs
 mul-end : tie.Need-mul-end
 mul-end c =
     let start = c .before .before .before .before .before .before .before .before .before .before .before in
-    omega (arith, (c .before .before .before .before .before .read-job .ensures .is-job _ _ (c .before .modes .given .1)) .0, c .before .before .before .before .before .read-job .kept, start .pre .0)
+    omega (arith, (c .before .before .before .before .before .read-job .ensures (c .before .before .before .before .before .before .before .before .before .before .before .args .rule) .is-job _ _ (c .before .modes .given .1)) .0, c .before .before .before .before .before .read-job .kept, start .pre .0)
 
 slice-relend-prefix-reason-job : tie.Need-slice-relend-prefix-reason-job
-slice-relend-prefix-reason-job c = (c .before .before .before .before .before .read-job .ensures .is-job _ _ (c .before .modes .given .1)) .0
+slice-relend-prefix-reason-job c = (c .before .before .before .before .before .read-job .ensures (c .before .before .before .before .before .before .before .before .before .before .before .args .rule) .is-job _ _ (c .before .modes .given .1)) .0
 
 slice-aggregate-reason-job : tie.Need-slice-aggregate-reason-job
-slice-aggregate-reason-job c = sym (length-take-le _ _ ((c .before .before .before .before .before .before .read-job .ensures .is-job _ _ (c .before .before .modes .given .1)) .0))
+slice-aggregate-reason-job c = sym (length-take-le _ _ ((c .before .before .before .before .before .before .read-job .ensures (c .before .before .before .before .before .before .before .before .before .before .before .before .args .rule) .is-job _ _ (c .before .before .modes .given .1)) .0))
 
 reason-job-requires : tie.Need-reason-job-requires
 reason-job-requires c κs =
-    let fits = (c .before .before .before .before .before .before .before .read-job .ensures .is-job _ _ (c .before .before .before .modes .given .1)) .1 in
+    let fits = (c .before .before .before .before .before .before .before .read-job .ensures (c .before .before .before .before .before .before .before .before .before .before .before .before .before .args .rule) .is-job _ _ (c .before .before .before .modes .given .1)) .1 in
     let terms = accepted _ _ _ (fits .good) in
     ((fits .some, fits .few, terms .at-most, terms .held), c .before .before .before .before .before .before .before .before .before .before .before .before .before .pre .1)
 
@@ -41,7 +41,7 @@ same-length c = search needs
 returns : tie.Need-returns
 unfolding reason-text reason-by
 returns c =
-    rw (c .before .before .before .before .before .read-job .ensures .is-refused _ (c .before .why .given .1)) (puts-none _)
+    rw (c .before .before .before .before .before .read-job .ensures (c .before .before .before .before .before .before .before .before .before .before .before .args .rule) .is-refused _ (c .before .why .given .1)) (puts-none _)
 
 same-length-2 : tie.Need-same-length-2
 same-length-2 c = search needs
@@ -52,7 +52,7 @@ same-length-3 c = search needs
 returns-2 : tie.Need-returns-2
 unfolding reason-text reason-by
 returns-2 c =
-    rw ((c .before .before .before .before .before .before .before .before .before .before .before .before .read-job .ensures .is-job _ _ (c .before .before .before .before .before .before .before .before .modes .given .1)) .2) (c .before .before .before .before .reason-job .ensures)
+    rw ((c .before .before .before .before .before .before .before .before .before .before .before .before .read-job .ensures (c .before .before .before .before .before .before .before .before .before .before .before .before .before .before .before .before .before .before .args .rule) .is-job _ _ (c .before .before .before .before .before .before .before .before .modes .given .1)) .2) (c .before .before .before .before .reason-job .ensures)
 
 pub print-reason-spec : {M : Type 1} → statement M
 print-reason-spec =

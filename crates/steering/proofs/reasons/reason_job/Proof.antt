@@ -27,7 +27,7 @@ same-length-2 c = search needs
 returns : tie.Need-returns
 returns c =
     let args = c .before .before .before .before .before .before .before .before .before .before .before .before .before .before .before .args in
-    let job = job-of (args .modes) (args .count) (args .rows .now) in
+    let job = job-of (args .modes) (args .rule) (args .count) (args .rows .now) in
     let obey = c .before .before .before .before .before .before .before .before .before .before .obey in
     rw (refused-told job (args .read .now) (obey .result .verdict) (obey .result .run) _ (obey .ensures .comes-to) _ (c .before .before .before .before .before .before .verdict .given .1)) at
     (c .before .before .put-refused .ensures job (obey .ensures .went .holds))
@@ -38,7 +38,7 @@ same-length-3 c = search needs
 returns-2 : tie.Need-returns-2
 returns-2 c =
     let args = c .before .before .before .before .before .before .before .before .before .args in
-    let job = job-of (args .modes) (args .count) (args .rows .now) in
+    let job = job-of (args .modes) (args .rule) (args .count) (args .rows .now) in
     let obey = c .before .before .before .before .obey in
     rw (fine-told job (args .read .now) (obey .result .verdict) (obey .result .run) _ (obey .ensures .comes-to) (c .enum-told .given .1)) at
     (puts-none (args .out .now))
