@@ -7,12 +7,13 @@ use native.Mathlib.Omega.{arith}
 use borrow.Author.Tests.{le-leb}
 use lib.Dec.{eqb, ltb, leb}
 use lib.ListN.{length, getD}
-use Rattle.refusal.specs.declared.Refusal.the-variants.{Modes, Room, TreeLength, ChildCode, NotOneTree, WrongPair, Heuristic, Malformed}
+use Rattle.refusal.specs.declared.Refusal.the-variants.{Modes, Room, TreeLength, ChildCode, NotOneTree, WrongPair, Heuristic, Malformed, Rule as NoRule}
 use Rattle.refusal.specs.Numbers.{numberOf}
 use Rattle.entities.specs.Limits.{most-modes, most-terms, row-width}
 use Rattle.fields.specs.Fields.{tabbed}
 use Rattle.terms.specs.declared.checking.Checked.{Checked}
 use Rattle.terms.specs.declared.checking.Checked.the-variants.{Good, Refused as BadTerms}
+use Rattle.terms.specs.Rules.{rule-number, rule-good}
 use Rattle.terms.specs.Good.{modes-good, checked}
 use Rattle.terms.proofs.RowSteps.{length-terms}
 use Rattle.terms.proofs.GoodTerms.{accepted}
@@ -83,7 +84,7 @@ module _ (call : Asked) where
 
   assign-never : number-in (outcome (assign-rooms program-rooms) call) ≡ 5 → ⊥
   unfolding number-in number-checked outcome with-tree
-  assign-never h = go (tree-checked most-modes (call .modes) (call .tree)) refl
+  assign-never h = by-tests (modes-good most-modes (call .modes)) (rule-good (call .rule)) h
     where
       by-heuristic : (b : Bool) → call .modes ≤ most-modes
           → number-in (cond (not b) (refused Heuristic) (with-terms (assign-rooms program-rooms) call (checked (call .modes) (call .numbers)))) ≡ 5
@@ -91,9 +92,21 @@ module _ (call : Asked) where
       by-heuristic true few k = terms-never few (checked (call .modes) (call .numbers)) refl k
       by-heuristic false few k = omega arith
 
-      go : (found : TreeChecked) → tree-checked most-modes (call .modes) (call .tree) ≡ found → ⊥
-      go Accepted e = by-heuristic (leb (call .heuristic) 2) (accepted-parts most-modes (call .modes) (call .tree) e .few) (rw e at h)
-      go (Refused refusal) e = check-never (call .modes) (call .tree) (rw e (rw e at h))
+      by-tree : (found : TreeChecked) → tree-checked most-modes (call .modes) (call .tree) ≡ found
+          → number-in (with-tree (assign-rooms program-rooms) call found) ≡ 5
+          → ⊥
+      by-tree Accepted e k = by-heuristic (leb (call .heuristic) 2) (accepted-parts most-modes (call .modes) (call .tree) e .few) k
+      by-tree (Refused refusal) e k = check-never (call .modes) (call .tree) (rw e k)
+
+      by-tests : (b c : Bool)
+          → number-in
+          (cond (not b) (refused Modes)
+          (cond (not c) (refused NoRule) (with-tree (assign-rooms program-rooms) call (tree-checked most-modes (call .modes) (call .tree)))))
+          ≡ 5
+          → ⊥
+      by-tests false c k = omega arith
+      by-tests true false k = omega arith
+      by-tests true true k = by-tree (tree-checked most-modes (call .modes) (call .tree)) refl k
 
 -- Where the text of 5 is printed, the assignment ended with it: what is done begins otherwise.
 five-ended : (rows : List ℕ) (end : Outcome) → assign-printed rows end ≡ refusal-text Room → number-in end ≡ 5
@@ -104,14 +117,14 @@ five-ended rows (refused refusal) e = refusal-five refusal e
 -- The theorem: 5 is never printed.
 pub assign-suffices : AssignSuffices
 unfolding assign-text assign-as assigned-with number-in
-assign-suffices tree name bytes = go (tree-said most-modes tree)
+assign-suffices tree name asks = go (tree-said most-modes tree)
   where
     with-terms-said : (rows : List ℕ) (terms : Said)
-        → assign-printed rows (assigned-with (assign-rooms program-rooms) (heuristic-of name) (table-of rows) terms) ≡ refusal-text Room
+        → assign-printed rows (assigned-with (assign-rooms program-rooms) (rule-number (asks .rule)) (heuristic-of name) (table-of rows) terms) ≡ refusal-text Room
         → ⊥
     with-terms-said rows (given modes numbers) e = assign-never _ (five-ended rows _ e)
     with-terms-said rows (terms-malformed line) e = let z = five-ended rows (refused (Malformed line)) e in omega arith
 
-    go : (found : TreeSaid) → assign-as (assign-rooms program-rooms) (heuristic-of name) found (said most-terms bytes) ≡ refusal-text Room → ⊥
-    go (nodes rows) e = with-terms-said rows (said most-terms bytes) e
+    go : (found : TreeSaid) → assign-as (assign-rooms program-rooms) (rule-number (asks .rule)) (heuristic-of name) found (said most-terms (asks .text)) ≡ refusal-text Room → ⊥
+    go (nodes rows) e = with-terms-said rows (said most-terms (asks .text)) e
     go (malformed line) e = let z = refusal-five (Malformed line) e in omega arith

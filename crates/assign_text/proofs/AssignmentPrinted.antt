@@ -11,12 +11,14 @@ use Rattle.refusal.specs.declared.Refusal.the-variants.{Malformed as Badly}
 use Rattle.entities.specs.Limits.{most-modes, most-terms, row-width}
 use Rattle.fields.specs.Texts.{spelt}
 use Rattle.fields.specs.Decimal.{decimal}
+use Rattle.terms.specs.Rules.{rule-number}
 use Rattle.topphatt.specs.declared.Assigned.{Assigned}
 use Rattle.topphatt.specs.declared.Assigned.the-variants.{Weight, Unassigned}
 use Rattle.topphatt.specs.Answer.{answer-table, Outcome, done, refused, Asked, asked, outcome}
 use Rattle.topphatt.specs.Promises.{returned, Lent, rooms-of, lent-then, Assigns}
 use Rattle.topphatt.proofs.AssignDone.{assign-done}
 use Rattle.terms_text.specs.Input.{given, malformed as terms-malformed, said}
+use Rattle.terms_text.specs.Jobs.{Request}
 use Rattle.text.specs.Running.{program-rooms}
 use Rattle.text.specs.Output.{node-lines, refusal-text}
 use Rattle.text.specs.code.Printing.{Puts}
@@ -36,11 +38,11 @@ table-length call count weight codes e =
     let known = assign-done (assign-rooms program-rooms) call count weight codes e in
     ap length (known .answer-is) ∙ length-map (call .tree) _
 
-module _ (modes heuristic : ℕ) (tree numbers rows : List ℕ) (lends after : Lent) (r : Assigned) (work : length (lends .work) ≡ row-width * most-terms)
+module _ (modes rule heuristic : ℕ) (tree numbers rows : List ℕ) (lends after : Lent) (r : Assigned) (work : length (lends .work) ≡ row-width * most-terms)
     (table : length (lends .table) ≡ 3 * most-modes)
-    (assigns : Assigns (λ lent. outcome (rooms-of most-modes lent) (asked modes tree heuristic numbers)) lends after r) where
+    (assigns : Assigns (λ lent. outcome (rooms-of most-modes lent) (asked modes rule tree heuristic numbers)) lends after r) where
   abbrev meant : Outcome
-  meant = outcome (assign-rooms program-rooms) (asked modes tree heuristic numbers)
+  meant = outcome (assign-rooms program-rooms) (asked modes rule tree heuristic numbers)
 
   same-rooms : rooms-of most-modes lends ≡ assign-rooms program-rooms
   same-rooms = rw (work, table)
@@ -51,7 +53,7 @@ module _ (modes heuristic : ℕ) (tree numbers rows : List ℕ) (lends after : L
   same-left : after ≡ lent-then meant lends
   same-left = rw (← same-rooms) (assigns .leaves)
 
-  pub refused-printed : (refusal : Refusal) → r ≡ Unassigned refusal → refusal-text refusal ≡ meant-text rows tree heuristic (given modes numbers)
+  pub refused-printed : (refusal : Refusal) → r ≡ Unassigned refusal → refusal-text refusal ≡ meant-text rows tree rule heuristic (given modes numbers)
   unfolding meant-text assigned-with assign-printed returned
   refused-printed refusal e = go meant (sym e ∙ same-answer)
     where
@@ -60,7 +62,7 @@ module _ (modes heuristic : ℕ) (tree numbers rows : List ℕ) (lends after : L
       go (refused other) f = ap refusal-text (cc)
 
   pub done-printed : (weight : ℕ) → r ≡ Weight weight → length tree ≤ 3 * most-modes
-      → weight-line weight ++ node-lines (assigned-rows rows (take (length tree) (after .table))) ≡ meant-text rows tree heuristic (given modes numbers)
+      → weight-line weight ++ node-lines (assigned-rows rows (take (length tree) (after .table))) ≡ meant-text rows tree rule heuristic (given modes numbers)
   unfolding meant-text assigned-with assign-printed returned lent-then
   done-printed weight e fits = go meant refl (sym e ∙ same-answer) same-left
     where
@@ -68,27 +70,27 @@ module _ (modes heuristic : ℕ) (tree numbers rows : List ℕ) (lends after : L
           → weight-line weight ++ node-lines (assigned-rows rows (take (length tree) (after .table))) ≡ assign-printed rows means
       go (done count found codes) m f left =
           let same : weight ≡ found = cc in
-          let long = table-length (asked modes tree heuristic numbers) count found codes m in
+          let long = table-length (asked modes rule tree heuristic numbers) count found codes m in
           let stands : take (length tree) (after .table) ≡ codes = rw (left, ← long) (part-written 0 codes (lends .table) (omega (arith, table))) in
           rw (same, stands)
       go (refused refusal) m f left = let z : _≡_ {A = ℕ} 0 1 = cc in absurd (omega arith)
 
 -- Malformed terms are refused.
-pub terms-refused : (heuristic : ℕ) (rows table : List ℕ) (line : ℕ) → refusal-text (Badly line) ≡ meant-text rows table heuristic (terms-malformed line)
+pub terms-refused : (rule heuristic : ℕ) (rows table : List ℕ) (line : ℕ) → refusal-text (Badly line) ≡ meant-text rows table rule heuristic (terms-malformed line)
 unfolding meant-text assigned-with assign-printed
-terms-refused heuristic rows table line = refl
+terms-refused rule heuristic rows table line = refl
 
 -- What a tree's text was read to say is assigned on.
-module _ (tree name bytes : List ℕ) where
-  pub assign-malformed : (line : ℕ) → tree-said most-modes tree ≡ malformed line → assign-text program-rooms tree name bytes ≡ refusal-text (Badly line)
+module _ (tree name : List ℕ) (asks : Request) where
+  pub assign-malformed : (line : ℕ) → tree-said most-modes tree ≡ malformed line → assign-text program-rooms tree name asks ≡ refusal-text (Badly line)
   unfolding assign-text assign-as
   assign-malformed line e = rw e
 
   pub assign-read : {rows table : List ℕ} {count : ℕ} → TreeRead most-modes (tree-said most-modes tree) rows table count
-      → (heuristic : ℕ) → heuristic ≡ heuristic-of name
-      → meant-text (take (4 * count) rows) (take (3 * count) table) heuristic (said most-terms bytes) ≡ assign-text program-rooms tree name bytes
+      → (rule heuristic : ℕ) → rule ≡ rule-number (asks .rule) → heuristic ≡ heuristic-of name
+      → meant-text (take (4 * count) rows) (take (3 * count) table) rule heuristic (said most-terms (asks .text)) ≡ assign-text program-rooms tree name asks
   unfolding meant-text assign-text assign-as
-  assign-read read heuristic e = rw (e, read .says, read .laid)
+  assign-read read rule heuristic named e = rw (named, e, read .says, read .laid)
 
 -- A weight's line and the lines of rows, part by part.
 pub found-wrote : (weight : ℕ) (rows before : List ℕ) → {s1 s2 : List ℕ} {e1 e2 : ℕ}

@@ -7,11 +7,13 @@ use lib.ListN.{getD}
 use Rattle.lists.specs.Members.{alike}
 use Rattle.refusal.specs.declared.Refusal.the-variants.{Room, Malformed}
 use Rattle.fields.specs.Texts.{spelt}
+use Rattle.terms.specs.Rules.{rule-number}
 use Rattle.terms.specs.Rows.{rows-of}
 use Rattle.tree.specs.Table.{child}
 use Rattle.tree.specs.Laying.{modes-in, table-of}
 use Rattle.topphatt.specs.Answer.{Outcome, done, refused, asked, outcome, Rooms as AssignRooms}
 use Rattle.terms_text.specs.Input.{Said, given, malformed as terms-malformed, said}
+use Rattle.terms_text.specs.Jobs.{Request}
 use Rattle.text.specs.Running.{Rooms, program-rooms}
 use Rattle.text.specs.Output.{node-lines, refusal-text}
 use Rattle.nodes_text.specs.TreeInput.{TreeSaid, nodes, malformed, tree-said}
@@ -26,10 +28,10 @@ heuristic-of name =
 abbrev pub assign-rooms : Rooms → AssignRooms
 assign-rooms rooms = record { modes = rooms .run .modes; work = rooms .run .work; table = 3 * rooms .run .modes }
 
--- Assigning on a table, for what the terms' text says.
-unfoldable pub assigned-with : AssignRooms → ℕ → List ℕ → Said → Outcome
-assigned-with rooms heuristic table (given modes numbers) = outcome rooms (asked modes table heuristic numbers)
-assigned-with rooms heuristic table (terms-malformed line) = refused (Malformed line)
+-- Assigning on a table, by a rule and a heuristic, for what the terms' text says.
+unfoldable pub assigned-with : AssignRooms → ℕ → ℕ → List ℕ → Said → Outcome
+assigned-with rooms rule heuristic table (given modes numbers) = outcome rooms (asked modes rule table heuristic numbers)
+assigned-with rooms rule heuristic table (terms-malformed line) = refused (Malformed line)
 
 -- The row of a node in a table: label, X, Y, Z.
 unfoldable pub row-in : List ℕ → ℕ → List ℕ
@@ -44,14 +46,15 @@ unfoldable pub assign-printed : List ℕ → Outcome → List ℕ
 assign-printed rows (done count weight table) = weight-line weight ++ node-lines (assigned-rows rows table)
 assign-printed rows (refused refusal) = refusal-text refusal
 
-unfoldable pub assign-as : AssignRooms → ℕ → TreeSaid → Said → List ℕ
-assign-as rooms heuristic (nodes rows) terms = assign-printed rows (assigned-with rooms heuristic (table-of rows) terms)
-assign-as rooms heuristic (malformed line) terms = refusal-text (Malformed line)
+unfoldable pub assign-as : AssignRooms → ℕ → ℕ → TreeSaid → Said → List ℕ
+assign-as rooms rule heuristic (nodes rows) terms = assign-printed rows (assigned-with rooms rule heuristic (table-of rows) terms)
+assign-as rooms rule heuristic (malformed line) terms = refusal-text (Malformed line)
 
-unfoldable pub assign-text : Rooms → List ℕ → List ℕ → List ℕ → List ℕ
-assign-text rooms tree name bytes =
-    assign-as (assign-rooms rooms) (heuristic-of name) (tree-said (rooms .run .modes) tree) (said (rooms .terms) bytes)
+unfoldable pub assign-text : Rooms → List ℕ → List ℕ → Request → List ℕ
+assign-text rooms tree name asks =
+    assign-as (assign-rooms rooms) (rule-number (asks .rule)) (heuristic-of name) (tree-said (rooms .run .modes) tree)
+    (said (rooms .terms) (asks .text))
 
 -- 5 is never printed: whatever the texts, the program's own rooms suffice.
 abbrev pub AssignSuffices : Type 0
-AssignSuffices = (tree name bytes : List ℕ) → assign-text program-rooms tree name bytes ≡ refusal-text Room → ⊥
+AssignSuffices = (tree name : List ℕ) (asks : Request) → assign-text program-rooms tree name asks ≡ refusal-text Room → ⊥

@@ -5,6 +5,7 @@ ghost use lib.ListN.{length};
 ghost use Rattle.entities.specs.Limits.{«most-modes», «most-terms», «row-width»};
 ghost use Rattle.tree.specs.Laying.{«modes-in»};
 ghost use Rattle.terms_text.specs.Input.{given, said};
+ghost use Rattle.terms_text.specs.Jobs.{request};
 ghost use Rattle.text.specs.Running.{«program-rooms», «printed-room»};
 ghost use Rattle.text.specs.Output.{Prints};
 ghost use Rattle.text.specs.code.Printing.{Puts};
@@ -13,6 +14,8 @@ ghost use Rattle.tree_text.specs.code.Reading.{RowsFit};
 ghost use Rattle.assign_text.specs.code.Finding.{«found-text», «meant-text»};
 use nodes_text::Nodes;
 use refusal::Refusal;
+use terms::rules;
+use terms::rules::Rule;
 use terms_text::Said;
 use text::Printed;
 use text::output;
@@ -27,6 +30,7 @@ fn assign_in(
     rows: &mut [u16],
     modes: usize,
     table: &[u16],
+    rule: usize,
     heuristic: usize,
     numbers: &[u16],
     work: &mut [u16],
@@ -34,9 +38,9 @@ fn assign_in(
 ) -> Assigned
     requires { ⌜ RowsFit most-modes (now rows) × (length (now table) ≤ 3 * most-modes) ⌝ }
     requires { ⌜ (length (now work) ≡ row-width * most-terms) × (length (now assigned) ≡ 3 * most-modes) ⌝ }
-    ensures { λ r. ⌜ found-text r (now (rows .exit)) ≡ meant-text (now (rows .entry)) (now (table .entry)) heuristic (given modes (now (numbers .entry))) ⌝ }
+    ensures { λ r. ⌜ found-text r (now (rows .exit)) ≡ meant-text (now (rows .entry)) (now (table .entry)) rule heuristic (given modes (now (numbers .entry))) ⌝ }
 {
-    match topphatt::assign(modes, table, heuristic, numbers, work, assigned) {
+    match topphatt::assign(modes, rule, table, heuristic, numbers, work, assigned) {
         Assigned::Unassigned(refusal) => Assigned::Unassigned(refusal),
         Assigned::Weight(weight) => {
             let end = table.len();
@@ -51,11 +55,12 @@ fn assign_given(
     rows: &mut [u16],
     modes: usize,
     table: &[u16],
+    rule: usize,
     heuristic: usize,
     numbers: &[u16],
 ) -> Assigned
     requires { ⌜ RowsFit most-modes (now rows) × (length (now table) ≤ 3 * most-modes) ⌝ }
-    ensures { λ r. ⌜ found-text r (now (rows .exit)) ≡ meant-text (now (rows .entry)) (now (table .entry)) heuristic (given modes (now (numbers .entry))) ⌝ }
+    ensures { λ r. ⌜ found-text r (now (rows .exit)) ≡ meant-text (now (rows .entry)) (now (table .entry)) rule heuristic (given modes (now (numbers .entry))) ⌝ }
 {
     let mut work = [0u16; 16384];
     let mut assigned = [0u16; 768];
@@ -63,6 +68,7 @@ fn assign_given(
         rows,
         modes,
         table,
+        rule,
         heuristic,
         numbers,
         &mut work,
@@ -74,19 +80,20 @@ fn assign_given(
 fn assign_read(
     rows: &mut [u16],
     table: &[u16],
+    rule: usize,
     heuristic: usize,
     input: &[u8],
     numbers: &mut [u16],
 ) -> Assigned
     requires { ⌜ RowsFit most-modes (now rows) × (length (now table) ≤ 3 * most-modes) ⌝ }
     requires { ⌜ length (now numbers) ≡ row-width * most-terms ⌝ }
-    ensures { λ r. ⌜ found-text r (now (rows .exit)) ≡ meant-text (now (rows .entry)) (now (table .entry)) heuristic (said most-terms (now (input .entry))) ⌝ }
+    ensures { λ r. ⌜ found-text r (now (rows .exit)) ≡ meant-text (now (rows .entry)) (now (table .entry)) rule heuristic (said most-terms (now (input .entry))) ⌝ }
 {
     match terms_text::read_input(input, numbers) {
         Said::Malformed(line) => Assigned::Unassigned(Refusal::Malformed(line)),
         Said::Given(modes, count) => {
             let end = 8 * count;
-            assign_given(rows, modes, table, heuristic, &numbers[..end])
+            assign_given(rows, modes, table, rule, heuristic, &numbers[..end])
         }
     }
 }
@@ -110,19 +117,21 @@ fn put_terms(
     out: &mut [u8],
     rows: &mut [u16],
     table: &[u16],
+    rule: usize,
     heuristic: usize,
     input: &[u8],
 ) -> usize
     requires { ⌜ (length (now out) ≡ printed-room) × RowsFit most-modes (now rows) × (length (now table) ≤ 3 * most-modes) ⌝ }
-    ensures { λ r. ⌜ Puts (meant-text (now (rows .entry)) (now (table .entry)) heuristic (said most-terms (now (input .entry)))) (now (out .entry)) (now (out .exit)) r ⌝ }
+    ensures { λ r. ⌜ Puts (meant-text (now (rows .entry)) (now (table .entry)) rule heuristic (said most-terms (now (input .entry)))) (now (out .entry)) (now (out .exit)) r ⌝ }
 {
     let mut numbers = [0u16; 16384];
-    let found = assign_read(rows, table, heuristic, input, &mut numbers);
+    let found = assign_read(rows, table, rule, heuristic, input, &mut numbers);
     put_found(out, found, rows)
 }
 
 // The answer printed over the front, in lent room for the tree's rows and its table; how many bytes that is.
 fn print_assign(
+    rule: Rule,
     tree: &[u8],
     name: &[u8],
     input: &[u8],
@@ -131,27 +140,35 @@ fn print_assign(
     out: &mut [u8],
 ) -> usize
     requires { ⌜ (length (now rows) ≡ 4 * most-modes) × (length (now table) ≡ 3 * most-modes) × (length (now out) ≡ printed-room) ⌝ }
-    ensures { λ r. ⌜ Puts (assign-text program-rooms (now (tree .entry)) (now (name .entry)) (now (input .entry))) (now (out .entry)) (now (out .exit)) r ⌝ }
+    ensures { λ r. ⌜ Puts (assign-text program-rooms (now (tree .entry)) (now (name .entry)) (request rule (now (input .entry)))) (now (out .entry)) (now (out .exit)) r ⌝ }
 {
+    let number = rules::number(rule);
     let heuristic = heuristics::heuristic_of(name);
     match trees::read_tree(tree, rows, table) {
         Nodes::Malformed(line) => output::put_refusal(out, Refusal::Malformed(line)),
         Nodes::Are(modes) => {
             let last = 4 * modes;
             let end = 3 * modes;
-            put_terms(out, &mut rows[..last], &table[..end], heuristic, input)
+            put_terms(
+                out,
+                &mut rows[..last],
+                &table[..end],
+                number,
+                heuristic,
+                input,
+            )
         }
     }
 }
 
-// What `assign` prints for a tree, the name of a heuristic and terms.
-pub fn assign_answer(tree: &[u8], heuristic: &[u8], input: &[u8]) -> Printed
-    ensures { λ r. ⌜ Prints (assign-text program-rooms (now (tree .entry)) (now (heuristic .entry)) (now (input .entry))) r ⌝ }
+// What `assign` prints by this rule for a tree, the name of a heuristic and terms.
+pub fn assign_answer(rule: Rule, tree: &[u8], heuristic: &[u8], input: &[u8]) -> Printed
+    ensures { λ r. ⌜ Prints (assign-text program-rooms (now (tree .entry)) (now (heuristic .entry)) (request rule (now (input .entry)))) r ⌝ }
 {
     let mut rows = [0u16; 1024];
     let mut table = [0u16; 768];
     let mut bytes = [0u8; 16384];
-    let count = print_assign(tree, heuristic, input, &mut rows, &mut table, &mut bytes);
+    let count = print_assign(rule, tree, heuristic, input, &mut rows, &mut table, &mut bytes);
     Printed {
         bytes: bytes,
         count: count,

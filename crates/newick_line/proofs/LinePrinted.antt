@@ -14,6 +14,7 @@ use Rattle.tree.specs.Writing.{tree-written, text-after}
 use Rattle.tree.proofs.WritingAnswered.{Fits, written-fits}
 use Rattle.newick.specs.Writing.{newick-text}
 use Rattle.newick.specs.Calls.{newick-written}
+use Rattle.terms.specs.declared.rules.Rule.the-variants.{Published}
 use Rattle.text.specs.Running.{Rooms}
 use Rattle.text.specs.Output.{refusal-text}
 use Rattle.newick_line.specs.NewickLine.{table-line, newick-printed, newick-answer-text}
@@ -68,4 +69,4 @@ module _ (most modes : ℕ) (table : List ℕ) (room : ℕ) where
 pub cut-newick : (rooms : Rooms) (cut : ℕ) (text : List ℕ) → 12 + 47 * rooms .terms < cut
     → newick-answer-text rooms (take cut text) ≡ newick-answer-text rooms text
 unfolding newick-answer-text
-cut-newick rooms cut text h = ap (newick-printed (rooms .run .modes)) (cut-runs rooms cut text [] h)
+cut-newick rooms cut text h = ap (newick-printed (rooms .run .modes)) (cut-runs rooms Published cut text [] h)

@@ -23,6 +23,8 @@ use Rattle.newick.specs.Writing.{newick-text, mode-length, text-length, shape-u
 use Rattle.newick.specs.Calls.{newick-written}
 use Rattle.newick.proofs.TextLength.{accepted-length}
 use Rattle.journal.specs.Resuming.{Outcome, done, refuses}
+use Rattle.terms.specs.declared.rules.Rule.the-variants.{Published}
+use Rattle.terms_text.specs.Jobs.{request}
 use Rattle.text.specs.Running.{program-rooms, ran}
 use Rattle.text.specs.Output.{line-of, refusal-text}
 use Rattle.newick_line.specs.NewickLine.{table-line, line-room, newick-printed, newick-answer-text, LineSuffices}
@@ -75,11 +77,11 @@ five-written modes table (Unwritten refusal) e = refusal-five refusal e
 -- The theorem: 5 is never printed.
 pub line-suffices : LineSuffices
 unfolding newick-answer-text newick-printed tree-printed table-line number-in
-line-suffices bytes = go (ran program-rooms bytes []) refl
+line-suffices bytes = go (ran program-rooms (request Published bytes) []) refl
   where
-    go : (end : Outcome) → ran program-rooms bytes [] ≡ end → newick-printed most-modes end ≡ refusal-text Room → ⊥
+    go : (end : Outcome) → ran program-rooms (request Published bytes) [] ≡ end → newick-printed most-modes end ≡ refusal-text Room → ⊥
     go (done ending) f e =
         let modes = modes-in (ending .rows) in
         let table = table-of (ending .rows) in
         line-never modes table (five-written modes table (newick-written most-modes modes table line-room) e)
-    go (refuses refusal) f e = ran-never bytes [] (rw f (refusal-five refusal e))
+    go (refuses refusal) f e = ran-never (request Published bytes) [] (rw f (refusal-five refusal e))

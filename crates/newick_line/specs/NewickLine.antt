@@ -7,6 +7,8 @@ use Rattle.fields.specs.Texts.{spelt}
 use Rattle.newick.specs.Writing.{newick-text}
 use Rattle.newick.specs.Calls.{newick-written}
 use Rattle.journal.specs.Resuming.{Outcome}
+use Rattle.terms.specs.declared.rules.Rule.the-variants.{Published}
+use Rattle.terms_text.specs.Jobs.{request}
 use Rattle.text.specs.Running.{Rooms, program-rooms, printed-room, ran}
 use Rattle.text.specs.Output.{refusal-text}
 use Rattle.ran_tree.specs.Printing.{written-printed, tree-printed}
@@ -23,9 +25,9 @@ line-room = printed-room - 1
 unfoldable pub newick-printed : ℕ → Outcome → List ℕ
 newick-printed most outcome = tree-printed (table-line most line-room) outcome
 
--- The program's answer to a text, in these rooms.
+-- The program's answer to a text, by the published rule, in these rooms.
 unfoldable pub newick-answer-text : Rooms → List ℕ → List ℕ
-newick-answer-text rooms bytes = newick-printed (rooms .run .modes) (ran rooms bytes [])
+newick-answer-text rooms bytes = newick-printed (rooms .run .modes) (ran rooms (request Published bytes) [])
 
 -- 5 is never printed here either: any accepted tree's line has room.
 abbrev pub LineSuffices : Type 0

@@ -12,6 +12,7 @@ ghost use Rattle.newick_line.specs.NewickLine.{«table-line», «line-ro
 ghost use Rattle.text.specs.code.Printing.{Puts};
 use newick::writing;
 use ran_tree::Ended;
+use terms::rules::Rule;
 use text::Printed;
 use text::output;
 use tree::TreeWritten;
@@ -44,7 +45,7 @@ fn print_newick(input: &[u8], table: &mut [u16], out: &mut [u8]) -> usize
     requires { ⌜ (length (now table) ≡ 3 * most-modes) × (length (now out) ≡ printed-room) ⌝ }
     ensures { λ r. ⌜ Puts (newick-answer-text program-rooms (now (input .entry))) (now (out .entry)) (now (out .exit)) r ⌝ }
 {
-    match ran_tree::run_tree(input, table) {
+    match ran_tree::run_tree(Rule::Published, input, table) {
         Ended::Refused(refusal) => output::put_refusal(out, refusal),
         Ended::Tree(modes) => {
             let end = 3 * modes;

@@ -70,11 +70,11 @@ table-never modes table e = strings-never modes table (five-written modes table 
 -- The theorems: 5 is never printed.
 pub hatt-strings-suffice : HattStringsSuffice
 unfolding hatt-strings-text tree-printed number-in
-hatt-strings-suffice bytes = go (ran program-rooms bytes []) refl
+hatt-strings-suffice asks = go (ran program-rooms asks []) refl
   where
-    go : (end : Outcome) → ran program-rooms bytes [] ≡ end → tree-printed (table-strings most-modes) end ≡ refusal-text Room → ⊥
+    go : (end : Outcome) → ran program-rooms asks [] ≡ end → tree-printed (table-strings most-modes) end ≡ refusal-text Room → ⊥
     go (done ending) f e = table-never (modes-in (ending .rows)) (table-of (ending .rows)) e
-    go (refuses refusal) f e = ran-never bytes [] (rw f (refusal-five refusal e))
+    go (refuses refusal) f e = ran-never asks [] (rw f (refusal-five refusal e))
 
 pub tree-strings-suffice : TreeStringsSuffice
 unfolding tree-strings-text strings-as

@@ -7,6 +7,7 @@ use Rattle.entities.specs.Limits.{most-modes}
 use Rattle.tree.specs.Laying.{modes-in, table-of}
 use Rattle.strings.specs.Text.{strings-text, strings-written}
 use Rattle.nodes_text.specs.TreeInput.{TreeSaid, nodes, malformed, tree-said}
+use Rattle.terms_text.specs.Jobs.{Request}
 use Rattle.text.specs.Running.{Rooms, program-rooms, ran}
 use Rattle.text.specs.Output.{refusal-text, PrintsIn}
 use Rattle.ran_tree.specs.Printing.{written-printed, tree-printed}
@@ -20,9 +21,9 @@ strings-room = 133522
 unfoldable pub table-strings : ℕ → ℕ → List ℕ → List ℕ
 table-strings most modes table = written-printed (strings-written most modes table strings-room) (strings-text modes table)
 
--- Those of the tree that HATT builds of a text's terms.
-unfoldable pub hatt-strings-text : Rooms → List ℕ → List ℕ
-hatt-strings-text rooms bytes = tree-printed (table-strings (rooms .run .modes)) (ran rooms bytes [])
+-- Those of the tree that HATT builds for what is asked, a rule and the text of terms.
+unfoldable pub hatt-strings-text : Rooms → Request → List ℕ
+hatt-strings-text rooms asks = tree-printed (table-strings (rooms .run .modes)) (ran rooms asks [])
 
 -- Those of a tree's text: 18 before any other number.
 unfoldable pub strings-as : ℕ → TreeSaid → List ℕ
@@ -38,7 +39,7 @@ PrintsStrings answer r = PrintsIn strings-room answer (r .bytes) (r .count)
 
 -- 5 is never printed: whatever the text, there is room.
 abbrev pub HattStringsSuffice : Type 0
-HattStringsSuffice = (bytes : List ℕ) → hatt-strings-text program-rooms bytes ≡ refusal-text Room → ⊥
+HattStringsSuffice = (asks : Request) → hatt-strings-text program-rooms asks ≡ refusal-text Room → ⊥
 
 abbrev pub TreeStringsSuffice : Type 0
 TreeStringsSuffice = (tree : List ℕ) → tree-strings-text most-modes tree ≡ refusal-text Room → ⊥

@@ -3,6 +3,7 @@ ghost use mathlib.Core.Path.{_≡_};
 ghost use Prim.Native.Nat.{_*_};
 ghost use lib.ListN.{length};
 ghost use Rattle.entities.specs.Limits.{«most-modes»};
+ghost use Rattle.terms_text.specs.Jobs.{request};
 ghost use Rattle.text.specs.Running.{«program-rooms»};
 ghost use Rattle.text.specs.code.Printing.{Puts};
 ghost use Rattle.strings_text.specs.Printing.{
@@ -15,6 +16,7 @@ ghost use Rattle.strings_text.specs.Printing.{
 use nodes_text::Nodes;
 use ran_tree::Ended;
 use refusal::Refusal;
+use terms::rules::Rule;
 use text::output;
 use tree::TreeWritten;
 use tree_text::trees;
@@ -37,11 +39,11 @@ fn put_strings(out: &mut [u8], modes: usize, tree: &[u16]) -> usize
 }
 
 // The answer to terms printed over the front, in lent room for the tree's table.
-fn print_hatt(input: &[u8], table: &mut [u16], out: &mut [u8]) -> usize
+fn print_hatt(rule: Rule, input: &[u8], table: &mut [u16], out: &mut [u8]) -> usize
     requires { ⌜ (length (now table) ≡ 3 * most-modes) × (length (now out) ≡ strings-room) ⌝ }
-    ensures { λ r. ⌜ Puts (hatt-strings-text program-rooms (now (input .entry))) (now (out .entry)) (now (out .exit)) r ⌝ }
+    ensures { λ r. ⌜ Puts (hatt-strings-text program-rooms (request rule (now (input .entry)))) (now (out .entry)) (now (out .exit)) r ⌝ }
 {
-    match ran_tree::run_tree(input, table) {
+    match ran_tree::run_tree(rule, input, table) {
         Ended::Refused(refusal) => output::put_refusal(out, refusal),
         Ended::Tree(modes) => {
             let end = 3 * modes;
@@ -64,13 +66,13 @@ fn print_tree(tree: &[u8], rows: &mut [u16], table: &mut [u16], out: &mut [u8]) 
     }
 }
 
-// The strings of the tree that HATT builds of a text's terms.
-pub fn hatt_strings_answer(input: &[u8]) -> Printed
-    ensures { λ r. ⌜ PrintsStrings (hatt-strings-text program-rooms (now (input .entry))) r ⌝ }
+// The strings of the tree that HATT builds by this rule of a text's terms.
+pub fn hatt_strings_answer(rule: Rule, input: &[u8]) -> Printed
+    ensures { λ r. ⌜ PrintsStrings (hatt-strings-text program-rooms (request rule (now (input .entry)))) r ⌝ }
 {
     let mut table = [0u16; 768];
     let mut bytes = [0u8; 133522];
-    let count = print_hatt(input, &mut table, &mut bytes);
+    let count = print_hatt(rule, input, &mut table, &mut bytes);
     Printed {
         bytes: bytes,
         count: count,

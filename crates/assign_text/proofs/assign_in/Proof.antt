@@ -27,7 +27,7 @@ slice-aggregate-assign-rows : tie.Need-slice-aggregate-assign-rows
 slice-aggregate-assign-rows c =
     let start = c .before .before .before .before .before .before .before .before .before .before .before .before .before .before .before .before .before in
     let assign = c .before .before .before .before .before .before .before .before .before .assign in
-    sym (length-take-le (length (start .args .table .now)) (assign .last .1 .1 .1 .1 .1 .0) (omega (arith, assign .kept, start .pre)))
+    sym (length-take-le (length (start .args .table .now)) (assign .last .1 .1 .1 .1 .1 .1 .0) (omega (arith, assign .kept, start .pre)))
 
 assign-rows-requires : tie.Need-assign-rows-requires
 assign-rows-requires c κs = search needs
@@ -44,7 +44,7 @@ returns c =
     let start = c .before .before .before .before .before .before .before .before .before .before .before .before .before .before .before in
     let args = start .args in
     let assign = c .before .before .before .before .before .before .before .assign in
-    refused-printed (args .modes) (args .heuristic) (args .table .now) (args .numbers .now) (args .rows .now) (lent (args .work .now) (args .assigned .now)) (lent (assign .last .1 .1 .1 .1 .0) (assign .last .1 .1 .1 .1 .1 .0)) (assign .result) (start .pre .1 .0) (start .pre .1 .1) (assign .ensures) _ (c .before .refusal .given .1)
+    refused-printed (args .modes) (args .rule) (args .heuristic) (args .table .now) (args .numbers .now) (args .rows .now) (lent (args .work .now) (args .assigned .now)) (lent (assign .last .1 .1 .1 .1 .1 .0) (assign .last .1 .1 .1 .1 .1 .1 .0)) (assign .result) (start .pre .1 .0) (start .pre .1 .1) (assign .ensures) _ (c .before .refusal .given .1)
 
 same-length-3 : tie.Need-same-length-3
 same-length-3 c = search needs
@@ -62,7 +62,7 @@ returns-2 c =
     let args = start .args in
     let assign = c .before .before .before .before .before .before .before .before .before .before .before .before .assign in
     let told = c .before .before .before .before .before .before .weight .given in
-    ap (found-text (Weight (told .0 .0))) (c .before .before .assign-rows .ensures) ∙ done-printed (args .modes) (args .heuristic) (args .table .now) (args .numbers .now) (args .rows .now) (lent (args .work .now) (args .assigned .now)) (lent (assign .last .1 .1 .1 .1 .0) (assign .last .1 .1 .1 .1 .1 .0)) (assign .result) (start .pre .1 .0) (start .pre .1 .1) (assign .ensures) _ (told .1) (start .pre .0 .1)
+    ap (found-text (Weight (told .0 .0))) (c .before .before .assign-rows .ensures) ∙ done-printed (args .modes) (args .rule) (args .heuristic) (args .table .now) (args .numbers .now) (args .rows .now) (lent (args .work .now) (args .assigned .now)) (lent (assign .last .1 .1 .1 .1 .1 .0) (assign .last .1 .1 .1 .1 .1 .1 .0)) (assign .result) (start .pre .1 .0) (start .pre .1 .1) (assign .ensures) _ (told .1) (start .pre .0 .1)
 
 pub assign-in-spec : {M : Type 1} → statement M
 assign-in-spec =

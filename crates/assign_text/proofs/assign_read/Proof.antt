@@ -41,7 +41,7 @@ unfolding found-text
 returns c =
     let args = c .before .before .before .before .before .before .before .before .before .before .before .args in
     let says = malformed-says 2048 (args .input .now) _ _ (c .before .before .before .before .before .read-input .ensures) _ (c .before .line .given .1) in
-    terms-refused (args .heuristic) (args .rows .now) (args .table .now) _ ∙ ap (meant-text (args .rows .now) (args .table .now) (args .heuristic)) says
+    terms-refused (args .rule) (args .heuristic) (args .rows .now) (args .table .now) _ ∙ ap (meant-text (args .rows .now) (args .table .now) (args .rule) (args .heuristic)) says
 
 same-length-2 : tie.Need-same-length-2
 same-length-2 c = search needs
@@ -53,7 +53,7 @@ returns-2 : tie.Need-returns-2
 returns-2 c =
     let args = c .before .before .before .before .before .before .before .before .before .before .before .before .before .before .before .before .args in
     let says = given-says 2048 (args .input .now) _ _ (c .before .before .before .before .before .before .before .before .before .before .read-input .ensures) _ _ (c .before .before .before .before .before .before .modes .given .1) in
-    c .before .before .assign-given .ensures ∙ ap (meant-text (args .rows .now) (args .table .now) (args .heuristic)) says
+    c .before .before .assign-given .ensures ∙ ap (meant-text (args .rows .now) (args .table .now) (args .rule) (args .heuristic)) says
 
 pub assign-read-spec : {M : Type 1} → statement M
 assign-read-spec =

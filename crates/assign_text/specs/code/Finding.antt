@@ -15,5 +15,5 @@ found-text (Weight weight) rows = weight-line weight ++ node-lines rows
 found-text (Unassigned refusal) rows = refusal-text refusal
 
 -- What is to be printed for rows and their table, in the program's own rooms.
-unfoldable pub meant-text : List ℕ → List ℕ → ℕ → Said → List ℕ
-meant-text rows table heuristic terms = assign-printed rows (assigned-with (assign-rooms program-rooms) heuristic table terms)
+unfoldable pub meant-text : List ℕ → List ℕ → ℕ → ℕ → Said → List ℕ
+meant-text rows table rule heuristic terms = assign-printed rows (assigned-with (assign-rooms program-rooms) rule heuristic table terms)
