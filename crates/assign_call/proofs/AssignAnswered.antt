@@ -99,7 +99,7 @@ pub assign-lent-means : (modes : ℕ) (tree codes : List ℕ) (nodes heuristic :
     → TreeRead 256 modes tree codes nodes → TermsRead terms numbers count
     → room ≡ room-of 1 (length own) (length (given .table)) (length (given .answer))
     → assign-handed (rooms-of 256 (lent work own)) modes tree heuristic terms given
-    ≡ outcome (rooms-of 256 (lent work (take room own))) (asked modes (take nodes codes) heuristic (take count numbers))
+    ≡ outcome (rooms-of 256 (lent work (take room own))) (asked modes 0 (take nodes codes) heuristic (take count numbers))
 unfolding assign-handed table-rooms-in
 assign-lent-means modes tree codes nodes heuristic terms numbers work own count room given tree-read terms-read e =
     let table = length (given .table) in
@@ -109,4 +109,4 @@ assign-lent-means modes tree codes nodes heuristic terms numbers work own count 
     let rooms : Rooms = record { modes = 256; work = length work; table = room-of 1 (length own) table answer } in
     sym (tree-read .same rooms refl heuristic (term-numbers terms))
     ∙ sym (assigned-same (take count numbers) (term-numbers terms) (terms-read .stands) rooms modes (take nodes codes) heuristic)
-    ∙ ap (λ n. outcome (record { modes = 256; work = length work; table = n }) (asked modes (take nodes codes) heuristic (take count numbers))) (sym l)
+    ∙ ap (λ n. outcome (record { modes = 256; work = length work; table = n }) (asked modes 0 (take nodes codes) heuristic (take count numbers))) (sym l)

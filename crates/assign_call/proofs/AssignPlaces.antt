@@ -9,8 +9,9 @@ use lib.Dec.{eqb, ltb, leb}
 use lib.ListN.{length}
 use Rattle.lists.proofs.Tests.{whichever}
 use Rattle.refusal.specs.declared.Refusal.{Refusal}
-use Rattle.refusal.specs.declared.Refusal.the-variants.{Modes, TreeLength, ChildCode, NotOneTree, WrongPair, Heuristic, Room}
+use Rattle.refusal.specs.declared.Refusal.the-variants.{Modes, TreeLength, ChildCode, NotOneTree, WrongPair, Heuristic, Room, Rule as NoRule}
 use Rattle.refusal.specs.Numbers.{placeOf}
+use Rattle.terms.specs.Rules.{rule-good}
 use Rattle.terms.specs.Good.{modes-good, checked}
 use Rattle.terms.specs.declared.checking.Checked.{Checked}
 use Rattle.terms.specs.declared.checking.Checked.the-variants.{Good, Refused as BadTerms}
@@ -65,7 +66,14 @@ module _ (rooms : Rooms) (small : rooms .modes ≤ 256) (call : Asked) where
       (λ good. terms-small (checked (call .modes) (call .numbers)) (bad-row-place (call .modes) (call .numbers)))
   rest-small (BadTree refusal) h = omega (arith, h, small)
 
-  pub assign-refused-place : (refusal : Refusal) → outcome rooms call ≡ refused refusal → placeOf refusal ≤ 65535
+  outcome-small : assign-place (outcome rooms call) ≤ 65535
   unfolding outcome assign-place
-  assign-refused-place refusal e =
-      rw e at (rest-small (tree-checked (rooms .modes) (call .modes) (call .tree)) (tree-small (rooms .modes) (call .modes) (call .tree)))
+  outcome-small =
+      unless assign-place 65535 (modes-good (rooms .modes) (call .modes)) (refused Modes) _ (omega arith)
+      (λ m.
+      unless assign-place 65535 (rule-good (call .rule)) (refused NoRule) _ (omega arith)
+      (λ r. rest-small (tree-checked (rooms .modes) (call .modes) (call .tree)) (tree-small (rooms .modes) (call .modes) (call .tree))))
+
+  pub assign-refused-place : (refusal : Refusal) → outcome rooms call ≡ refused refusal → placeOf refusal ≤ 65535
+  unfolding assign-place
+  assign-refused-place refusal e = rw e at outcome-small

@@ -10,6 +10,7 @@ use lib.ListN.{length}
 use Rattle.refusal.specs.declared.Refusal.{Refusal}
 use Rattle.refusal.specs.declared.Refusal.the-variants.{Modes, TermNumbers, TreeLength, Heuristic}
 use Rattle.entities.specs.Limits.{most-terms, row-width}
+use Rattle.terms.specs.Rules.{rule-good}
 use Rattle.terms.specs.Good.{modes-good, checked}
 use Rattle.terms.specs.declared.checking.Checked.{Checked}
 use Rattle.terms.specs.declared.checking.Checked.the-variants.{Good, Refused as BadTerms}
@@ -36,10 +37,6 @@ unfolding with-tree
 tree-refused rooms call refusal = refl
 
 -- The check's first two refusals.
-modes-first : (most modes : ℕ) (table : List ℕ) → modes-good most modes ≡ false → tree-checked most modes table ≡ BadTree Modes
-unfolding tree-checked
-modes-first most modes table e = rw e
-
 length-next : (most modes : ℕ) → modes-good most modes ≡ true → tree-checked most modes [] ≡ BadTree TreeLength
 unfolding tree-checked
 length-next most modes e =
@@ -52,7 +49,7 @@ module _ (own : Rooms) (enough : row-width * most-terms ≤ own .work) (table-en
 
   -- What is asked for, where the bytes of the tree and of the terms are numbers.
   abbrev call : Asked
-  call = asked modes (words tree) heuristic (words terms)
+  call = asked modes 0 (words tree) heuristic (words terms)
 
   module _ (some : 1 ≤ modes) (few : modes ≤ own .modes) where
     assigned-outright : (found : Checked) → checked modes (words terms) ≡ found
@@ -67,26 +64,26 @@ module _ (own : Rooms) (enough : row-width * most-terms ≤ own .work) (table-en
     assigned-outright (BadTerms refusal) e = refl
 
     tree-outright : (found : TreeChecked)
-        → assign-tree call terms given found ≡ with-tree table-rooms (asked modes (words tree) heuristic (term-numbers terms)) found
+        → assign-tree call terms given found ≡ with-tree table-rooms (asked modes 0 (words tree) heuristic (term-numbers terms)) found
     unfolding assign-tree with-tree term-numbers
     tree-outright Accepted = go (leb heuristic 2) (eqb (length terms % 16) 0) refl
       where
         go : (h t : Bool) → eqb (length terms % 16) 0 ≡ t
             → cond (not h) (refused Heuristic) (cond (not t) (refused TermNumbers) (assign-terms call given (checked modes (words terms))))
             ≡ cond (not h) (refused Heuristic)
-            (given-terms table-rooms (asked modes (words tree) heuristic (cond t (words terms) (0 ∷ []))) (checked modes (cond t (words terms) (0 ∷ []))))
+            (given-terms table-rooms (asked modes 0 (words tree) heuristic (cond t (words terms) (0 ∷ []))) (checked modes (cond t (words terms) (0 ∷ []))))
         go false t e = refl
-        go true false e = rw (not-eights modes (0 ∷ []) refl) (given-refused table-rooms (asked modes (words tree) heuristic (0 ∷ [])))
+        go true false e = rw (not-eights modes (0 ∷ []) refl) (given-refused table-rooms (asked modes 0 (words tree) heuristic (0 ∷ [])))
         go true true e = assigned-outright (checked modes (words terms)) refl
     tree-outright (BadTree refusal) = refl
 
   pub assign-outright : assign-called (own .modes) modes tree heuristic terms given ≡ assign-handed own modes tree heuristic terms given
-  unfolding assign-called assign-handed outcome tree-numbers table-rooms-in
+  unfolding assign-called assign-handed outcome rule-good tree-numbers table-rooms-in
   assign-outright = go (modes-good (own .modes) modes) refl (eqb (length tree) (6 * modes)) refl
     where
       go : (m : Bool) → modes-good (own .modes) modes ≡ m → (l : Bool) → eqb (length tree) (6 * modes) ≡ l
           → assign-called (own .modes) modes tree heuristic terms given ≡ assign-handed own modes tree heuristic terms given
-      go false e l f = rw (e, modes-first (own .modes) modes (tree-numbers modes tree) e) (tree-refused table-rooms _ Modes)
+      go false e l f = rw e
       go true e false f = rw (e, f, length-next (own .modes) modes e) (tree-refused table-rooms _ TreeLength)
       go true e true f =
           let between = good-modes (own .modes) modes e in

@@ -24,6 +24,6 @@ module _ (most : ℕ) (small : most ≤ most-modes) (modes : ℕ) (tree : List �
   unfolding assign-result-of assign-handed table-rooms-in
   assign-refusal-says refusal e =
       let own : Rooms = record { modes = most; work = row-width * most-terms; table = 3 * most } in
-      let call = asked modes (tree-numbers modes tree) heuristic (term-numbers terms) in
+      let call = asked modes 0 (tree-numbers modes tree) heuristic (term-numbers terms) in
       let handed = sym (assign-outright own (omega arith) (omega arith) modes tree heuristic terms given) ∙ e in
       result-says refusal assign-result (assign-refused-place (table-rooms-in own given) small call refusal handed) (ap assign-result-of e)

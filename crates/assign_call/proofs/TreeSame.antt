@@ -17,18 +17,14 @@ use Rattle.call_bytes.specs.Bytes.{word-at, words}
 use Rattle.assign_call.specs.code.Handing.{tree-numbers}
 use Rattle.assign_call.specs.code.Reading.{TreeRead}
 
-too-many-modes : (most modes : ℕ) (table : List ℕ) → 1 ≤ modes → most < modes → tree-checked most modes table ≡ BadTree Modes
-unfolding tree-checked modes-good
-too-many-modes most modes table some h = rw (le-leb 1 modes some, lt-leb modes most h)
-
 module _ (most modes : ℕ) (bytes numbers : List ℕ) where
   pub tree-beyond : most < modes → TreeRead most modes bytes numbers 0
-  unfolding outcome with-tree
+  unfolding outcome modes-good
   tree-beyond h =
       record {
         fits = omega arith;
         same = λ rooms e heuristic terms.
-            rw (e, too-many-modes most modes (take 0 numbers) (omega arith) h, too-many-modes most modes (tree-numbers modes bytes) (omega arith) h);
+            rw (e, le-leb 1 modes (omega arith), lt-leb modes most h);
       }
 
   pub tree-none : (length bytes ≡ 6 * modes → ⊥) → TreeRead most modes bytes numbers 0
@@ -47,5 +43,5 @@ module _ (most modes : ℕ) (bytes numbers : List ℕ) where
       take-at part rest (3 * modes) l ∙ rw (eq-eqb (length bytes) (6 * modes) long) whole in
       record {
         fits = omega (arith, l, length-append part rest);
-        same = λ rooms e heuristic terms. ap (λ tree. outcome rooms (asked modes tree heuristic terms)) read;
+        same = λ rooms e heuristic terms. ap (λ tree. outcome rooms (asked modes 0 tree heuristic terms)) read;
       }

@@ -5,6 +5,8 @@ use Prim.Native.Nat.{ℕ, _*_, _%_}
 use lib.Dec.{eqb, leb}
 use lib.ListN.{length}
 use Rattle.refusal.specs.declared.Refusal.the-variants.{Modes, TermNumbers, Room, TreeLength, Heuristic}
+use Rattle.terms.specs.declared.rules.Rule.the-variants.{Published}
+use Rattle.terms.specs.Rules.{rule-number}
 use Rattle.terms.specs.Good.{modes-good, checked}
 use Rattle.terms.specs.declared.checking.Checked.{Checked}
 use Rattle.terms.specs.declared.checking.Checked.the-variants.{Good, Refused as BadTerms}
@@ -37,9 +39,9 @@ assign-tree call terms given Accepted =
 assign-tree call terms given (BadTree refusal) = refused refusal
 
 -- The meaning of `dewgoblin_assign`, from the most modes that it takes, the modes, the tree's bytes, the heuristic, the terms' bytes and
--- what is lent: 1, and 13 for a tree that isn't 6n bytes.
+-- what is lent: 1, and 13 for a tree that isn't 6n bytes. "the C calls keep the published rule".
 unfoldable pub assign-called : ℕ → ℕ → List ℕ → ℕ → List ℕ → LentTable → Outcome
 assign-called most modes tree heuristic terms given =
     cond (not (modes-good most modes)) (refused Modes)
     (cond (not (eqb (length tree) (6 * modes))) (refused TreeLength)
-    (assign-tree (asked modes (words tree) heuristic (words terms)) terms given (tree-checked most modes (words tree))))
+    (assign-tree (asked modes (rule-number Published) (words tree) heuristic (words terms)) terms given (tree-checked most modes (words tree))))

@@ -41,7 +41,7 @@ fn put_assigned(modes: usize, own: &[u16], weight: u64, table: &mut [u8], answer
     words::put_eight(weight, answer, 0);
 }
 
-// Assigning with a table of the call's own, which fits into the lent one; where there is any, the weight fits too.
+// Assigning by the published rule, with a table of the call's own, which fits into the lent one; where there is any, the weight fits too.
 fn assign_numbers(
     modes: usize,
     tree: &[u16],
@@ -53,10 +53,10 @@ fn assign_numbers(
     answer: &mut [u8],
 ) -> u64
     requires { ⌜ (2 * length (now own) ≤ length (now table)) × (1 ≤ length (now own) → 8 ≤ length (now answer)) ⌝ }
-    ensures { λ r. ⌜ AssignCalled (λ given. outcome (rooms-of most-modes (in-numbers (now (work .entry)) (now (own .entry)))) (asked modes (now (tree .entry)) heuristic (now (terms .entry))))
+    ensures { λ r. ⌜ AssignCalled (λ given. outcome (rooms-of most-modes (in-numbers (now (work .entry)) (now (own .entry)))) (asked modes 0 (now (tree .entry)) heuristic (now (terms .entry))))
         (lent-table (now (table .entry)) (now (answer .entry))) (lent-table (now (table .exit)) (now (answer .exit))) r ⌝ }
 {
-    match topphatt::assign(modes, tree, heuristic, terms, work, own) {
+    match topphatt::assign(modes, 0, tree, heuristic, terms, work, own) {
         Assigned::Unassigned(why) => call_bytes::refusal_result(why),
         Assigned::Weight(weight) => {
             put_assigned(modes, own, weight, table, answer);

@@ -29,6 +29,7 @@ use Rattle.refusal.specs.declared.Refusal.the-variants.{
   Heuristic,
   Malformed,
   NewickForm,
+  Rule,
   TooManyNodes,
 }
 use Rattle.refusal.specs.Numbers.{numberOf, placeOf}
@@ -36,7 +37,7 @@ use Rattle.terms.specs.Good.{good-rows, checked}
 use Rattle.terms.specs.declared.checking.Checked.{Checked}
 use Rattle.terms.specs.declared.checking.Checked.the-variants.{Good, Refused as BadTerms}
 
-pub number-small : (refusal : Refusal) → (1 ≤ numberOf refusal) × (numberOf refusal ≤ 19)
+pub number-small : (refusal : Refusal) → (1 ≤ numberOf refusal) × (numberOf refusal ≤ 20)
 number-small Modes = omega arith
 number-small TermNumbers = omega arith
 number-small TooManyTerms = omega arith
@@ -56,6 +57,7 @@ number-small (WrongPair pair) = omega arith
 number-small Heuristic = omega arith
 number-small (Malformed line) = omega arith
 number-small (NewickForm byte) = omega arith
+number-small Rule = omega arith
 number-small (TooManyNodes byte) = omega arith
 
 -- The one number that a refused call returns, taken apart.

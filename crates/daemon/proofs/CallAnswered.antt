@@ -46,15 +46,15 @@ done-meant (refuses refusal) numbers r e f = let z : _≡_ {A = ℕ} 0 1 = cc in
 
 -- What is known once resuming has answered, in work and rows of the call's own.
 module _ (modes : ℕ) (terms read work own rows journal answer now-work now-own now-journal : List ℕ) (r : Answer)
-    (answers : Answers (λ given. resumed (rooms-of 256 given) modes terms read) (run-lent work own journal) (run-lent now-work now-own now-journal) r) where
+    (answers : Answers (λ given. resumed (rooms-of 256 given) modes 0 terms read) (run-lent work own journal) (run-lent now-work now-own now-journal) r) where
   abbrev rooms : Rooms
   rooms = rooms-of 256 (run-lent work own journal)
 
   abbrev meant : Lent → Outcome
-  meant given = resumed (rooms-of 256 (run-lent work own (given .journal))) modes terms read
+  meant given = resumed (rooms-of 256 (run-lent work own (given .journal))) modes 0 terms read
 
-  pub why-refused : (why : Refusal) → r ≡ Refused why → resumed rooms modes terms read ≡ refuses why
-  why-refused why e = refused-meant (resumed rooms modes terms read) why r (answers .answer) e
+  pub why-refused : (why : Refusal) → r ≡ Refused why → resumed rooms modes 0 terms read ≡ refuses why
+  why-refused why e = refused-meant (resumed rooms modes 0 terms read) why r (answers .answer) e
 
   pub called-refused : (why : Refusal) (result : ℕ) → r ≡ Refused why → result ≡ numberOf why * 65536 + placeOf why
       → Called meant (lent rows journal answer) (lent rows now-journal answer) result
@@ -64,12 +64,12 @@ module _ (modes : ℕ) (terms read work own rows journal answer now-work now-own
       let same : now-journal ≡ journal = ap (λ l. l .journal) (rw is at (answers .leaves)) in
       record { result = rw is f; leaves = rw (is, same) }
 
-  pub finish : (numbers : Numbers) → r ≡ Done numbers → Finished (resumed rooms modes terms read) numbers
-  finish numbers e = done-meant (resumed rooms modes terms read) numbers r (answers .answer) e
+  pub finish : (numbers : Numbers) → r ≡ Done numbers → Finished (resumed rooms modes 0 terms read) numbers
+  finish numbers e = done-meant (resumed rooms modes 0 terms read) numbers r (answers .answer) e
 
   module _ (numbers : Numbers) (e : r ≡ Done numbers) where
     pub fit : RowsFit rooms modes (finish numbers e .part)
-    fit = rows-fit rooms modes terms read (finish numbers e .part) (omega arith) (finish numbers e .is)
+    fit = rows-fit rooms modes 0 terms read (finish numbers e .part) (omega arith) (finish numbers e .is)
 
     pub called-done : (now-rows now-answer : List ℕ) → now-rows ≡ written-at 0 (two-bytes (take (4 * modes) now-own)) rows
         → now-answer ≡ written-at 0 (eight-bytes (numbers .weight) ++ (eight-bytes (numbers .trials) ++ (eight-bytes (numbers .kept) ++ eight-bytes (numbers .new)))) answer
@@ -104,7 +104,7 @@ called-so meant same before after r e called = record { result = rw e (called .r
 pub lent-means : (modes : ℕ) (terms read numbers work own : List ℕ) (count room : ℕ) (given : Lent) → TermsRead terms numbers count
     → room ≡ room-of 4 (length own) (length (given .rows)) (length (given .answer))
     → resume-handed (record { modes = 256; work = length work; rows = length own }) modes terms read given
-    ≡ resumed (rooms-of 256 (run-lent work (take room own) (given .journal))) modes (take count numbers) read
+    ≡ resumed (rooms-of 256 (run-lent work (take room own) (given .journal))) modes 0 (take count numbers) read
 unfolding resume-handed rooms-in
 lent-means modes terms read numbers work own count room given reads e =
     let fits = room-fits 4 (length own) (length (given .rows)) (length (given .answer)) in

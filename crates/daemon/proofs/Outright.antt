@@ -8,6 +8,8 @@ use borrow.Author.Tests.{le-leb}
 use lib.Dec.{eqb, leb}
 use lib.ListN.{length}
 use Rattle.entities.specs.Limits.{most-terms, row-width}
+use Rattle.terms.specs.declared.rules.Rule.the-variants.{Published}
+use Rattle.terms.specs.Rules.{rule-good, rule-of}
 use Rattle.terms.specs.Good.{modes-good, checked}
 use Rattle.terms.specs.declared.checking.Checked.{Checked}
 use Rattle.terms.specs.declared.checking.Checked.the-variants.{Good, Refused as BadTerms}
@@ -43,7 +45,7 @@ module _ (own : Own) (enough : row-width * most-terms ≤ own .work) (rows-enoug
 
   module _ (good : modes-good (own .modes) modes ≡ true) where
     terms-outright : (found : Checked) → checked modes (words terms) ≡ found
-        → with-terms modes (words terms) read given found ≡ with-rooms rooms modes (words terms) read found
+        → with-terms modes (words terms) read given found ≡ with-rooms rooms modes Published (words terms) read found
     unfolding with-terms with-rooms
     terms-outright (Good count) e =
         let between = good-modes (own .modes) modes good in
@@ -51,7 +53,7 @@ module _ (own : Own) (enough : row-width * most-terms ≤ own .work) (rows-enoug
     terms-outright (BadTerms refusal) e = refl
 
   pub resume-outright : resume-called (own .modes) modes terms read given ≡ resume-handed own modes terms read given
-  unfolding resume-called resume-handed resumed term-numbers rooms-in with-rooms
+  unfolding resume-called resume-handed resumed rule-good rule-of term-numbers rooms-in with-rooms
   resume-outright = go (modes-good (own .modes) modes) refl (eqb (length terms % 16) 0) refl
     where
       go : (m : Bool) → modes-good (own .modes) modes ≡ m → (t : Bool) → eqb (length terms % 16) 0 ≡ t

@@ -29,4 +29,4 @@ module _ (most : ℕ) (small : most ≤ most-modes) (modes : ℕ) (terms read : 
   refusal-says refusal e =
       let own : Own = record { modes = most; work = row-width * most-terms; rows = 4 * most } in
       let handed = sym (resume-outright own (omega arith) (omega arith) modes terms read given) ∙ e in
-      result-says refusal result (refused-place modes (term-numbers terms) (rooms-in own given) small read refusal handed) (ap result-of e)
+      result-says refusal result (refused-place modes 0 (term-numbers terms) (rooms-in own given) small read refusal handed) (ap result-of e)

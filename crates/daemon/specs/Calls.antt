@@ -5,6 +5,7 @@ use Prim.Native.Nat.{ℕ, _+_, _*_, _%_}
 use lib.Dec.{eqb, leb}
 use lib.ListN.{length}
 use Rattle.refusal.specs.declared.Refusal.the-variants.{Modes, TermNumbers, Room}
+use Rattle.terms.specs.declared.rules.Rule.the-variants.{Published}
 use Rattle.terms.specs.Job.{job-of}
 use Rattle.terms.specs.Good.{modes-good, checked}
 use Rattle.terms.specs.declared.checking.Checked.{Checked}
@@ -27,11 +28,11 @@ unfoldable pub roomy : ℕ → Lent → Bool
 roomy modes given =
     leb (8 * modes) (length (given .rows)) && (leb (16 + 21 * modes) (length (given .journal)) && leb 32 (length (given .answer)))
 
--- 3 and 4 of the terms, then 5, then the journal's lines.
+-- 3 and 4 of the terms, then 5, then the journal's lines; "the C calls keep the published rule".
 unfoldable pub with-terms : ℕ → List ℕ → List ℕ → Lent → Checked → Outcome
 with-terms modes numbers read given (Good count) =
     cond (not (roomy modes given)) (refuses Room)
-    (with-journal (job-of modes count numbers) read (obeyed (job-of modes count numbers) read))
+    (with-journal (job-of modes Published count numbers) read (obeyed (job-of modes Published count numbers) read))
 with-terms modes numbers read given (BadTerms refusal) = refuses refusal
 
 -- The meaning of `dewgoblin_resume`, from the most modes that it takes, the modes, the terms' bytes, the journal read and what is lent: 1,

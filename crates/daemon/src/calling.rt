@@ -25,10 +25,10 @@ fn resume_numbers(
     answer: &mut [u8],
 ) -> u64
     requires { ⌜ (2 * length (now own) ≤ length (now rows)) × (1 ≤ length (now own) → 32 ≤ length (now answer)) ⌝ }
-    ensures { λ r. ⌜ Called (λ given. resumed (rooms-of most-modes (run-lent (now (work .entry)) (now (own .entry)) (given .journal))) modes (now (terms .entry)) (now (read .entry)))
+    ensures { λ r. ⌜ Called (λ given. resumed (rooms-of most-modes (run-lent (now (work .entry)) (now (own .entry)) (given .journal))) modes 0 (now (terms .entry)) (now (read .entry)))
         (lent (now (rows .entry)) (now (journal .entry)) (now (answer .entry))) (lent (now (rows .exit)) (now (journal .exit)) (now (answer .exit))) r ⌝ }
 {
-    match resuming::resume(modes, terms, read, work, own, journal) {
+    match resuming::resume(modes, 0, terms, read, work, own, journal) {
         Answer::Refused(why) => call_bytes::refusal_result(why),
         Answer::Done(numbers) => {
             answering::put_done(modes, own, numbers, rows, answer);

@@ -8,6 +8,9 @@ use Rattle.lists.specs.Members.{every, alike}
 use Rattle.entities.specs.Codes.{absent}
 use Rattle.entities.specs.Limits.{most-modes}
 use Rattle.fields.specs.Texts.{spelt}
+use Rattle.terms.specs.declared.rules.Rule.{Rule}
+use Rattle.terms.specs.declared.rules.Rule.the-variants.{Published, Keep}
+use Rattle.terms.specs.Rules.{rule-number}
 use Rattle.history.specs.Trials.{trial-total}
 use Rattle.journal.specs.Resuming.{Outcome, resumed}
 use Rattle.journal.specs.Promises.{numbers-of, returned, lent, lent-then}
@@ -15,6 +18,7 @@ use Rattle.tree_weight.specs.Weight.{tree-weighed, weight-numbers}
 use Rattle.topphatt.specs.Answer.{asked, outcome}
 use Rattle.topphatt.specs.Promises.{numbers-of as assign-numbers, returned as assigned, lent as assign-lent, lent-then as assign-left}
 use Rattle.newick.specs.Writing.{newick-text}
+use Rattle.terms_text.specs.Jobs.{request}
 use Rattle.text.specs.Running.{program-rooms}
 use Rattle.text.specs.Output.{answer-text}
 use Rattle.steering.specs.Steering.{steer-text}
@@ -48,12 +52,15 @@ holds case =
     alike (case .says .numbers) (case .shown .numbers)
     && (alike (case .says .rows) (case .shown .rows) && alike (case .says .lines) (case .shown .lines))
 
--- Rows of one, two and four indices.
+-- Rows of one, two, three and four indices.
 abbrev pub one : ℕ → List ℕ
 one a = 1 ∷ a ∷ 0 ∷ 0 ∷ 0 ∷ 0 ∷ 0 ∷ 0 ∷ []
 
 abbrev pub two : ℕ → ℕ → List ℕ
 two a b = 2 ∷ a ∷ b ∷ 0 ∷ 0 ∷ 0 ∷ 0 ∷ 0 ∷ []
+
+abbrev pub three : ℕ → ℕ → ℕ → List ℕ
+three a b c = 3 ∷ a ∷ b ∷ c ∷ 0 ∷ 0 ∷ 0 ∷ 0 ∷ []
 
 abbrev pub four : ℕ → ℕ → ℕ → ℕ → List ℕ
 four a b c d = 4 ∷ a ∷ b ∷ c ∷ d ∷ 0 ∷ 0 ∷ 0 ∷ []
@@ -74,10 +81,14 @@ tree3 = 2 ∷ 3 ∷ 4 ∷ 0 ∷ 5 ∷ absent ∷ []
 abbrev pub nodes3 : List ℕ
 nodes3 = spelt "node\t1\t0\t5\t-\nnode\t0\t2\t3\t4\n"
 
--- What resuming means; the rooms for work and rows are as 01 asks for.
-unfoldable pub meant : ℕ → List ℕ → List ℕ → ℕ → Outcome
-meant modes terms journal room =
-    resumed (record { modes = most-modes; work = length terms; rows = 4 * modes; journal = room }) modes terms journal
+-- What resuming by a rule means; the rooms for work and rows are as 01 asks for.
+unfoldable pub meant-by : Rule → ℕ → List ℕ → List ℕ → ℕ → Outcome
+meant-by rule modes terms journal room =
+    resumed (record { modes = most-modes; work = length terms; rows = 4 * modes; journal = room }) modes (rule-number rule) terms journal
+
+-- The same by the published rule.
+abbrev pub meant : ℕ → List ℕ → List ℕ → ℕ → Outcome
+meant modes terms journal room = meant-by Published modes terms journal room
 
 -- What resuming shows: refusal, place, weight, trials, kept and new bytes.
 unfoldable pub resuming : Outcome → Seen
@@ -93,10 +104,10 @@ told numbers = record { numbers = numbers; rows = []; lines = [] }
 unfoldable pub weighing : ℕ → List ℕ → List ℕ → Seen
 weighing modes tree terms = told (weight-numbers (tree-weighed most-modes modes tree terms))
 
--- What assigning shows under `min_weight`: refusal, place, weight.
+-- What assigning shows under `min_weight` and the published rule: refusal, place, weight.
 unfoldable pub assigning : ℕ → List ℕ → List ℕ → Seen
 assigning modes tree terms =
-    let came = outcome (record { modes = most-modes; work = length terms; table = length tree }) (asked modes tree 0 terms) in
+    let came = outcome (record { modes = most-modes; work = length terms; table = length tree }) (asked modes (rule-number Published) tree 0 terms) in
     record { numbers = assign-numbers (assigned came); rows = assign-left came (assign-lent [] []) .table; lines = [] }
 
 -- Nothing but lines.
@@ -157,13 +168,13 @@ cases =
     ∷ shows (printed (hatt-strings-text program-rooms input3)) [] [] (spelt "0\tXX\n1\tYX\n2\tZX\n3\tIY\n")
     ∷ shows (printed (tree-strings-text most-modes nodes3)) [] [] (spelt "0\tXX\n1\tYX\n2\tZX\n3\tIY\n")
     -- P5's journal as the command `steer` makes it of one merge; what `reason` tells of P6's line
-    ∷ shows (printed (steer-text program-rooms input3 (spelt "0\t1\t4\n"))) [] [] (spelt "hatt\t1\t2\t3\n0\t0\t1\t4\t2\n")
-    ∷ shows (printed (reason-text program-rooms input3 (spelt "hatt\t1\t2\t3\n0\t0\t1\t4\t1\n"))) [] [] (spelt "weight\t2\n")
+    ∷ shows (printed (steer-text program-rooms (request Published input3) (spelt "0\t1\t4\n"))) [] [] (spelt "hatt\t1\t2\t3\n0\t0\t1\t4\t2\n")
+    ∷ shows (printed (reason-text program-rooms (request Published input3) (spelt "hatt\t1\t2\t3\n0\t0\t1\t4\t1\n"))) [] [] (spelt "weight\t2\n")
     -- P3's first step, of 0, 1 and 2, as `letters` tells it: all three stand in the third term, so it has none
-    ∷ shows (printed (letters-text program-rooms input3 [] (spelt "0"))) [] [] (spelt "0\tZ\n1\tZ\n2\t-\n")
+    ∷ shows (printed (letters-text program-rooms (request Published input3) [] (spelt "0"))) [] [] (spelt "0\tZ\n1\tZ\n2\t-\n")
     -- P3's tree as `weigh` reads and prints it, and P8 as `assign` does
     ∷ shows (printed (weigh-text program-rooms nodes3 input3)) [] [] (spelt "weight\t4\n")
-    ∷ shows (printed (assign-text program-rooms nodes3 (spelt "min_weight") (spelt "modes\t2\nterm\t1\n"))) [] []
+    ∷ shows (printed (assign-text program-rooms nodes3 (spelt "min_weight") (request Published (spelt "modes\t2\nterm\t1\n")))) [] []
     (spelt "weight\t0\nnode\t1\t0\t3\t-\nnode\t0\t4\t5\t2\n")
     -- P1 called from C: 0, then weight 1, trials 2, nothing kept, 21 bytes new
     ∷ shows
@@ -172,6 +183,13 @@ cases =
     (bytes-lent (replicate 8 0) (replicate 37 0) (replicate 32 0))))
     (0 ∷ (eight 1 ++ (eight 2 ++ (eight 0 ++ eight 21)))) (0 ∷ 0 ∷ 1 ∷ 0 ∷ 2 ∷ 0 ∷ 255 ∷ 255 ∷ [])
     (spelt "hatt\t1\t1\t1\n0\t0\t1\t2\t1\n")
+    -- n=2, the one row 0 1 2: the first merge leaves only its parent. Dropped, it weighs nothing; kept, it weighs 1 at the second.
+    ∷ shows (resuming (meant 2 (three 0 1 2) [] 58)) (0 ∷ 0 ∷ 0 ∷ 14 ∷ 0 ∷ 31 ∷ []) (1 ∷ 0 ∷ 5 ∷ absent ∷ 0 ∷ 2 ∷ 3 ∷ 4 ∷ [])
+    (spelt "hatt\t1\t2\t1\n0\t0\t1\t2\t0\n1\t5\t3\t4\t0\n")
+    ∷ shows (resuming (meant-by Keep 2 (three 0 1 2) [] 58)) (0 ∷ 0 ∷ 1 ∷ 14 ∷ 0 ∷ 31 ∷ []) (1 ∷ 0 ∷ 5 ∷ absent ∷ 0 ∷ 2 ∷ 3 ∷ 4 ∷ [])
+    (spelt "keep\t1\t2\t1\n0\t0\t1\t2\t0\n1\t5\t3\t4\t1\n")
+    -- The journal of the one given to the other: 7
+    ∷ shows (resuming (meant 2 (three 0 1 2) (spelt "keep\t1\t2\t1\n") 58)) (7 ∷ 0 ∷ 0 ∷ 0 ∷ 0 ∷ 0 ∷ []) [] []
     ∷ []
 
 -- The claim: every case of the table holds.

@@ -102,7 +102,7 @@ fn same_written(
     work: &mut [u16],
     table: &mut [u16],
 ) -> bool {
-    let answer = topphatt::assign(modes, tree, heuristic, terms, work, table);
+    let answer = topphatt::assign(modes, 0, tree, heuristic, terms, work, table);
     let Assigned::Weight(sum) = answer else {
         return false;
     };

@@ -64,7 +64,7 @@ fn same_written(
     written: &mut [u16],
     journal: &mut [u8],
 ) -> bool {
-    let answer = resuming::hatt(modes, terms, work, written, journal);
+    let answer = resuming::hatt(modes, 0, terms, work, written, journal);
     let Answer::Done(numbers) = answer else {
         return false;
     };

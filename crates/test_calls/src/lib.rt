@@ -11,16 +11,19 @@ use newick::reading::NewickRead;
 use newick::writing;
 use terms::checking;
 use terms::checking::Checked;
+use terms::rules;
+use terms::rules::Rule;
 use terms::weight;
 use topphatt::Assigned;
 use tree::TreeChecked;
 use tree::TreeWritten;
 use tree_weight::TreeWeighed;
 
-// The triple weighed in the rows, and the rows reduced to its parent where they stand; the refusal of the rows as terms follows, and the weight.
+// The triple weighed in the rows, and the rows reduced to its parent by the rule of this number where they stand; the refusal of the rows as terms follows, and the weight.
 #[no_mangle]
 pub extern "C" fn test_merge(
     modes: usize,
+    rule: usize,
     rows: &mut [u16],
     x: u16,
     y: u16,
@@ -29,18 +32,21 @@ pub extern "C" fn test_merge(
     answer: &mut [u64],
 ) {
     match checking::check_terms(modes, rows) {
-        Checked::Good(count) => put_merge(rows, count, Triple { x: x, y: y, z: z }, parent, answer),
+        Checked::Good(count) => {
+            let triple = Triple { x: x, y: y, z: z };
+            put_merge(rows, count, rules::rule_of(rule), triple, parent, answer)
+        }
         Checked::Refused(refusal) => put(answer, refusal::number(refusal) as u64, 0, 0),
     }
 }
 
 // The same, of so many rows.
-fn put_merge(rows: &mut [u16], count: usize, triple: Triple, parent: u16, answer: &mut [u64])
+fn put_merge(rows: &mut [u16], count: usize, rule: Rule, triple: Triple, parent: u16, answer: &mut [u64])
     requires { ⌜ Held row-width count (now rows) ⌝ }
     requires { ⌜ count ≤ most-terms ⌝ }
 {
     let weighed = weight::weight(rows, count, triple);
-    reduction::reduce_hamiltonian(rows, count, parent, triple);
+    reduction::reduce_hamiltonian(rows, count, rule, parent, triple);
     put(answer, 0, weighed as u64, 0);
 }
 
@@ -48,6 +54,7 @@ fn put_merge(rows: &mut [u16], count: usize, triple: Triple, parent: u16, answer
 #[no_mangle]
 pub extern "C" fn test_resume(
     modes: usize,
+    rule: usize,
     terms: &[u16],
     read: &[u8],
     work: &mut [u16],
@@ -55,7 +62,7 @@ pub extern "C" fn test_resume(
     journal: &mut [u8],
     answer: &mut [u64],
 ) {
-    match resuming::resume(modes, terms, read, work, rows, journal) {
+    match resuming::resume(modes, rule, terms, read, work, rows, journal) {
         Answer::Done(numbers) => put_six(answer, 0, 0, numbers),
         Answer::Refused(refusal) => {
             put_six(
@@ -77,6 +84,7 @@ pub extern "C" fn test_resume(
 #[no_mangle]
 pub extern "C" fn test_assign(
     modes: usize,
+    rule: usize,
     tree: &[u16],
     heuristic: usize,
     terms: &[u16],
@@ -84,7 +92,7 @@ pub extern "C" fn test_assign(
     table: &mut [u16],
     answer: &mut [u64],
 ) {
-    match topphatt::assign(modes, tree, heuristic, terms, work, table) {
+    match topphatt::assign(modes, rule, tree, heuristic, terms, work, table) {
         Assigned::Weight(weight) => put(answer, 0, 0, weight),
         Assigned::Unassigned(refusal) => {
             put(

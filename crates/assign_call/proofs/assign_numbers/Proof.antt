@@ -21,7 +21,7 @@ refusal-result-requires : tie.Need-refusal-result-requires
 refusal-result-requires c κs =
     let start = c .before .before .before .before .before .before .before .before .before .before .before .before .before .before .before .before in
     let args = start .args in
-    let call = asked (args .modes) (args .tree .now) (args .heuristic) (args .terms .now) in
+    let call = asked (args .modes) 0 (args .tree .now) (args .heuristic) (args .terms .now) in
     let given = lent (args .work .now) (args .own .now) in
     let meant = outcome (rooms-of 256 given) call in
     let answers = c .before .before .before .before .before .before .before .assign .ensures in
@@ -34,7 +34,7 @@ put-assigned-requires : tie.Need-put-assigned-requires
 put-assigned-requires c κs =
     let start = c .before .before .before .before .before .before .before .before .before .before .before .before .before .before .before .before .before .before .before in
     let args = start .args in
-    let call = asked (args .modes) (args .tree .now) (args .heuristic) (args .terms .now) in
+    let call = asked (args .modes) 0 (args .tree .now) (args .heuristic) (args .terms .now) in
     let given = lent (args .work .now) (args .own .now) in
     let meant = outcome (rooms-of 256 given) call in
     let answers = c .before .before .before .before .before .before .before .before .before .before .assign .ensures in
@@ -54,7 +54,7 @@ returns : tie.Need-returns
 returns c =
     let start = c .before .before .before .before .before .before .before .before .before .before .before .before .before .before .before .before .before in
     let args = start .args in
-    let call = asked (args .modes) (args .tree .now) (args .heuristic) (args .terms .now) in
+    let call = asked (args .modes) 0 (args .tree .now) (args .heuristic) (args .terms .now) in
     let given = lent (args .work .now) (args .own .now) in
     let meant = outcome (rooms-of 256 given) call in
     let answers = c .before .before .before .before .before .before .before .before .assign .ensures in
@@ -76,7 +76,7 @@ returns-2 : tie.Need-returns-2
 returns-2 c =
     let start = c .before .before .before .before .before .before .before .before .before .before .before .before .before .before .before .before .before .before .before .before .before .before .before .before in
     let args = start .args in
-    let call = asked (args .modes) (args .tree .now) (args .heuristic) (args .terms .now) in
+    let call = asked (args .modes) 0 (args .tree .now) (args .heuristic) (args .terms .now) in
     let given = lent (args .work .now) (args .own .now) in
     let meant = outcome (rooms-of 256 given) call in
     let answers = c .before .before .before .before .before .before .before .before .before .before .before .before .before .before .before .assign .ensures in

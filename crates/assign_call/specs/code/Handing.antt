@@ -5,6 +5,8 @@ use mathlib.Core.List.{List, []}
 use Prim.Native.Nat.{ℕ, _*_}
 use lib.Dec.{eqb}
 use lib.ListN.{length}
+use Rattle.terms.specs.declared.rules.Rule.the-variants.{Published}
+use Rattle.terms.specs.Rules.{rule-number}
 use Rattle.topphatt.specs.Answer.{Outcome, asked, Rooms, outcome}
 use Rattle.call_bytes.specs.Bytes.{words}
 use Rattle.call_bytes.specs.code.Handing.{term-numbers, room-of}
@@ -25,4 +27,4 @@ table-rooms-in own given = record {
 -- Assigning, handed on.
 unfoldable pub assign-handed : Rooms → ℕ → List ℕ → ℕ → List ℕ → LentTable → Outcome
 assign-handed own modes tree heuristic terms given =
-    outcome (table-rooms-in own given) (asked modes (tree-numbers modes tree) heuristic (term-numbers terms))
+    outcome (table-rooms-in own given) (asked modes (rule-number Published) (tree-numbers modes tree) heuristic (term-numbers terms))

@@ -3,6 +3,8 @@
 use mathlib.Core.List.{List}
 use Prim.Native.Nat.{ℕ}
 use lib.ListN.{length}
+use Rattle.terms.specs.declared.rules.Rule.the-variants.{Published}
+use Rattle.terms.specs.Rules.{rule-number}
 use Rattle.journal.specs.Resuming.{Outcome, Rooms, resumed}
 use Rattle.call_bytes.specs.code.Handing.{term-numbers, room-of}
 use Rattle.daemon.specs.Calls.{Lent}
@@ -27,4 +29,4 @@ rooms-in own given = record {
 
 -- Resuming, handed on.
 unfoldable pub resume-handed : Own → ℕ → List ℕ → List ℕ → Lent → Outcome
-resume-handed own modes terms read given = resumed (rooms-in own given) modes (term-numbers terms) read
+resume-handed own modes terms read given = resumed (rooms-in own given) modes (rule-number Published) (term-numbers terms) read

@@ -20,7 +20,7 @@ refusal-result-requires c κs =
     let start = c .before .before .before .before .before .before .before .before .before .before .before .before .before .before .before .before .before .before .before .before in
     let args = start .args in
     let answers = c .before .before .before .before .before .before .before .before .before .resume .ensures in
-    refused-place (args .modes) (args .terms .now) (rooms-of 256 (run-lent (args .work .now) (args .own .now) (args .journal .now))) (omega arith) (args .read .now) _
+    refused-place (args .modes) 0 (args .terms .now) (rooms-of 256 (run-lent (args .work .now) (args .own .now) (args .journal .now))) (omega arith) (args .read .now) _
     (why-refused (args .modes) (args .terms .now) (args .read .now) (args .work .now) (args .own .now) (args .rows .now) (args .journal .now) (args .answer .now) _ _ _ _ answers _ (c .before .why .given .1))
 
 enum-known-numbers : tie.Need-enum-known-numbers
