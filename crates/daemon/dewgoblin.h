@@ -34,6 +34,7 @@
  * A JOURNAL is text. Its lines end in a line feed, its fields are parted by one tab, and its numbers are decimal, one to
  * five digits, at most 65535, without leading zeros. Its first line, line 0, is the header:
  *     hatt  1  n  terms                 the word hatt, the number 1, the modes and the count of rows
+ * (Journals of the keeping rule, which these calls don't have, say keep instead of hatt and are refused by 7.)
  * Each line behind it is one merge:
  *     step  x  y  z  weight             the step's number from 0, the three entities, the weight
  * A journal is protected line by line: a line is obeyed only where its step is the next one, its merge lawful and its weight
@@ -83,7 +84,7 @@ enum {
     DEWGOBLIN_BAD_ROW = 4,         /* the first bad row; its place is that row, counted from 0 */
     DEWGOBLIN_ROOM = 5,            /* a slice that is written is below its room */
     DEWGOBLIN_LINE_FORM = 6,       /* a journal line breaks the form; for 6 to 12 the place is the line, counted from 0 */
-    DEWGOBLIN_HEADER = 7,          /* the journal's header says other modes or another count of terms; place 0 */
+    DEWGOBLIN_HEADER = 7,          /* the journal's header says other modes, another count of terms or the word keep; place 0 */
     DEWGOBLIN_STEP_NOT_NEXT = 8,   /* the line's step isn't the next one */
     DEWGOBLIN_CHILD_NOT_OPEN = 9,  /* a child of the line isn't open */
     DEWGOBLIN_NOT_LAWFUL = 10,     /* the line's merge isn't lawful; also where two of its open children are one */

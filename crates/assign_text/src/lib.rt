@@ -168,7 +168,15 @@ pub fn assign_answer(rule: Rule, tree: &[u8], heuristic: &[u8], input: &[u8]) ->
     let mut rows = [0u16; 1024];
     let mut table = [0u16; 768];
     let mut bytes = [0u8; 16384];
-    let count = print_assign(rule, tree, heuristic, input, &mut rows, &mut table, &mut bytes);
+    let count = print_assign(
+        rule,
+        tree,
+        heuristic,
+        input,
+        &mut rows,
+        &mut table,
+        &mut bytes,
+    );
     Printed {
         bytes: bytes,
         count: count,

@@ -187,7 +187,16 @@ pub fn resume(
     }
     match checking::check_terms(modes, terms) {
         Checked::Refused(refusal) => Answer::Refused(refusal),
-        Checked::Good(count) => resume_good(modes, rules::rule_of(rule), count, terms, read, work, rows, journal),
+        Checked::Good(count) => resume_good(
+            modes,
+            rules::rule_of(rule),
+            count,
+            terms,
+            read,
+            work,
+            rows,
+            journal,
+        ),
     }
 }
 

@@ -138,7 +138,13 @@ pub fn obey(modes: usize, rule: Rule, count: usize, rows: &mut [u16], read: &[u8
 }
 
 // Merges by hand obeyed from the first state on.
-pub fn obey_by_hand(modes: usize, rule: Rule, count: usize, rows: &mut [u16], read: &[u8]) -> Obeying
+pub fn obey_by_hand(
+    modes: usize,
+    rule: Rule,
+    count: usize,
+    rows: &mut [u16],
+    read: &[u8],
+) -> Obeying
     requires { ⌜ (1 ≤ modes) × (modes ≤ most-modes) × (count ≤ most-terms) ⌝ }
     requires { ⌜ Held row-width count (now rows) ⌝ }
     ensures { λ r. ⌜ Obeys (job-of modes rule count (now (rows .entry))) (obeyed-by-hand (job-of modes rule count (now (rows .entry))) (now (read .entry))) (now (rows .entry)) (now (rows .exit)) r ⌝ }

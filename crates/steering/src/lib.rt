@@ -48,7 +48,14 @@ fn put_journal(
 }
 
 // Merges by hand obeyed on the rows of good terms, and their journal or the refusal printed over the front.
-fn steer_job(modes: usize, rule: Rule, count: usize, rows: &mut [u16], merges: &[u8], out: &mut [u8]) -> usize
+fn steer_job(
+    modes: usize,
+    rule: Rule,
+    count: usize,
+    rows: &mut [u16],
+    merges: &[u8],
+    out: &mut [u8],
+) -> usize
     requires { ⌜ (1 ≤ modes) × (modes ≤ most-modes) × (count ≤ most-terms) × Held row-width count (now rows) ⌝ }
     requires { ⌜ length (now out) ≡ printed-room ⌝ }
     ensures { λ r. ⌜ Puts (steer-printed (steered-as (job-of modes rule count (now (rows .entry))) (now (merges .entry)) (obeyed-by-hand (job-of modes rule count (now (rows .entry))) (now (merges .entry))))) (now (out .entry)) (now (out .exit)) r ⌝ }
@@ -62,7 +69,13 @@ fn steer_job(modes: usize, rule: Rule, count: usize, rows: &mut [u16], merges: &
 }
 
 // The same for a text's terms, in lent room for their numbers.
-fn print_steered(rule: Rule, input: &[u8], merges: &[u8], numbers: &mut [u16], out: &mut [u8]) -> usize
+fn print_steered(
+    rule: Rule,
+    input: &[u8],
+    merges: &[u8],
+    numbers: &mut [u16],
+    out: &mut [u8],
+) -> usize
     requires { ⌜ (length (now numbers) ≡ row-width * most-terms) × (length (now out) ≡ printed-room) ⌝ }
     ensures { λ r. ⌜ Puts (steer-text program-rooms (request rule (now (input .entry))) (now (merges .entry))) (now (out .entry)) (now (out .exit)) r ⌝ }
 {

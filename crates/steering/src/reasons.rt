@@ -78,7 +78,14 @@ fn put_refused(run: Run, rows: &[u16], why: Refusal, read: &[u8], out: &mut [u8]
 }
 
 // A journal obeyed on the rows of good terms, and what its refused line lacks.
-fn reason_job(modes: usize, rule: Rule, count: usize, rows: &mut [u16], read: &[u8], out: &mut [u8]) -> usize
+fn reason_job(
+    modes: usize,
+    rule: Rule,
+    count: usize,
+    rows: &mut [u16],
+    read: &[u8],
+    out: &mut [u8],
+) -> usize
     requires { ⌜ (1 ≤ modes) × (modes ≤ most-modes) × (count ≤ most-terms) × Held row-width count (now rows) ⌝ }
     requires { ⌜ length (now out) ≡ printed-room ⌝ }
     ensures { λ r. ⌜ Puts (reason-in (job-of modes rule count (now (rows .entry))) (now (read .entry)) (obeyed (job-of modes rule count (now (rows .entry))) (now (read .entry)))) (now (out .entry)) (now (out .exit)) r ⌝ }

@@ -41,7 +41,14 @@ pub extern "C" fn test_merge(
 }
 
 // The same, of so many rows.
-fn put_merge(rows: &mut [u16], count: usize, rule: Rule, triple: Triple, parent: u16, answer: &mut [u64])
+fn put_merge(
+    rows: &mut [u16],
+    count: usize,
+    rule: Rule,
+    triple: Triple,
+    parent: u16,
+    answer: &mut [u64],
+)
     requires { ⌜ Held row-width count (now rows) ⌝ }
     requires { ⌜ count ≤ most-terms ⌝ }
 {

@@ -42,7 +42,15 @@ fn run_terms(
     ensures { λ r. ⌜ Runs most-modes (ran-by program-rooms rule (given modes (now (numbers .entry))) (now (read .entry)))
         (lent (now (rows .entry)) (now (journal .entry))) (lent (now (rows .exit)) (now (journal .exit))) r ⌝ }
 {
-    match resuming::resume(modes, rules::number(rule), numbers, read, work, rows, journal) {
+    match resuming::resume(
+        modes,
+        rules::number(rule),
+        numbers,
+        read,
+        work,
+        rows,
+        journal,
+    ) {
         Answer::Refused(refusal) => Ran::Refused(refusal),
         Answer::Done(found) => Ran::Done(Run {
             modes: modes,

@@ -71,7 +71,16 @@ fn assign_pairs<'a>(
     requires { ⌜ Held row-width count (now rows) ⌝ }
     ensures { λ r. ⌜ Tabled modes count (now (tree .entry)) (ended (task-with modes rule (now (tree .entry)) heuristic (terms-of row-width count (now (rows .entry))))) (now (rows .entry)) (now (table .entry)) (now (rows .exit)) (now (table .exit)) r ⌝ }
 {
-    let weight = rounds::topphatt(modes, rule, tree, distances, heuristic, rows, count, assigned);
+    let weight = rounds::topphatt(
+        modes,
+        rule,
+        tree,
+        distances,
+        heuristic,
+        rows,
+        count,
+        assigned,
+    );
     write_table(modes, tree, assigned, table);
     weight
 }
@@ -149,7 +158,16 @@ fn assign_good(
     if table.len() < 3 * modes {
         return Assigned::Unassigned(Refusal::Room);
     }
-    assign_in(modes, rules::rule_of(rule), tree, heuristic, terms, count, work, table)
+    assign_in(
+        modes,
+        rules::rule_of(rule),
+        tree,
+        heuristic,
+        terms,
+        count,
+        work,
+        table,
+    )
 }
 
 // The answer where the tree and the heuristic are good.
@@ -167,7 +185,16 @@ fn assign_accepted(
 {
     match checking::check_terms(modes, terms) {
         Checked::Refused(refusal) => Assigned::Unassigned(refusal),
-        Checked::Good(count) => assign_good(modes, rule, tree, heuristic, terms, count, work, table),
+        Checked::Good(count) => assign_good(
+            modes,
+            rule,
+            tree,
+            heuristic,
+            terms,
+            count,
+            work,
+            table,
+        ),
     }
 }
 

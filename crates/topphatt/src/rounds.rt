@@ -162,7 +162,16 @@ pub fn topphatt<'a>(
         if is_finished(modes, assigned) {
             return progress.weight;
         }
-        progress = round(modes, rule, tree, distances, heuristic, rows, assigned, progress);
+        progress = round(
+            modes,
+            rule,
+            tree,
+            distances,
+            heuristic,
+            rows,
+            assigned,
+            progress,
+        );
     }
     progress.weight
 }

@@ -70,12 +70,12 @@ fn hatt(kind: &str, modes: usize, count: usize, shape: Shape) {
         if modes > SHORT_MODES { 1 } else { RUNS },
         || {
             let (mut work, mut rows, mut journal) = lent();
-            proved::resume(modes, &numbers, &[], &mut work, &mut rows, &mut journal)[2]
+            proved::resume(modes, 0, &numbers, &[], &mut work, &mut rows, &mut journal)[2]
         },
         || oracle::hatt(modes, &terms).1 as u64,
         || {
             let (mut work, mut rows, mut journal) = lent();
-            let done = plain::hatt(modes, &numbers, &mut work, &mut rows, &mut journal);
+            let done = plain::hatt(modes, 0, &numbers, &mut work, &mut rows, &mut journal);
             done.expect("the terms are good").weight
         },
     );
@@ -93,12 +93,12 @@ fn assign(kind: &str, modes: usize, count: usize, shape: Shape) {
         RUNS,
         || {
             let (mut work, mut table) = lent();
-            proved::assign(modes, &tree, 0, &numbers, &mut work, &mut table)[2]
+            proved::assign(modes, 0, &tree, 0, &numbers, &mut work, &mut table)[2]
         },
         || oracle::assign(modes, &tree, 0, &terms).1 as u64,
         || {
             let (mut work, mut table) = lent();
-            let weight = plain::assign(modes, &tree, 0, &numbers, &mut work, &mut table);
+            let weight = plain::assign(modes, 0, &tree, 0, &numbers, &mut work, &mut table);
             weight.expect("tree and terms are good")
         },
     );

@@ -1,8 +1,8 @@
 //! The assignment of Majorana modes to the leaves of a given tree, round by round.
 
 use crate::merging::ABSENT;
-use crate::refusal::{check_rooms, demand, Refusal};
-use crate::terms::{read_terms, reduce_hamiltonian, weigh, Row};
+use crate::refusal::{check_modes, check_rooms, demand, Refusal};
+use crate::terms::{read_terms, reduce_hamiltonian, weigh, Row, Rule};
 use crate::tree::{read_tree, Child, Tree};
 use std::cmp::Reverse;
 
@@ -11,22 +11,25 @@ const X_FIRST: usize = 1;
 const Z_FIRST: usize = 2;
 
 /// Assigns, writes the table and returns "the sum of chosen weights". The order of refusals is
-/// 1, 13, 14, 15, 16 and then "17, 2, 3, 4, 5".
+/// 1, 20, 13, 14, 15, 16 and then "17, 2, 3, 4, 5".
 pub fn assign(
     modes: usize,
+    rule: usize,
     tree: &[u16],
     heuristic: usize,
     terms: &[u16],
     work: &mut [u16],
     table: &mut [u16],
 ) -> Result<u64, Refusal> {
+    check_modes(modes)?;
+    let rule = Rule::read(rule)?;
     let given = read_tree(modes, tree)?;
     demand(heuristic <= Z_FIRST, 17, 0)?;
     let rows = read_terms(modes, terms)?;
     // "Room: work 8T numbers; ... assignment tables 3n".
     check_rooms(&[(work.len(), terms.len()), (table.len(), 3 * modes)])?;
 
-    let mut rounds = Rounds::new(modes, &given, rows);
+    let mut rounds = Rounds::new(modes, rule, &given, rows);
     let mut weight = 0;
     // "The end is when no mode is unassigned."
     while !rounds.unassigned.is_empty() {
@@ -57,6 +60,7 @@ struct Choice {
 /// What the rounds know and change.
 struct Rounds {
     modes: usize,
+    rule: Rule,
     rows: Vec<Row>,
     /// The slots of each node: X, Y, Z.
     slots: Vec<[Slot; 3]>,
@@ -70,10 +74,11 @@ struct Rounds {
 }
 
 impl Rounds {
-    fn new(modes: usize, tree: &Tree, rows: Vec<Row>) -> Self {
+    fn new(modes: usize, rule: Rule, tree: &Tree, rows: Vec<Row>) -> Self {
         let slots_of = |node| [0, 1, 2].map(|edge| first_slot(tree.child(node, edge)));
         Rounds {
             modes,
+            rule,
             rows,
             slots: (0..modes).map(slots_of).collect(),
             partners: partners(modes, tree),
@@ -90,7 +95,7 @@ impl Rounds {
         self.remaining.retain(|&node| node != best.node);
         // "The rows are reduced to 2n+1+node."
         let rows = std::mem::take(&mut self.rows);
-        self.rows = reduce_hamiltonian(rows, self.number_of(best.node), best.triple);
+        self.rows = reduce_hamiltonian(rows, self.rule, self.number_of(best.node), best.triple);
         // "Then nodes whose every slot is a fixed leaf, a child or (Z) empty leave the round list
         // without a reduction."
         let slots = &self.slots;

@@ -7,25 +7,25 @@ use crate::letters::letter_lines;
 use crate::merging::{Merge, Merging, ABSENT};
 use crate::refusal::{check_modes, demand, Refusal, MOST_MODES};
 use crate::strings::strings;
-use crate::terms::{read_terms, Row};
+use crate::terms::{read_terms, Row, Rule};
 use crate::text::{node_lines, print_answer, print_refusal, read_input};
 use crate::tree::{check_tree, tree_weight};
 
 /// What a command prints for its file (JOURNAL, MERGES or TREE) and the terms on standard input;
-/// `word` is the heuristic of `assign` and the step of `letters`. None where there is no such command.
-pub fn command(name: &str, word: &str, file: &[u8], input: &[u8]) -> Option<Vec<u8>> {
+/// `word` is the heuristic of `assign` and the step of `letters`; `rule` is what `--keep` names. None where there is no such command.
+pub fn command(name: &str, word: &str, rule: Rule, file: &[u8], input: &[u8]) -> Option<Vec<u8>> {
     let printed = match name {
-        "journal" => go_on(input, &[]).map(|run| run.new),
-        "resume" => go_on(input, file).map(|run| run.tree),
-        "continue" => go_on(input, file).map(|run| run.new),
-        "steer" => steer(input, file),
-        "letters" => letters(input, file, word),
-        "assign" => assign_tree(input, file, word),
+        "journal" => go_on(rule, input, &[]).map(|run| run.new),
+        "resume" => go_on(rule, input, file).map(|run| run.tree),
+        "continue" => go_on(rule, input, file).map(|run| run.new),
+        "steer" => steer(rule, input, file),
+        "letters" => letters(rule, input, file, word),
+        "assign" => assign_tree(rule, input, file, word),
         "weigh" => weigh_tree(input, file),
         "check" => check_nodes(file),
         "strings" => strings_of_nodes(file),
-        "hatt_strings" => go_on(input, &[]).and_then(|run| strings_of_nodes(&run.nodes)),
-        "reason" => Ok(reason(input, file).unwrap_or_default()),
+        "hatt_strings" => go_on(rule, input, &[]).and_then(|run| strings_of_nodes(&run.nodes)),
+        "reason" => Ok(reason(rule, input, file).unwrap_or_default()),
         _ => return None,
     };
     Some(printed.unwrap_or_else(print_refusal).into_bytes())
@@ -38,12 +38,20 @@ struct Run {
     new: String,
 }
 
-fn go_on(input: &[u8], read: &[u8]) -> Result<Run, Refusal> {
+fn go_on(rule: Rule, input: &[u8], read: &[u8]) -> Result<Run, Refusal> {
     let (modes, terms) = read_input(input)?;
     let mut work = vec![0; terms.len()];
     let mut rows = vec![0; 4 * modes];
     let mut journal = vec![0; 16 + 21 * modes];
-    let done = resume(modes, &terms, read, &mut work, &mut rows, &mut journal)?;
+    let done = resume(
+        modes,
+        rule as usize,
+        &terms,
+        read,
+        &mut work,
+        &mut rows,
+        &mut journal,
+    )?;
     journal.truncate(done.new);
     Ok(Run {
         tree: print_answer(done, &rows),
@@ -60,11 +68,11 @@ fn read_job(input: &[u8]) -> Result<(usize, Vec<Row>), Refusal> {
 }
 
 /// "Prints the journal of those merges, steps and true weights filled in".
-fn steer(input: &[u8], merges: &[u8]) -> Result<String, Refusal> {
+fn steer(rule: Rule, input: &[u8], merges: &[u8]) -> Result<String, Refusal> {
     let (modes, rows) = read_job(input)?;
     let mut journal = Vec::new();
-    write_header(&mut journal, modes, rows.len());
-    let mut merging = Merging::new(modes, rows);
+    write_header(&mut journal, rule, modes, rows.len());
+    let mut merging = Merging::new(modes, rule, rows);
     let lines = merges.split_inclusive(|&byte| byte == LINE_FEED);
     for (before, text) in lines.enumerate() {
         // "lines counted as in the journal that it would make": its line 0 is the header.
@@ -99,12 +107,13 @@ fn first_closed(merging: &Merging, triple: [u16; 3]) -> Option<u16> {
 
 /// What a journal's refusal by 8, 9 or 11 leaves out: the step that was due, the child that is not
 /// open, the true weight.
-fn reason(input: &[u8], journal: &[u8]) -> Option<String> {
+fn reason(rule: Rule, input: &[u8], journal: &[u8]) -> Option<String> {
     let (modes, rows) = read_job(input).ok()?;
-    let refusal = obey(modes, rows.clone(), journal).err()?;
+    let refusal = obey(modes, rule, rows.clone(), journal).err()?;
     let lines: Vec<&[u8]> = complete_lines(journal).collect();
     let good = lines[..refusal.place].concat();
-    let merging = obey(modes, rows, &good).expect("the lines before the first bad one are good");
+    let merging =
+        obey(modes, rule, rows, &good).expect("the lines before the first bad one are good");
     let said = read_merge(&fields(lines[refusal.place]))?;
     match refusal.number {
         8 => Some(format!("due\t{}\n", merging.merges().len())),
@@ -119,21 +128,21 @@ fn reason(input: &[u8], journal: &[u8]) -> Option<String> {
 
 /// "for a step of the run that the journal leads to …, each row that is live before it by its
 /// place"; where there is no such step, how many there are.
-fn letters(input: &[u8], journal: &[u8], word: &str) -> Result<String, Refusal> {
+fn letters(rule: Rule, input: &[u8], journal: &[u8], word: &str) -> Result<String, Refusal> {
     let (modes, rows) = read_job(input)?;
-    let mut merging = obey(modes, rows.clone(), journal)?;
+    let mut merging = obey(modes, rule, rows.clone(), journal)?;
     while !merging.is_finished() {
         merging.step();
     }
     let step = read_number(word.as_bytes()).map(usize::from);
     Ok(match step.filter(|&step| step < modes) {
-        Some(step) => letter_lines(modes, &rows, merging.merges(), step),
+        Some(step) => letter_lines(modes, rule, &rows, merging.merges(), step),
         None => format!("steps\t{modes}\n"),
     })
 }
 
 /// `weight` and the sum of chosen weights, then the nodes "in the order of TREE's lines".
-fn assign_tree(input: &[u8], tree: &[u8], heuristic: &str) -> Result<String, Refusal> {
+fn assign_tree(rule: Rule, input: &[u8], tree: &[u8], heuristic: &str) -> Result<String, Refusal> {
     let nodes = read_nodes(tree)?;
     let (modes, terms) = read_input(input)?;
     let names = ["min_weight", "x_first", "z_first"];
@@ -143,7 +152,15 @@ fn assign_tree(input: &[u8], tree: &[u8], heuristic: &str) -> Result<String, Ref
     let mut work = vec![0; terms.len()];
     let mut table = vec![0; 3 * modes];
     let given = lay_out(&nodes);
-    let weight = assign(modes, &given, number, &terms, &mut work, &mut table)?;
+    let weight = assign(
+        modes,
+        rule as usize,
+        &given,
+        number,
+        &terms,
+        &mut work,
+        &mut table,
+    )?;
     let assigned = nodes.iter().map(|&[label, ..]| {
         let first = 3 * usize::from(label);
         [label, table[first], table[first + 1], table[first + 2]]

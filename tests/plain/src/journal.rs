@@ -2,7 +2,7 @@
 
 use crate::merging::{Merge, Merging};
 use crate::refusal::{check_modes, check_rooms, demand, Refusal};
-use crate::terms::{read_terms, Row, ROW_NUMBERS};
+use crate::terms::{read_terms, Row, Rule, ROW_NUMBERS};
 
 pub const TAB: u8 = 9;
 pub const LINE_FEED: u8 = 10;
@@ -19,17 +19,19 @@ pub struct Done {
 /// "The HATT call is resuming from an empty journal."
 pub fn hatt(
     modes: usize,
+    rule: usize,
     terms: &[u16],
     work: &mut [u16],
     rows: &mut [u16],
     journal: &mut [u8],
 ) -> Result<Done, Refusal> {
-    resume(modes, terms, &[], work, rows, journal)
+    resume(modes, rule, terms, &[], work, rows, journal)
 }
 
 /// Obeys the complete lines of `read`, goes on by greedy steps, and writes rows and new lines.
 pub fn resume(
     modes: usize,
+    rule: usize,
     terms: &[u16],
     read: &[u8],
     work: &mut [u16],
@@ -37,6 +39,7 @@ pub fn resume(
     journal: &mut [u8],
 ) -> Result<Done, Refusal> {
     check_modes(modes)?;
+    let rule = Rule::read(rule)?;
     let given = read_terms(modes, terms)?;
     // "Room: work 8T numbers; rows 4n; ... journal bytes 16 + 21n."
     check_rooms(&[
@@ -45,12 +48,12 @@ pub fn resume(
         (journal.len(), 16 + 21 * modes),
     ])?;
     let kept = kept_part(read);
-    let mut merging = obey(modes, given, kept)?;
+    let mut merging = obey(modes, rule, given, kept)?;
 
     // Nothing refuses from here on, so the lent slices may be written.
     let mut new = Vec::new();
     if kept.is_empty() {
-        write_header(&mut new, modes, terms.len() / ROW_NUMBERS);
+        write_header(&mut new, rule, modes, terms.len() / ROW_NUMBERS);
     }
     let trials = run(&mut merging, &mut new);
     work[..terms.len()].fill(0);
@@ -76,13 +79,13 @@ fn run(merging: &mut Merging, new: &mut Vec<u8>) -> u64 {
 }
 
 /// The state after the kept lines, or the refusal of the first bad one.
-pub fn obey(modes: usize, given: Vec<Row>, kept: &[u8]) -> Result<Merging, Refusal> {
+pub fn obey(modes: usize, rule: Rule, given: Vec<Row>, kept: &[u8]) -> Result<Merging, Refusal> {
     let terms = given.len();
-    let mut merging = Merging::new(modes, given);
+    let mut merging = Merging::new(modes, rule, given);
     for (line, text) in complete_lines(kept).enumerate() {
         let fields = fields(text);
         if line == 0 {
-            obey_header(modes, terms, &fields)?;
+            obey_header(modes, rule, terms, &fields)?;
         } else {
             obey_merge(&mut merging, line, &fields)?;
         }
@@ -90,15 +93,18 @@ pub fn obey(modes: usize, given: Vec<Row>, kept: &[u8]) -> Result<Merging, Refus
     Ok(merging)
 }
 
-/// "Header: `hatt`, `1`, n, T." Another word or version breaks the form.
-fn obey_header(modes: usize, terms: usize, fields: &[&[u8]]) -> Result<(), Refusal> {
-    let named = fields.len() == 4 && fields[0] == b"hatt" && fields[1] == b"1";
+/// "Header: `hatt`, `1`, n, T." A word that is no rule's or another version breaks the form, and "a
+/// header with the other rule's word is 7".
+fn obey_header(modes: usize, rule: Rule, terms: usize, fields: &[&[u8]]) -> Result<(), Refusal> {
+    let is_word = |word: &[u8]| word == b"hatt" || word == b"keep";
+    let named = fields.len() == 4 && is_word(fields[0]) && fields[1] == b"1";
     demand(named, 6, 0)?;
     let numbers = read_numbers(&fields[2..]).ok_or(Refusal {
         number: 6,
         place: 0,
     })?;
-    demand(numbers == [modes as u16, terms as u16], 7, 0)
+    let same = fields[0] == rule.word().as_bytes() && numbers == [modes as u16, terms as u16];
+    demand(same, 7, 0)
 }
 
 /// "Then one line a merge: step, x, y, z, weight." Refusals 6 and 8 to 11 come in the order of
@@ -177,8 +183,9 @@ pub fn read_number(field: &[u8]) -> Option<u16> {
     u16::try_from(number).ok()
 }
 
-pub fn write_header(new: &mut Vec<u8>, modes: usize, terms: usize) {
-    new.extend(format!("hatt\t1\t{modes}\t{terms}\n").bytes());
+pub fn write_header(new: &mut Vec<u8>, rule: Rule, modes: usize, terms: usize) {
+    let word = rule.word();
+    new.extend(format!("{word}\t1\t{modes}\t{terms}\n").bytes());
 }
 
 pub fn write_merge(new: &mut Vec<u8>, step: usize, merge: Merge) {

@@ -1,7 +1,7 @@
 //! The letters of a step: which Pauli each live row got.
 
 use crate::merging::Merge;
-use crate::terms::{replace, Row};
+use crate::terms::{replace, Row, Rule};
 use std::collections::HashSet;
 
 /// A row that is live, and its place among the input's.
@@ -24,7 +24,7 @@ pub fn letter(row: &[u16], triple: [u16; 3]) -> char {
 
 /// The rows that are live before a step, in their order, each by "the lowest input row that it
 /// stands for".
-fn live_before(modes: usize, rows: &[Row], merges: &[Merge]) -> Vec<Placed> {
+fn live_before(modes: usize, rule: Rule, rows: &[Row], merges: &[Merge]) -> Vec<Placed> {
     let mut live: Vec<Placed> = rows.iter().cloned().enumerate().collect();
     for (step, merge) in merges.iter().enumerate() {
         let parent = (2 * modes + 1 + step) as u16;
@@ -32,7 +32,7 @@ fn live_before(modes: usize, rows: &[Row], merges: &[Merge]) -> Vec<Placed> {
         live = live
             .into_iter()
             .map(|(place, row)| (place, replace(row, parent, merge.triple)))
-            .filter(|(_, row)| !row.iter().all(|&index| index == parent))
+            .filter(|(_, row)| !rule.drops(row, parent))
             .filter(|(_, row)| seen.insert(row.clone()))
             .collect();
     }
@@ -40,8 +40,14 @@ fn live_before(modes: usize, rows: &[Row], merges: &[Merge]) -> Vec<Placed> {
 }
 
 /// The lines of a step: a live row's place, a tab and its letter.
-pub fn letter_lines(modes: usize, rows: &[Row], merges: &[Merge], step: usize) -> String {
-    live_before(modes, rows, &merges[..step])
+pub fn letter_lines(
+    modes: usize,
+    rule: Rule,
+    rows: &[Row],
+    merges: &[Merge],
+    step: usize,
+) -> String {
+    live_before(modes, rule, rows, &merges[..step])
         .iter()
         .map(|(place, row)| format!("{place}\t{}\n", letter(row, merges[step].triple)))
         .collect()

@@ -1,6 +1,6 @@
 //! Merging: the lawful pairs of a state, the choice of a step, the merge itself, and the rows of the finished tree.
 
-use crate::terms::{reduce_hamiltonian, weigh, Row};
+use crate::terms::{reduce_hamiltonian, weigh, Row, Rule};
 use std::collections::VecDeque;
 
 /// "65535 for the one absent child".
@@ -16,6 +16,7 @@ pub struct Merge {
 /// The state of a run after some merges.
 pub struct Merging {
     modes: usize,
+    rule: Rule,
     rows: Vec<Row>,
     /// The open entities, ascending.
     open: Vec<u16>,
@@ -26,10 +27,11 @@ pub struct Merging {
 
 impl Merging {
     /// "Open entities start as all leaves." "a leaf's [z-end] is itself".
-    pub fn new(modes: usize, rows: Vec<Row>) -> Self {
+    pub fn new(modes: usize, rule: Rule, rows: Vec<Row>) -> Self {
         let leaves: Vec<u16> = (0..=2 * modes as u16).collect();
         Merging {
             modes,
+            rule,
             rows,
             open: leaves.clone(),
             z_ends: leaves,
@@ -127,7 +129,7 @@ impl Merging {
         self.open.retain(|entity| !merge.triple.contains(entity));
         self.open.push(parent);
         let rows = std::mem::take(&mut self.rows);
-        self.rows = reduce_hamiltonian(rows, parent, merge.triple);
+        self.rows = reduce_hamiltonian(rows, self.rule, parent, merge.triple);
         self.merges.push(merge);
     }
 

@@ -58,15 +58,44 @@ pub fn weigh(rows: &[Row], triple: [u16; 3]) -> u64 {
     rows.iter().map(|row| qubit_term_weight(row, triple)).sum()
 }
 
+/// "Under the published rule a row left with only the parent is dropped …. a second rule … keeps such rows".
+#[derive(Clone, Copy, Debug, PartialEq, Eq)]
+pub enum Rule {
+    Published,
+    Keep,
+}
+
+impl Rule {
+    /// 20 "where the rule isn't 0 (published) or 1 (keep)".
+    pub fn read(number: usize) -> Result<Self, Refusal> {
+        demand(number < 2, 20, 0)?;
+        Ok([Rule::Published, Rule::Keep][number])
+    }
+
+    /// "The header's first word becomes `keep` for the second rule."
+    pub fn word(self) -> &'static str {
+        match self {
+            Rule::Published => "hatt",
+            Rule::Keep => "keep",
+        }
+    }
+
+    /// "rows with all numbers equal to the parent (a single one too) are dropped", by the published rule.
+    pub fn drops(self, row: &[u16], parent: u16) -> bool {
+        self == Rule::Published && row.iter().all(|&index| index == parent)
+    }
+}
+
 /// "each of the three numbers becomes the parent, multiplicity kept, the row sorted; rows with all
-/// numbers equal to the parent (a single one too) are dropped; then equal rows become one".
+/// numbers equal to the parent (a single one too) are dropped", if the rule drops them; "then equal
+/// rows become one".
 ///
 /// Of equal rows the first stays where it is: a later request counts on that order.
-pub fn reduce_hamiltonian(rows: Vec<Row>, parent: u16, triple: [u16; 3]) -> Vec<Row> {
+pub fn reduce_hamiltonian(rows: Vec<Row>, rule: Rule, parent: u16, triple: [u16; 3]) -> Vec<Row> {
     let mut seen = HashSet::new();
     rows.into_iter()
         .map(|row| replace(row, parent, triple))
-        .filter(|row| !row.iter().all(|&index| index == parent))
+        .filter(|row| !rule.drops(row, parent))
         .filter(|row| seen.insert(row.clone()))
         .collect()
 }

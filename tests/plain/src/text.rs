@@ -25,7 +25,7 @@ fn answer(input: &[u8]) -> Result<(Done, Vec<u16>), Refusal> {
     let mut work = vec![0; terms.len()];
     let mut rows = vec![0; 4 * modes];
     let mut journal = vec![0; 16 + 21 * modes];
-    let done = hatt(modes, &terms, &mut work, &mut rows, &mut journal)?;
+    let done = hatt(modes, 0, &terms, &mut work, &mut rows, &mut journal)?;
     Ok((done, rows))
 }
 

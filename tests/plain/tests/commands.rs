@@ -4,6 +4,7 @@ mod common;
 
 use common::P3_JOURNAL;
 use plain::command;
+use plain::terms::Rule;
 
 const P3: &str = "modes\t2\nterm\t0\t1\nterm\t2\t3\nterm\t0\t1\t2\t3\n";
 const P3_NODES: &str = "node\t1\t0\t5\t-\nnode\t0\t2\t3\t4\n";
@@ -13,7 +14,13 @@ fn asked(name: &str, file: &str, terms: &str) -> String {
 }
 
 fn asked_with(name: &str, word: &str, file: &str, terms: &str) -> String {
-    let printed = command(name, word, file.as_bytes(), terms.as_bytes());
+    let printed = command(
+        name,
+        word,
+        Rule::Published,
+        file.as_bytes(),
+        terms.as_bytes(),
+    );
     String::from_utf8(printed.expect("a command")).unwrap()
 }
 
@@ -30,7 +37,10 @@ fn journals() {
     assert_eq!(asked("continue", &P3_JOURNAL[..11], P3), P3_JOURNAL[11..]);
     let tree = "weight\t4\ntrials\t14\n".to_string() + P3_NODES;
     assert_eq!(asked("resume", "", P3), tree);
-    assert_eq!(command("rezume", "", b"", P3.as_bytes()), None);
+    assert_eq!(
+        command("rezume", "", Rule::Published, b"", P3.as_bytes()),
+        None
+    );
 }
 
 /// P5: `0 0 1 4 2` is filled in, and resumed to its rows, weight and trials.
@@ -131,7 +141,10 @@ fn p8_and_p9_assigned() {
         let p9 = "weight\t2\n".to_string() + P3_NODES;
         assert_eq!(asked_with("assign", heuristic, P3_NODES, P3), p9);
     }
-    assert_eq!(asked_with("assign", "min", P3_NODES, P3), "refused\t17\t0\n");
+    assert_eq!(
+        asked_with("assign", "min", P3_NODES, P3),
+        "refused\t17\t0\n"
+    );
 }
 
 /// P3's and P4's tree weights.
@@ -240,7 +253,10 @@ fn order() {
     assert_eq!(both(nodes, "modes\t1\nterm\t9\n"), "refused\t14\t2\n");
     let good = "node\t0\t1\t2\t-\n";
     let bad_row = "modes\t1\nterm\t9\n";
-    assert_eq!(asked_with("assign", "no", good, bad_row), "refused\t17\t0\n");
+    assert_eq!(
+        asked_with("assign", "no", good, bad_row),
+        "refused\t17\t0\n"
+    );
     assert_eq!(
         asked_with("assign", "x_first", good, bad_row),
         "refused\t4\t0\n"

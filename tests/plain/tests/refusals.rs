@@ -147,7 +147,7 @@ fn every_byte_that_is_no_digit_breaks_a_number() {
         read.extend([byte, b'\n']);
         let mut lent = Lent::ample(2, &terms);
         let (work, rows, journal) = (&mut lent.work, &mut lent.rows, &mut lent.journal);
-        let answer = plain::resume(2, &terms, &read, work, rows, journal);
+        let answer = plain::resume(2, 0, &terms, &read, work, rows, journal);
         let refusal = Refusal {
             number: 6,
             place: 1,

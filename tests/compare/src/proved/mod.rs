@@ -5,6 +5,7 @@ pub mod c;
 extern "C" {
     fn test_merge(
         modes: usize,
+        rule: usize,
         rows: *mut u16,
         numbers: usize,
         x: u16,
@@ -16,6 +17,7 @@ extern "C" {
     );
     fn test_resume(
         modes: usize,
+        rule: usize,
         terms: *const u16,
         numbers: usize,
         read: *const u8,
@@ -31,6 +33,7 @@ extern "C" {
     );
     fn test_assign(
         modes: usize,
+        rule: usize,
         tree: *const u16,
         codes: usize,
         heuristic: usize,
@@ -88,13 +91,20 @@ extern "C" {
 }
 
 /// Weighs the triple in the rows, reduces them to its parent where they stand, and returns three numbers: the refusal of the rows as terms of so many modes, the weight, and zero.
-pub fn merge(modes: usize, rows: &mut [u16], triple: [u16; 3], parent: u16) -> [u64; 3] {
+pub fn merge(
+    modes: usize,
+    rule: usize,
+    rows: &mut [u16],
+    triple: [u16; 3],
+    parent: u16,
+) -> [u64; 3] {
     let mut answer = [u64::MAX; 3];
     let [x, y, z] = triple;
     // The library writes the rows and the three numbers within their lengths.
     unsafe {
         test_merge(
             modes,
+            rule,
             rows.as_mut_ptr(),
             rows.len(),
             x,
@@ -111,6 +121,7 @@ pub fn merge(modes: usize, rows: &mut [u16], triple: [u16; 3], parent: u16) -> [
 /// Resumes in the lent slices and returns six numbers: refusal, place, weight, trials, kept and new bytes.
 pub fn resume(
     modes: usize,
+    rule: usize,
     terms: &[u16],
     read: &[u8],
     work: &mut [u16],
@@ -122,6 +133,7 @@ pub fn resume(
     unsafe {
         test_resume(
             modes,
+            rule,
             terms.as_ptr(),
             terms.len(),
             read.as_ptr(),
@@ -142,6 +154,7 @@ pub fn resume(
 /// Assigns in the lent slices and returns three numbers: refusal, place, weight.
 pub fn assign(
     modes: usize,
+    rule: usize,
     tree: &[u16],
     heuristic: usize,
     terms: &[u16],
@@ -153,6 +166,7 @@ pub fn assign(
     unsafe {
         test_assign(
             modes,
+            rule,
             tree.as_ptr(),
             tree.len(),
             heuristic,

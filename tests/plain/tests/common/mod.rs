@@ -54,7 +54,7 @@ impl Lent {
 
     pub fn resume(&mut self, modes: usize, terms: &[u16], read: &str) -> Result<Done, Refusal> {
         let (work, rows, journal) = (&mut self.work, &mut self.rows, &mut self.journal);
-        plain::resume(modes, terms, read.as_bytes(), work, rows, journal)
+        plain::resume(modes, 0, terms, read.as_bytes(), work, rows, journal)
     }
 }
 
@@ -108,7 +108,7 @@ pub fn assigned_with(
 ) -> Result<(u64, Vec<u16>), (u16, usize)> {
     let mut work = vec![MARK; lengths.0];
     let mut table = vec![MARK; lengths.1];
-    match plain::assign(modes, tree, heuristic, terms, &mut work, &mut table) {
+    match plain::assign(modes, 0, tree, heuristic, terms, &mut work, &mut table) {
         Ok(weight) => {
             let (zeros, beyond) = work.split_at(terms.len());
             assert!(zeros.iter().all(|&number| number == 0));

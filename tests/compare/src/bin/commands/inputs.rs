@@ -3,7 +3,7 @@
 use crate::damage::damage_bytes;
 use compare::cases::{any_terms, flat, Random};
 use plain::merging::{Merge, Merging};
-use plain::terms::read_terms;
+use plain::terms::{read_terms, Rule};
 
 /// The modes of the next case: mostly few, so that every refusal is met often, and some many.
 pub fn any_modes(random: &mut Random) -> usize {
@@ -14,9 +14,10 @@ pub fn any_modes(random: &mut Random) -> usize {
     }
 }
 
-/// A job: its modes, and the run before its first merge.
+/// A job: its modes, its rule, and the run before its first merge.
 pub struct Job {
     pub modes: usize,
+    pub rule: Rule,
     pub rows: Vec<Vec<u16>>,
 }
 
@@ -28,7 +29,8 @@ impl Job {
 
     pub fn of(random: &mut Random, modes: usize, most_terms: usize) -> Self {
         let rows = any_terms(random, modes, most_terms);
-        Job { modes, rows }
+        let rule = random.one_of(&[Rule::Published, Rule::Keep]);
+        Job { modes, rule, rows }
     }
 
     /// The terms as the program's text.
@@ -49,7 +51,8 @@ impl Job {
             1 => {
                 let modes = random.one_of(&[0, 257, 65535, self.modes + 1]);
                 let rows = self.rows.clone();
-                Job { modes, rows }.text()
+                let rule = self.rule;
+                Job { modes, rule, rows }.text()
             }
             _ => damage_bytes(random, text),
         }
@@ -58,12 +61,18 @@ impl Job {
     /// A run that takes any lawful triple at each of so many steps.
     pub fn wandered(&self, random: &mut Random, steps: usize) -> Merging {
         let rows = read_terms(self.modes, &flat(&self.rows)).expect("good terms");
-        let mut merging = Merging::new(self.modes, rows);
+        let mut merging = Merging::new(self.modes, self.rule, rows);
         for _ in 0..steps {
             let triple = random.one_of(&merging.lawful_pairs());
             let weight = merging.weigh(triple);
             merging.merge(Merge { triple, weight });
         }
         merging
+    }
+
+    /// The header of a journal of the job.
+    pub fn header(&self) -> String {
+        let (word, count) = (self.rule.word(), self.rows.len());
+        format!("{word}\t1\t{}\t{count}\n", self.modes)
     }
 }

@@ -4,6 +4,7 @@ use crate::damage::{damage_bytes, damage_field, damage_lines, exchange_fields};
 use crate::inputs::Job;
 use crate::Question;
 use compare::cases::Random;
+use plain::terms::Rule;
 
 type Damage = fn(&mut Random, &Job, Vec<u8>) -> Vec<u8>;
 
@@ -36,7 +37,7 @@ pub fn each(random: &mut Random, ask: &mut dyn FnMut(Question)) {
             let good = journal(random, &job, steps);
             let file = damage(random, &job, good);
             let word = step_word(random, job.modes);
-            ask_all(kind, &word, &file, &job.text(), ask);
+            ask_all(kind, (job.rule, &word), &file, &job.text(), ask);
         }
     }
     for _ in 0..100 {
@@ -45,21 +46,24 @@ pub fn each(random: &mut Random, ask: &mut dyn FnMut(Question)) {
         let steps = random.between(0, job.modes);
         let mut file = journal(random, &job, steps);
         let (word, terms) = (step_word(random, job.modes), job.damaged_text(random));
-        ask_all("journals, terms damaged", &word, &file, &terms, ask);
+        ask_all("journals, terms damaged", (job.rule, &word), &file, &terms, ask);
+        let named = (Rule::read(1 - job.rule as usize).expect("a rule"), word.as_str());
+        ask_all("journals of the other rule", named, &file, &job.text(), ask);
         // the other job's header, so that its merges are looked at
-        let header = format!("hatt\t1\t{}\t{}\n", other.modes, other.rows.len());
+        let header = other.header();
         let first = file
             .iter()
             .position(|&byte| byte == b'\n')
             .expect("a header");
         file.splice(..=first, header.into_bytes());
-        ask_all("journals of other terms", &word, &file, &other.text(), ask);
+        let named = (other.rule, word.as_str());
+        ask_all("journals of other terms", named, &file, &other.text(), ask);
     }
 }
 
 /// The journal of so many merges, each any lawful one.
 fn journal(random: &mut Random, job: &Job, steps: usize) -> Vec<u8> {
-    let mut text = format!("hatt\t1\t{}\t{}\n", job.modes, job.rows.len());
+    let mut text = job.header();
     for (step, merge) in job.wandered(random, steps).merges().iter().enumerate() {
         let ([x, y, z], weight) = (merge.triple, merge.weight);
         text += &format!("{step}\t{x}\t{y}\t{z}\t{weight}\n");
@@ -91,7 +95,7 @@ fn step_word(random: &mut Random, modes: usize) -> String {
 
 fn ask_all(
     kind: &'static str,
-    step: &str,
+    (rule, step): (Rule, &str),
     file: &[u8],
     terms: &[u8],
     ask: &mut dyn FnMut(Question),
@@ -102,6 +106,7 @@ fn ask_all(
             kind,
             command,
             word: word.to_string(),
+            rule,
             file: file.to_vec(),
             terms: terms.to_vec(),
         });

@@ -10,13 +10,15 @@ mod trees;
 
 use compare::cases::Random;
 use compare::Kinds;
+use plain::terms::Rule;
 use program::Program;
 
-/// One question: the kind of its inputs, the command, its word (the heuristic of `assign`, the step of `letters`), the file and the terms.
+/// One question: the kind of its inputs, the command, its word (the heuristic of `assign`, the step of `letters`), its rule, the file and the terms.
 pub struct Question {
     pub kind: &'static str,
     pub command: &'static str,
     pub word: String,
+    pub rule: Rule,
     pub file: Vec<u8>,
     pub terms: Vec<u8>,
 }
@@ -47,7 +49,7 @@ fn main() {
 
 fn plainly(question: &Question) -> String {
     let (name, word) = (question.command, &question.word);
-    let printed = plain::command(name, word, &question.file, &question.terms);
+    let printed = plain::command(name, word, question.rule, &question.file, &question.terms);
     readable(&printed.expect("a command that there is"))
 }
 
@@ -69,7 +71,12 @@ fn outcome(command: &str, printed: &str) -> u16 {
 }
 
 fn describe(question: &Question) -> String {
-    let Question { command, word, .. } = question;
+    let Question {
+        command,
+        word,
+        rule,
+        ..
+    } = question;
     let (file, terms) = (readable(&question.file), readable(&question.terms));
-    format!("{command} {word}, file {file:?}, terms {terms:?}")
+    format!("{command} {word}, {rule:?}, file {file:?}, terms {terms:?}")
 }

@@ -5,6 +5,7 @@ use crate::inputs::Job;
 use crate::Question;
 use compare::cases::Random;
 use plain::merging::Merging;
+use plain::terms::Rule;
 
 type Damage = fn(&mut Random, &Job, Vec<u8>) -> Vec<u8>;
 
@@ -40,7 +41,7 @@ pub fn each(random: &mut Random, ask: &mut dyn FnMut(Question)) {
             let steps = random.between(0, job.modes);
             let good = by_hand(&job.wandered(random, steps));
             let file = damage(random, &job, good);
-            ask(steer(kind, file, job.text()));
+            ask(steer(kind, job.rule, file, job.text()));
         }
     }
     for _ in 0..200 {
@@ -48,23 +49,24 @@ pub fn each(random: &mut Random, ask: &mut dyn FnMut(Question)) {
         let steps = random.between(0, job.modes);
         let file = by_hand(&job.wandered(random, steps));
         let terms = job.damaged_text(random);
-        ask(steer("merges, terms damaged", file, terms));
+        ask(steer("merges, terms damaged", job.rule, file, terms));
     }
     // the most modes, and each number of lines at which 12 begins
     for modes in [100, 256] {
         let job = Job::of(random, modes, 30);
         let whole = by_hand(&job.wandered(random, modes));
         let more = [whole.as_slice(), b"0\t1\t2\n"].concat();
-        ask(steer("merges of 100 and 256 modes", whole, job.text()));
-        ask(steer("merges of 100 and 256 modes", more, job.text()));
+        ask(steer("merges of 100 and 256 modes", job.rule, whole, job.text()));
+        ask(steer("merges of 100 and 256 modes", job.rule, more, job.text()));
     }
 }
 
-fn steer(kind: &'static str, file: Vec<u8>, terms: Vec<u8>) -> Question {
+fn steer(kind: &'static str, rule: Rule, file: Vec<u8>, terms: Vec<u8>) -> Question {
     Question {
         kind,
         command: "steer",
         word: String::new(),
+        rule,
         file,
         terms,
     }

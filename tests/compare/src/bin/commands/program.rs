@@ -1,4 +1,4 @@
-//! The proved program, started as its starter does: the command and its word as arguments, the file on descriptor 3, the terms on standard input.
+//! The proved program, started as its starter does: the command, its word and its rule's as arguments, the file on descriptor 3, the terms on standard input.
 
 use crate::{readable, Question};
 use std::fs::{self, File};
@@ -28,9 +28,7 @@ impl Program {
         let mut command = Command::new("sh");
         command.args(["-c", "exec 3<\"$0\" \"$@\""]).arg(&file);
         command.args(&self.words).arg(question.command);
-        if !question.word.is_empty() {
-            command.arg(&question.word);
-        }
+        command.args([&question.word, question.rule.word()]);
         command.stdin(File::open(&terms).expect("a file"));
         let output = command.output().expect("the program starts");
         match output.stdout.split_last() {

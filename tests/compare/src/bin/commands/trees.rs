@@ -4,6 +4,7 @@ use crate::damage::{damage_bytes, damage_field, damage_lines, exchange_fields};
 use crate::inputs::Job;
 use crate::Question;
 use compare::cases::{any_tree, exchange_codes, replace_code, Random};
+use plain::terms::Rule;
 use plain::text::node_lines;
 
 type Damage = fn(&mut Random, &Job, Vec<u8>) -> Vec<u8>;
@@ -124,6 +125,7 @@ fn ask_all(
 ) {
     let known = random.below(6) > 0;
     let heuristic = random.one_of(if known { &HEURISTICS[..3] } else { &HEURISTICS });
+    let rule = random.one_of(&[Rule::Published, Rule::Keep]);
     for command in ["assign", "weigh", "check", "strings", "hatt_strings"] {
         // what a command doesn't read its starter doesn't give it
         let reads_terms = !matches!(command, "check" | "strings");
@@ -133,6 +135,7 @@ fn ask_all(
             kind,
             command,
             word: word.to_string(),
+            rule,
             file: if reads_tree { tree.to_vec() } else { vec![] },
             terms: if reads_terms { terms.to_vec() } else { vec![] },
         });

@@ -5,7 +5,7 @@ use crate::invariants::{hold, kept_part};
 use crate::tally::{equal, Tally};
 use compare::cases::{any_terms, flat, Random};
 use plain::merging::{Merge, Merging};
-use plain::terms::read_terms;
+use plain::terms::{read_terms, Rule};
 
 /// Unbroken runs of 1 to 12 modes and some larger, their journals cut at every byte.
 pub fn cut_everywhere(random: &mut Random, tally: &mut Tally) {
@@ -69,7 +69,7 @@ fn wander_once(random: &mut Random, tally: &mut Tally, modes: usize, last_lines:
 pub fn wandering(random: &mut Random, modes: usize, terms: &[u16]) -> Vec<u8> {
     let rows = read_terms(modes, terms).expect("good terms");
     let mut journal = format!("hatt\t1\t{modes}\t{}\n", rows.len());
-    let mut merging = Merging::new(modes, rows);
+    let mut merging = Merging::new(modes, Rule::Published, rows);
     for step in 0..modes {
         let triple = random.one_of(&merging.lawful_pairs());
         let weight = merging.weigh(triple);

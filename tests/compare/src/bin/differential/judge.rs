@@ -1,14 +1,14 @@
 //! A second reading of the journal, by text and not by bytes: a number is one that prints back as it stands.
 
 use plain::merging::{Merge, Merging};
-use plain::terms::read_terms;
+use plain::terms::{read_terms, Rule};
 use plain::Refusal;
 
 /// The state after the complete lines of a journal, or the refusal of the first bad one.
 pub fn judge(modes: usize, terms: &[u16], read: &[u8]) -> Result<Merging, Refusal> {
     let rows = read_terms(modes, terms)?;
     let header = format!("hatt\t1\t{modes}\t{}", rows.len());
-    let mut merging = Merging::new(modes, rows);
+    let mut merging = Merging::new(modes, Rule::Published, rows);
     // A byte that is no text becomes a mark that no line of good form holds.
     let text = String::from_utf8_lossy(read);
     let mut lines: Vec<&str> = text.split('\n').collect();

@@ -6,6 +6,7 @@ mod cuts;
 mod damage;
 mod invariants;
 mod judge;
+mod keeping;
 mod refused;
 mod rust;
 mod tally;
@@ -36,6 +37,9 @@ fn main() {
         hatt::on_counts,
         short::on_all_short,
         assign::on_every,
+        keeping::hatt,
+        keeping::cut_everywhere,
+        keeping::assign,
     ];
     // Each part has its own seed, so that a change to one leaves the inputs of the others alone.
     for (number, part) in parts.iter().enumerate() {

@@ -9,6 +9,7 @@ use compare::cases::{change_length, exchange_codes, replace_code};
 #[derive(Debug)]
 struct Given {
     modes: usize,
+    rule: usize,
     tree: Vec<u16>,
     heuristic: usize,
     terms: Vec<u16>,
@@ -22,8 +23,15 @@ pub fn assign_refused(random: &mut Random, tally: &mut Tally) {
             let given = damaged(random, modes);
             let size = 1000 * modes + given.terms.len();
             let comparison = || {
-                let Given { tree, terms, .. } = &given;
-                assign_in(given.modes, tree, given.heuristic, terms, given.rooms).map(|_| ())
+                let Given {
+                    modes,
+                    rule,
+                    tree,
+                    heuristic,
+                    terms,
+                    rooms,
+                } = &given;
+                assign_in(*rule, *modes, tree, *heuristic, terms, *rooms).map(|_| ())
             };
             let kind = "assign with damaged inputs";
             tally.compare(kind, size, || format!("{given:?}"), comparison);
@@ -59,8 +67,11 @@ fn damaged(random: &mut Random, modes: usize) -> Given {
         _ => {}
     }
     let modes = if random.below(12) == 0 { 257 } else { modes };
+    // 0 and 1 are the rules, any other is 20
+    let rule = random.one_of(&[0, 0, 0, 1, 1, 2, usize::MAX]);
     Given {
         modes,
+        rule,
         tree,
         heuristic,
         terms,

@@ -83,13 +83,26 @@ const CASES: &[Case] = &[
     ),
 ];
 
+/// The rule, and the rest as above: 20 in its turn, and a weight that differs by the rule.
+const RULES: &[(usize, Case)] = &[
+    (2, ("1 before 20", 0, &TREE, 0, &[], [1, 0, 0], &[])),
+    (2, ("20 before 13", 2, &[], 3, &[], [20, 0, 0], &[])),
+    (0, ("dropped, it weighs nothing", 2, &TREE, 0, &ONE, [0, 0, 0], &TREE)),
+    (1, ("kept, it weighs 1 at the root", 2, &TREE, 0, &ONE, [0, 0, 1], &TREE)),
+];
+
+/// The row 012.
+const ONE: [u16; 8] = [3, 0, 1, 2, 0, 0, 0, 0];
+
 pub fn hold(cases: &mut Cases) {
-    for &(what, modes, tree, heuristic, terms, answer, front) in CASES {
+    let published = CASES.iter().map(|case| (0, *case));
+    for (rule, case) in published.chain(RULES.iter().copied()) {
+        let (what, modes, tree, heuristic, terms, answer, front) = case;
         let ours = assigned(terms, |work, table| {
-            proved::assign(modes, tree, heuristic, terms, work, table)
+            proved::assign(modes, rule, tree, heuristic, terms, work, table)
         });
         let plainly = assigned(terms, |work, table| {
-            numbers(plain::assign(modes, tree, heuristic, terms, work, table))
+            numbers(plain::assign(modes, rule, tree, heuristic, terms, work, table))
         });
         let work = match answer[0] {
             0 => vec![0; terms.len()],

@@ -1,4 +1,4 @@
-//! P3's call resumed from journals: cut, whole, and refused by 5, 6, 7, 9, 10 and 12.
+//! P3's call resumed from journals: cut, whole, and refused by 5, 6, 7, 9, 10, 12 and 20.
 
 use crate::seen::{bytes_fronted, bytes_lent, fronted, numbers_lent, widened, Cases, Seen};
 use compare::cases::{flat, ABSENT};
@@ -14,6 +14,7 @@ const ROWS: [u16; 8] = [1, 0, 5, ABSENT, 0, 2, 3, 4];
 const ROOM: usize = 58;
 
 pub fn hold(cases: &mut Cases) {
+    by_rule(cases);
     let whole = [HEADER, FIRST, SECOND].concat();
     let cut = format!("{HEADER}0\t0");
     let lines = [FIRST, SECOND].concat();
@@ -23,9 +24,12 @@ pub fn hold(cases: &mut Cases) {
     goes_on(cases, nothing_left, &whole, [0, 0, 4, 0, 31, 0], "");
     let after_header = |line| format!("{HEADER}{line}");
     let another_header = || "hatt\t1\t2\t4\n".to_string();
+    let another_rule = || "keep\t1\t2\t3\n".to_string();
     let refusals = [
         ("one number", after_header("0\n"), ROOM, [6, 1]),
         ("another header", another_header(), ROOM, [7, 0]),
+        ("the other rule's header", another_rule(), ROOM, [7, 0]),
+        ("no rule's header", "help\t1\t2\t3\n".to_string(), ROOM, [6, 0]),
         (
             "a child that isn't open",
             after_header("0\t0\t1\t5\t2\n"),
@@ -48,6 +52,27 @@ pub fn hold(cases: &mut Cases) {
     ];
     for (what, read, room, refusal) in refusals {
         refused(cases, what, &read, room, refusal);
+    }
+}
+
+/// Rules by their numbers: 20 comes after 1 and before any other.
+fn by_rule(cases: &mut Cases) {
+    let stated = [
+        ("1 before 20", 0, 2, [1, 0]),
+        ("20 before 2", 2, 2, [20, 0]),
+    ];
+    for (what, modes, rule, [number, place]) in stated {
+        let terms = [1];
+        let answers = [
+            proved::resume(modes, rule, &terms, &[], &mut [], &mut [], &mut []),
+            six_numbers(plain::resume(modes, rule, &terms, &[], &mut [], &mut [], &mut [])),
+        ];
+        let seen = |numbers: [u64; 6]| Seen {
+            numbers: numbers.to_vec(),
+            lent: vec![],
+        };
+        let stated = seen([number, place, 0, 0, 0, 0]);
+        cases.hold("journals", what, answers.map(seen), stated);
     }
 }
 
@@ -75,11 +100,11 @@ fn refused(cases: &mut Cases, what: &str, read: &str, room: usize, [number, plac
 
 fn hold_one(cases: &mut Cases, what: &str, read: &str, room: usize, stated: Seen) {
     let ours = resumed(room, |work, rows, journal| {
-        proved::resume(MODES, &terms(), read.as_bytes(), work, rows, journal)
+        proved::resume(MODES, 0, &terms(), read.as_bytes(), work, rows, journal)
     });
     let plainly = resumed(room, |work, rows, journal| {
         let read = read.as_bytes();
-        six_numbers(plain::resume(MODES, &terms(), read, work, rows, journal))
+        six_numbers(plain::resume(MODES, 0, &terms(), read, work, rows, journal))
     });
     cases.hold("journals", what, [ours, plainly], stated);
 }

@@ -3,7 +3,7 @@
 use crate::seen::{Cases, Seen};
 use compare::cases::flat;
 use compare::proved;
-use plain::terms::{reduce_hamiltonian, weigh, Row};
+use plain::terms::{reduce_hamiltonian, weigh, Row, Rule};
 
 /// So many that every index below is one of theirs, those that are parents among them.
 const MODES: usize = 10;
@@ -121,12 +121,30 @@ const MERGES: &[Merge] = &[
     ),
 ];
 
+/// The same by the keeping rule.
+const KEPT: &[Merge] = &[
+    ("P1's row is kept", [0, 1, 2], 3, &[&[0, 1]], 1, &[&[3, 3]]),
+    (
+        "equal kept rows merge",
+        [0, 1, 2],
+        3,
+        &[&[0], &[1], &[0, 1]],
+        3,
+        &[&[3], &[3, 3]],
+    ),
+];
+
 pub fn hold(cases: &mut Cases) {
-    for &(what, triple, parent, before, weight, after) in MERGES {
+    hold_by(cases, Rule::Published, MERGES);
+    hold_by(cases, Rule::Keep, KEPT);
+}
+
+fn hold_by(cases: &mut Cases, rule: Rule, merges: &[Merge]) {
+    for &(what, triple, parent, before, weight, after) in merges {
         let before = rows(before);
         let sides = [
-            ours(triple, parent, &before),
-            plainly(triple, parent, before.clone()),
+            ours(rule, triple, parent, &before),
+            plainly(rule, triple, parent, before.clone()),
         ];
         let stated = seen(weight, rows(after), before.len());
         cases.hold("merges", what, sides, stated);
@@ -146,9 +164,9 @@ fn seen(weight: u64, after: Vec<Row>, before: usize) -> Seen {
     }
 }
 
-fn ours(triple: [u16; 3], parent: u16, before: &[Row]) -> Seen {
+fn ours(rule: Rule, triple: [u16; 3], parent: u16, before: &[Row]) -> Seen {
     let mut lent = flat(before);
-    let [refusal, weight, _] = proved::merge(MODES, &mut lent, triple, parent);
+    let [refusal, weight, _] = proved::merge(MODES, rule as usize, &mut lent, triple, parent);
     assert_eq!(refusal, 0, "the rows are good");
     // a row keeps its place, and one that went is zeros there
     let (there, gone): (Vec<&[u16]>, Vec<&[u16]>) = lent.chunks(8).partition(|row| row[0] != 0);
@@ -162,7 +180,7 @@ fn ours(triple: [u16; 3], parent: u16, before: &[Row]) -> Seen {
     }
 }
 
-fn plainly(triple: [u16; 3], parent: u16, before: Vec<Row>) -> Seen {
+fn plainly(rule: Rule, triple: [u16; 3], parent: u16, before: Vec<Row>) -> Seen {
     let (weight, count) = (weigh(&before, triple), before.len());
-    seen(weight, reduce_hamiltonian(before, parent, triple), count)
+    seen(weight, reduce_hamiltonian(before, rule, parent, triple), count)
 }

@@ -1,20 +1,31 @@
 //! `assign`.
 
-use super::{from_c, BEYOND};
+use super::{from_c, BEYOND, PUBLISHED};
 use crate::tally::equal;
 use compare::proved::{self, c};
 use compare::{numbers, BYTE_MARK, MARK};
 use plain::Refusal;
 
-/// Assigns where 01 leaves no ground for a refusal; returns the table and the weight.
+/// Assigns by the published rule where 01 leaves no ground for a refusal; returns the table and the weight.
 pub fn assign(
     modes: usize,
     tree: &[u16],
     heuristic: usize,
     terms: &[u16],
 ) -> Result<(Vec<u16>, u64), String> {
+    assign_by(PUBLISHED, modes, tree, heuristic, terms)
+}
+
+/// The same by the rule of this number.
+pub fn assign_by(
+    rule: usize,
+    modes: usize,
+    tree: &[u16],
+    heuristic: usize,
+    terms: &[u16],
+) -> Result<(Vec<u16>, u64), String> {
     let rooms = (terms.len() + BEYOND, 3 * modes + BEYOND);
-    let (answer, mut work, mut table) = assign_in(modes, tree, heuristic, terms, rooms)?;
+    let (answer, mut work, mut table) = assign_in(rule, modes, tree, heuristic, terms, rooms)?;
     let weight = answer.map_err(|refusal| format!("refused: {refusal:?}"))?;
     let beyond = table.split_off(3 * modes);
     equal("table's rest stays", beyond, vec![MARK; BEYOND])?;
@@ -26,6 +37,7 @@ pub fn assign(
 
 /// Assigns with these rooms for work and table: the plain program's answer, and both slices after it. The error says that the proved library answers or leaves anything else.
 pub fn assign_in(
+    rule: usize,
     modes: usize,
     tree: &[u16],
     heuristic: usize,
@@ -34,15 +46,16 @@ pub fn assign_in(
 ) -> Result<(Result<u64, Refusal>, Vec<u16>, Vec<u16>), String> {
     let marked = || (vec![MARK; rooms.0], vec![MARK; rooms.1]);
     let (mut work, mut table) = marked();
-    let answer = plain::assign(modes, tree, heuristic, terms, &mut work, &mut table);
+    let answer = plain::assign(modes, rule, tree, heuristic, terms, &mut work, &mut table);
     let numbers = numbers(answer);
     let mut ours = marked();
-    let proved = proved::assign(modes, tree, heuristic, terms, &mut ours.0, &mut ours.1);
+    let (own_work, own_table) = (&mut ours.0, &mut ours.1);
+    let proved = proved::assign(modes, rule, tree, heuristic, terms, own_work, own_table);
     equal("proved numbers", proved, numbers)?;
     equal("proved work", &ours.0, &work)?;
     equal("proved table", &ours.1, &table)?;
-    // Work is the C call's own, so that too little of it can't be lent.
-    if rooms.0 >= terms.len() {
+    // Work is the C call's own, so that too little of it can't be lent; and it knows the published rule alone.
+    if rooms.0 >= terms.len() && rule == PUBLISHED {
         c_alike(modes, tree, heuristic, terms, numbers, &table)?;
     }
     if answer.is_err() {

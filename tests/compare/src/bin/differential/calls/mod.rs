@@ -4,8 +4,12 @@ mod assign;
 mod from_c;
 mod resume;
 
-pub use assign::{assign, assign_in};
-pub use resume::{accepted, resume, resume_in, Finished, Rooms};
+pub use assign::{assign, assign_by, assign_in};
+pub use resume::{accepted, resume, resume_by, resume_in, Finished, Rooms};
 
 /// How far each lent slice goes beyond its room.
 const BEYOND: usize = 3;
+
+/// The numbers of the rules.
+pub const PUBLISHED: usize = 0;
+pub const KEEP: usize = 1;

@@ -1,6 +1,6 @@
 //! `resume`, of which `hatt` is the case of an empty journal.
 
-use super::{from_c, BEYOND};
+use super::{from_c, BEYOND, PUBLISHED};
 use crate::tally::equal;
 use compare::proved::{self, c};
 use compare::{six_numbers, BYTE_MARK, MARK};
@@ -62,8 +62,28 @@ pub fn resume(
     resume_in(modes, terms, read, Rooms::ample(modes, terms))
 }
 
-/// The same, with these rooms.
+/// The same by the rule of this number.
+pub fn resume_by(
+    rule: usize,
+    modes: usize,
+    terms: &[u16],
+    read: &[u8],
+) -> Result<Result<Finished, Refusal>, String> {
+    resume_all(rule, modes, terms, read, Rooms::ample(modes, terms))
+}
+
+/// By the published rule, with these rooms.
 pub fn resume_in(
+    modes: usize,
+    terms: &[u16],
+    read: &[u8],
+    rooms: Rooms,
+) -> Result<Result<Finished, Refusal>, String> {
+    resume_all(PUBLISHED, modes, terms, read, rooms)
+}
+
+fn resume_all(
+    rule: usize,
     modes: usize,
     terms: &[u16],
     read: &[u8],
@@ -71,9 +91,10 @@ pub fn resume_in(
 ) -> Result<Result<Finished, Refusal>, String> {
     let mut left = rooms.marked();
     let (work, rows, journal) = (&mut left.work, &mut left.rows, &mut left.journal);
-    let answer = plain::resume(modes, terms, read, work, rows, journal);
+    let answer = plain::resume(modes, rule, terms, read, work, rows, journal);
     let call = Call {
         modes,
+        rule,
         terms,
         read,
         rooms,
@@ -116,6 +137,7 @@ fn looked_over(
 /// A call that was made of the plain program: what it was given, what it answered, and what it left of the slices.
 struct Call<'a> {
     modes: usize,
+    rule: usize,
     terms: &'a [u16],
     read: &'a [u8],
     rooms: Rooms,
@@ -129,9 +151,13 @@ impl Call<'_> {
         let mut lent = self.rooms.marked();
         let (work, rows, journal) = (&mut lent.work, &mut lent.rows, &mut lent.journal);
         let Call {
-            modes, terms, read, ..
+            modes,
+            rule,
+            terms,
+            read,
+            ..
         } = *self;
-        let proved = proved::resume(modes, terms, read, work, rows, journal);
+        let proved = proved::resume(modes, rule, terms, read, work, rows, journal);
         equal("proved numbers", proved, self.numbers)?;
         equal("proved work", &lent.work, &self.left.work)?;
         equal("proved rows", &lent.rows, &self.left.rows)?;
@@ -140,8 +166,8 @@ impl Call<'_> {
 
     /// The same of the call for C.
     fn c_alike(&self) -> Result<(), String> {
-        // Work is that call's own, so that too little of it can't be lent.
-        if self.rooms.work < self.terms.len() {
+        // Work is that call's own, so that too little of it can't be lent; and it knows the published rule alone.
+        if self.rooms.work < self.terms.len() || self.rule != PUBLISHED {
             return Ok(());
         }
         let mut rows = vec![BYTE_MARK; 2 * self.rooms.rows];
