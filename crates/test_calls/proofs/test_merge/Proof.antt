@@ -11,12 +11,15 @@ check-terms-requires c κs = search needs
 enum-known-count : tie.Need-enum-known-count
 enum-known-count c = search needs
 
+rule-of-requires : tie.Need-rule-of-requires
+rule-of-requires c κs = search needs
+
 put-merge-requires : tie.Need-put-merge-requires
 put-merge-requires c κs =
-    let args = c .before .before .before .before .before .before .before .before .before .args in
+    let args = c .before .before .before .before .before .before .before .before .before .before .args in
     let good =
-    accepted (args .modes) (args .rows .now) (c .before .before .before .count .given .0 .0)
-    (sym (c .before .before .before .before .before .check-terms .ensures .answer) ∙ c .before .before .before .count .given .1) in
+    accepted (args .modes) (args .rows .now) (c .before .before .before .before .count .given .0 .0)
+    (sym (c .before .before .before .before .before .before .check-terms .ensures .answer) ∙ c .before .before .before .before .count .given .1) in
     (good .held, good .at-most)
 
 enum-known-refusal : tie.Need-enum-known-refusal
@@ -52,6 +55,7 @@ test-merge-spec =
     (tie.spec
     check-terms-requires
     enum-known-count
+    rule-of-requires
     put-merge-requires
     enum-known-refusal
     number-requires
