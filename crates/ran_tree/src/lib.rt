@@ -20,13 +20,7 @@ pub enum Ended {
 }
 
 // The run by this rule that a text asks for, in lent room for its rows and its journal; its tree laid out in the front of a lent table.
-fn grow(
-    rule: Rule,
-    input: &[u8],
-    rows: &mut [u16],
-    journal: &mut [u8],
-    table: &mut [u16],
-) -> Ended
+fn grow(rule: Rule, input: &[u8], rows: &mut [u16], journal: &mut [u8], table: &mut [u16]) -> Ended
     requires { ⌜ (length (now rows) ≡ 4 * most-modes) × (length (now journal) ≡ 16 + 21 * most-modes) × (length (now table) ≡ 3 * most-modes) ⌝ }
     ensures { λ r. ⌜ EndsIn most-modes (ran program-rooms (request rule (now (input .entry))) []) (now (table .exit)) r ⌝ }
 {

@@ -87,13 +87,7 @@ fn is_dropped(rule: Rule, parent: u16, term: &[u16]) -> bool
 }
 
 // The term of the row at this place is not dropped, and none of the rows before it has it.
-fn survives<'a>(
-    rows: &'a [u16],
-    place: usize,
-    chains: &'a [u16],
-    rule: Rule,
-    parent: u16,
-) -> bool
+fn survives<'a>(rows: &'a [u16], place: usize, chains: &'a [u16], rule: Rule, parent: u16) -> bool
     requires { ⌜ Held row-width (place + 1) (now rows) ⌝ }
     requires { ⌜ Chained mark-room most-terms (terms-of row-width place (now rows)) (now chains) ⌝ }
     requires { ⌜ 0 < length (term-at place (now rows)) ⌝ }
