@@ -45,6 +45,21 @@ fn is_assigned(assigned: &[u16], mode: u16) -> bool
     false
 }
 
+// No mode is unassigned.
+pub fn all_assigned(modes: usize, assigned: &[u16]) -> bool
+    requires { ⌜ modes ≤ most-modes ⌝ }
+    ensures { λ r. ⌜ r ≡ eqb (length (unassigned modes (now (assigned .entry)))) 0 ⌝ }
+{
+    let mut mode = 0;
+    while mode < modes {
+        if !is_assigned(assigned, mode as u16) {
+            return false;
+        }
+        mode += 1;
+    }
+    true
+}
+
 // The modes that no pair has yet, ascending; how many there are.
 pub fn fill_unassigned(modes: usize, assigned: &[u16], free: &mut [u16]) -> usize
     requires { ⌜ (modes ≤ most-modes) × (modes ≤ length (now free)) ⌝ }

@@ -128,15 +128,6 @@ fn round<'a>(
     }
 }
 
-// No mode is unassigned.
-fn is_finished(modes: usize, assigned: &[u16]) -> bool
-    requires { ⌜ modes ≤ most-modes ⌝ }
-    ensures { λ r. ⌜ r ≡ eqb (length (unassigned modes (now (assigned .entry)))) 0 ⌝ }
-{
-    let mut free = [0u16; 256];
-    choice::fill_unassigned(modes, assigned, &mut free) == 0
-}
-
 // All rounds; the sum of chosen weights.
 pub fn topphatt<'a>(
     modes: usize,
@@ -159,7 +150,7 @@ pub fn topphatt<'a>(
         weight: 0,
     };
     while progress.round < modes {
-        if is_finished(modes, assigned) {
+        if choice::all_assigned(modes, assigned) {
             return progress.weight;
         }
         progress = round(

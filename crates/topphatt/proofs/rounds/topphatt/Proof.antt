@@ -54,8 +54,8 @@ loop-holds c =
       refl,
     )
 
-is-finished-requires : tie.Need-is-finished-requires Inv-loop μ-loop
-is-finished-requires c κs = c .before .before .before .loop .inv .0 .few
+all-assigned-requires : tie.Need-all-assigned-requires Inv-loop μ-loop
+all-assigned-requires c κs = c .before .before .before .loop .inv .0 .few
 
 same-length : tie.Need-same-length Inv-loop μ-loop
 same-length c = search needs
@@ -70,7 +70,7 @@ returns c =
     let args = here .before .before .before .before .before .args in
     let state = state-of (here .loop .rows) (here .loop .assigned) (here .loop .progress) in
     let task = task-at (args .modes) (args .rule) (args .tree .now) (args .heuristic) (args .count) (args .rows .now) in
-    let e = sym (rounds-stop task state (here .loop .progress .round) (c .before .before .before .if1 .taken) (sym (c .before .is-finished .ensures) ∙ c .if2 .taken)) ∙ here .loop .inv .4 in
+    let e = sym (rounds-stop task state (here .loop .progress .round) (c .before .before .before .if1 .taken) (sym (c .before .all-assigned .ensures) ∙ c .if2 .taken)) ∙ here .loop .inv .4 in
     record { weight-is = ap (λ s. s .weight) e; assigned-is = ap (λ s. s .assigned) e; pairs = here .loop .inv .0 .pairs; rest = here .loop .inv .6 }
 
 round-requires : tie.Need-round-requires Inv-loop μ-loop
@@ -90,7 +90,7 @@ loop-again c =
     let went = called .ensures in
     let h = c .before .before .before .before .before .before .before .before .before .before .if1 .taken in
     let on = went .on in
-    let unfinished = c .before .before .before .before .before .before .before .before .is-finished .ensures in
+    let unfinished = c .before .before .before .before .before .before .before .before .all-assigned .ensures in
     let state = state-of (here .loop .rows) (here .loop .assigned) (here .loop .progress) in
     let task = task-at (args .modes) (args .rule) (args .tree .now) (args .heuristic) (args .count) (args .rows .now) in (
       went .going,
@@ -126,7 +126,7 @@ topphatt-spec =
     Inv-loop
     μ-loop
     loop-holds
-    is-finished-requires
+    all-assigned-requires
     same-length
     same-length-2
     returns
