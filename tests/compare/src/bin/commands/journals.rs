@@ -46,8 +46,17 @@ pub fn each(random: &mut Random, ask: &mut dyn FnMut(Question)) {
         let steps = random.between(0, job.modes);
         let mut file = journal(random, &job, steps);
         let (word, terms) = (step_word(random, job.modes), job.damaged_text(random));
-        ask_all("journals, terms damaged", (job.rule, &word), &file, &terms, ask);
-        let named = (Rule::read(1 - job.rule as usize).expect("a rule"), word.as_str());
+        ask_all(
+            "journals, terms damaged",
+            (job.rule, &word),
+            &file,
+            &terms,
+            ask,
+        );
+        let named = (
+            Rule::read(1 - job.rule as usize).expect("a rule"),
+            word.as_str(),
+        );
         ask_all("journals of the other rule", named, &file, &job.text(), ask);
         // the other job's header, so that its merges are looked at
         let header = other.header();

@@ -56,8 +56,18 @@ pub fn each(random: &mut Random, ask: &mut dyn FnMut(Question)) {
         let job = Job::of(random, modes, 30);
         let whole = by_hand(&job.wandered(random, modes));
         let more = [whole.as_slice(), b"0\t1\t2\n"].concat();
-        ask(steer("merges of 100 and 256 modes", job.rule, whole, job.text()));
-        ask(steer("merges of 100 and 256 modes", job.rule, more, job.text()));
+        ask(steer(
+            "merges of 100 and 256 modes",
+            job.rule,
+            whole,
+            job.text(),
+        ));
+        ask(steer(
+            "merges of 100 and 256 modes",
+            job.rule,
+            more,
+            job.text(),
+        ));
     }
 }
 

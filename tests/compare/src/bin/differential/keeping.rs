@@ -18,7 +18,11 @@ pub fn hatt(random: &mut Random, tally: &mut Tally) {
         }
     }
     for (modes, count) in [(20, 300), (64, 256), (256, 8)] {
-        unbroken(tally, modes, &flat(&terms(random, modes, count, Shape::Mixed)));
+        unbroken(
+            tally,
+            modes,
+            &flat(&terms(random, modes, count, Shape::Mixed)),
+        );
     }
 }
 

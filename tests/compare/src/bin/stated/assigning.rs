@@ -83,12 +83,34 @@ const CASES: &[Case] = &[
     ),
 ];
 
-/// The rule, and the rest as above: 20 in its turn, and a weight that differs by the rule.
+/// The rule, and the rest as above: 20 in its turn, and a row that is left with only the parent.
 const RULES: &[(usize, Case)] = &[
     (2, ("1 before 20", 0, &TREE, 0, &[], [1, 0, 0], &[])),
     (2, ("20 before 13", 2, &[], 3, &[], [20, 0, 0], &[])),
-    (0, ("dropped, it weighs nothing", 2, &TREE, 0, &ONE, [0, 0, 0], &TREE)),
-    (1, ("kept, it weighs 1 at the root", 2, &TREE, 0, &ONE, [0, 0, 1], &TREE)),
+    (
+        0,
+        (
+            "dropped, it weighs nothing",
+            2,
+            &TREE,
+            0,
+            &ONE,
+            [0, 0, 0],
+            &TREE,
+        ),
+    ),
+    (
+        1,
+        (
+            "kept, it weighs nothing either: the root is fixed with node 0 and goes unreduced",
+            2,
+            &TREE,
+            0,
+            &ONE,
+            [0, 0, 0],
+            &TREE,
+        ),
+    ),
 ];
 
 /// The row 012.
@@ -102,7 +124,9 @@ pub fn hold(cases: &mut Cases) {
             proved::assign(modes, rule, tree, heuristic, terms, work, table)
         });
         let plainly = assigned(terms, |work, table| {
-            numbers(plain::assign(modes, rule, tree, heuristic, terms, work, table))
+            numbers(plain::assign(
+                modes, rule, tree, heuristic, terms, work, table,
+            ))
         });
         let work = match answer[0] {
             0 => vec![0; terms.len()],

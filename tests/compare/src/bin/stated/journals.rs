@@ -29,7 +29,12 @@ pub fn hold(cases: &mut Cases) {
         ("one number", after_header("0\n"), ROOM, [6, 1]),
         ("another header", another_header(), ROOM, [7, 0]),
         ("the other rule's header", another_rule(), ROOM, [7, 0]),
-        ("no rule's header", "help\t1\t2\t3\n".to_string(), ROOM, [6, 0]),
+        (
+            "no rule's header",
+            "help\t1\t2\t3\n".to_string(),
+            ROOM,
+            [6, 0],
+        ),
         (
             "a child that isn't open",
             after_header("0\t0\t1\t5\t2\n"),
@@ -65,7 +70,15 @@ fn by_rule(cases: &mut Cases) {
         let terms = [1];
         let answers = [
             proved::resume(modes, rule, &terms, &[], &mut [], &mut [], &mut []),
-            six_numbers(plain::resume(modes, rule, &terms, &[], &mut [], &mut [], &mut [])),
+            six_numbers(plain::resume(
+                modes,
+                rule,
+                &terms,
+                &[],
+                &mut [],
+                &mut [],
+                &mut [],
+            )),
         ];
         let seen = |numbers: [u64; 6]| Seen {
             numbers: numbers.to_vec(),

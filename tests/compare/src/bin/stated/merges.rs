@@ -182,5 +182,9 @@ fn ours(rule: Rule, triple: [u16; 3], parent: u16, before: &[Row]) -> Seen {
 
 fn plainly(rule: Rule, triple: [u16; 3], parent: u16, before: Vec<Row>) -> Seen {
     let (weight, count) = (weigh(&before, triple), before.len());
-    seen(weight, reduce_hamiltonian(before, rule, parent, triple), count)
+    seen(
+        weight,
+        reduce_hamiltonian(before, rule, parent, triple),
+        count,
+    )
 }
