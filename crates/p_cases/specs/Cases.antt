@@ -165,7 +165,7 @@ cases =
     ∷ shows (printed (newick-answer-text program-rooms input3)) [] [] (spelt "((m0,m1,m2)n0,m3,e)n1;\n")
     ∷ shows (printed (newick-text 2 tree3)) [] [] (spelt "((m0,m1,m2)n0,m3,e)n1;")
     -- and the strings of its tree, as `strings` prints them for the terms and for the tree
-    ∷ shows (printed (hatt-strings-text program-rooms input3)) [] [] (spelt "0\tXX\n1\tYX\n2\tZX\n3\tIY\n")
+    ∷ shows (printed (hatt-strings-text program-rooms (request Published input3))) [] [] (spelt "0\tXX\n1\tYX\n2\tZX\n3\tIY\n")
     ∷ shows (printed (tree-strings-text most-modes nodes3)) [] [] (spelt "0\tXX\n1\tYX\n2\tZX\n3\tIY\n")
     -- P5's journal as the command `steer` makes it of one merge; what `reason` tells of P6's line
     ∷ shows (printed (steer-text program-rooms (request Published input3) (spelt "0\t1\t4\n"))) [] [] (spelt "hatt\t1\t2\t3\n0\t0\t1\t4\t2\n")

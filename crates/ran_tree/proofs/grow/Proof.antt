@@ -23,8 +23,8 @@ enum-known-run : tie.Need-enum-known-run
 enum-known-run c = search needs
 
 -- The rows of the run that is done fit in what was lent.
-fits : (c : tie.After-struct-known) → 4 * c .before .before .run .given .0 .0 .modes ≤ length (c .before .before .before .before .before .before .before .before .run-text .last .1 .1 .0)
-fits c = omega (arith, (run-done 256 _ _ _ _ (c .before .before .before .before .before .before .before .before .run-text .ensures) _ (c .before .before .run .given .1)) .few, c .before .before .before .before .before .before .before .before .run-text .kept .1 .1 .0, c .before .before .before .before .before .before .before .before .before .before .before .before .before .before .before .before .pre .0)
+fits : (c : tie.After-struct-known) → 4 * c .before .before .run .given .0 .0 .modes ≤ length (c .before .before .before .before .before .before .before .before .run-text .last .1 .1 .1 .0)
+fits c = omega (arith, (run-done 256 _ _ _ _ (c .before .before .before .before .before .before .before .before .run-text .ensures) _ (c .before .before .run .given .1)) .few, c .before .before .before .before .before .before .before .before .run-text .kept .1 .1 .1 .0, c .before .before .before .before .before .before .before .before .before .before .before .before .before .before .before .before .pre .0)
 
 mul-end : tie.Need-mul-end
 mul-end c = omega (arith, (run-done 256 _ _ _ _ (c .before .before .before .before .before .before .before .before .run-text .ensures) _ (c .before .before .run .given .1)) .few)
@@ -33,7 +33,7 @@ slice-reshare-prefix-lay-front : tie.Need-slice-reshare-prefix-lay-front
 slice-reshare-prefix-lay-front c = fits c
 
 slice-aggregate-lay-front : tie.Need-slice-aggregate-lay-front
-slice-aggregate-lay-front c = sym (length-take-le _ (c .before .before .before .before .before .before .before .before .before .run-text .last .1 .1 .0) (fits (c .before)))
+slice-aggregate-lay-front c = sym (length-take-le _ (c .before .before .before .before .before .before .before .before .before .run-text .last .1 .1 .1 .0) (fits (c .before)))
 
 lay-front-requires : tie.Need-lay-front-requires
 lay-front-requires c κs =

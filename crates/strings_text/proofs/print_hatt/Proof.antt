@@ -24,12 +24,12 @@ mul-end : tie.Need-mul-end
 mul-end c = omega (arith, (tree-stands 256 _ _ _ (c .before .before .before .before .before .run-tree .ensures) _ (c .before .modes .given .1)) .few)
 
 slice-reshare-prefix-put-strings : tie.Need-slice-reshare-prefix-put-strings
-slice-reshare-prefix-put-strings c = omega (arith, (tree-stands 256 _ _ _ (c .before .before .before .before .before .before .run-tree .ensures) _ (c .before .before .modes .given .1)) .few, c .before .before .before .before .before .before .run-tree .kept .1 .0, c .before .before .before .before .before .before .before .before .before .before .before .pre .0)
+slice-reshare-prefix-put-strings c = omega (arith, (tree-stands 256 _ _ _ (c .before .before .before .before .before .before .run-tree .ensures) _ (c .before .before .modes .given .1)) .few, c .before .before .before .before .before .before .run-tree .kept .1 .1 .0, c .before .before .before .before .before .before .before .before .before .before .before .pre .0)
 
 slice-aggregate-put-strings : tie.Need-slice-aggregate-put-strings
 slice-aggregate-put-strings c =
     let run = c .before .before .before .before .before .before .before .run-tree in
-    sym (length-take-le _ (run .last .1 .0) (omega (arith, (tree-stands 256 _ _ _ (c .before .before .before .before .before .before .before .run-tree .ensures) _ (c .before .before .before .modes .given .1)) .few, run .kept .1 .0, c .before .before .before .before .before .before .before .before .before .before .before .before .pre .0)))
+    sym (length-take-le _ (run .last .1 .1 .0) (omega (arith, (tree-stands 256 _ _ _ (c .before .before .before .before .before .before .before .run-tree .ensures) _ (c .before .before .before .modes .given .1)) .few, run .kept .1 .1 .0, c .before .before .before .before .before .before .before .before .before .before .before .before .pre .0)))
 
 put-strings-requires : tie.Need-put-strings-requires
 put-strings-requires c κs = search needs
