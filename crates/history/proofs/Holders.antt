@@ -177,7 +177,7 @@ module _ (modes : ℕ) (merge : Triple) (history : List Triple) (leaf : ℕ) whe
         (open-cases modes merge history _ (held .is-held))
 
 -- At first every leaf is its own holder.
-first-held : (modes leaf : ℕ) → leaf ≤ 2 * modes → HeldOpen modes [] leaf
+pub first-held : (modes leaf : ℕ) → leaf ≤ 2 * modes → HeldOpen modes [] leaf
 unfolding is-open holder z-end
 first-held modes leaf h = record { is-held = le-leb _ _ h; end = refl }
 

@@ -12,6 +12,7 @@ pub mod Partners
 pub mod PairCount
 pub mod RunLawful
 pub mod Amounts
+pub mod ClosedPairs
 pub mod HistoryBefore
 pub mod GreedySteps
 pub mod RunsOn

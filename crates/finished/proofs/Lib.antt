@@ -1,0 +1,6 @@
+-- The laws of finished trees.
+pub mod Merged
+pub mod LaidMerged
+pub mod UnderMerged
+pub mod ChainsMerged
+pub mod FinishedTrees

@@ -1,0 +1,2 @@
+-- What document 02, W-212, says of finished trees.
+pub mod Finished
