@@ -3,22 +3,20 @@ use mathlib.Core.Path.{_≡_, ap, _∙_, sym}
 use mathlib.Core.List.{List}
 use Prim.Native.Nat.{ℕ, suc, _+_, _*_, _<_, _≤_}
 use native.Mathlib.Omega.{arith}
-use lib.ListN.{length}
 use Rattle.entities.specs.declared.Triple.{Triple}
 use Rattle.entities.specs.Parents.{parent-number}
-use Rattle.entities.specs.Codes.{absent, child-code}
+use Rattle.entities.specs.Codes.{child-code}
 use Rattle.entities.proofs.ChildCodes.{code-leaf, code-node}
-use Rattle.history.specs.Lawful.{LawfulHistory}
 use Rattle.history.specs.History.{merge-of, z-end}
 use Rattle.history.proofs.ClosedPairs.{leaf-end, node-end, all-closed}
 use Rattle.tree.specs.Table.{child}
 use Rattle.tree.specs.Pairs.{chain-end}
 use Rattle.tree.specs.Accepted.{PairUnder}
 use Rattle.tree.proofs.TableSteps.{chain-goes, chain-rests}
+use Rattle.finished.specs.Finished.{AllMerged}
 use Rattle.finished.proofs.Merged.{by-edge, Merged, child-before, going-down}
 
-module _ (modes : ℕ) (history : List Triple) (lawful : LawfulHistory modes history) (all : length history ≡ modes)
-    (small : 3 * modes ≤ absent) (table : List ℕ) (merged : Merged modes history table) where
+module _ (modes : ℕ) (history : List Triple) (merges : AllMerged modes history) (table : List ℕ) (merged : Merged modes history table) where
   abbrev code : ℕ → ℕ
   code entity = child-code modes (2 * modes) entity
 
@@ -34,26 +32,26 @@ module _ (modes : ℕ) (history : List Triple) (lawful : LawfulHistory modes his
   node-ends steps label l on =
       ap (chain-end modes table (suc steps)) (code-node modes label)
       ∙ chain-goes modes table steps label l
-      ∙ ap (chain-end modes table steps) (merged .child-is label 2 (omega arith) (omega arith))
+      ∙ ap (chain-end modes table steps) (merged .child-is label 2 (omega (arith, merges .all)) (omega arith))
       ∙ on 2
-      ∙ ap code (sym (node-end modes history lawful label (omega arith)))
+      ∙ ap code (sym (node-end modes history (merges .lawful) label (omega (arith, merges .all))))
 
   -- The chain from a child whose z-end is this leaf.
   child-ends : (label edge leaf : ℕ) → label < modes → edge < 3 → leaf < 2 * modes → z-end modes history (by-edge (merge-of history label) edge) ≡ leaf
       → chain-end modes table modes (child table label edge) ≡ leaf + modes
   child-ends label edge leaf h k low e =
-      let before = child-before modes history lawful label edge (omega arith) in
-      ap (chain-end modes table modes) (merged .child-is label edge (omega arith) k)
-      ∙ going-down modes history lawful all small EndsCoded leaf-ends node-ends modes (by-edge (merge-of history label) edge) (omega arith) (omega arith)
+      let before = child-before modes history (merges .lawful) label edge (omega (arith, merges .all)) in
+      ap (chain-end modes table modes) (merged .child-is label edge (omega (arith, merges .all)) k)
+      ∙ going-down modes history merges EndsCoded leaf-ends node-ends modes (by-edge (merge-of history label) edge) (omega arith) (omega arith)
       ∙ ap code e
       ∙ code-leaf modes leaf low
 
   pub pair-merged : (k : ℕ) → k < modes → (label : ℕ) × PairUnder modes table k label
   unfolding by-edge
   pair-merged k h =
-      let closed = all-closed modes history lawful all k h in
+      let closed = all-closed modes history (merges .lawful) (merges .all) k h in
       let closes = closed .1 in
-      let inside : closed .0 < modes = omega (arith, closes .made) in (
+      let inside : closed .0 < modes = omega (arith, closes .made, merges .all) in (
         closed .0,
         record {
           inside = inside;

@@ -16,7 +16,6 @@ use Rattle.lists.proofs.Occurring.{occurs-at}
 use Rattle.lists.proofs.Sums.{same-none}
 use Rattle.entities.specs.declared.Triple.{Triple}
 use Rattle.entities.specs.Codes.{absent, child-code}
-use Rattle.history.specs.Lawful.{LawfulHistory}
 use Rattle.history.specs.History.{merge-of}
 use Rattle.history.specs.Flatpack.{absent-leaf, children, rows-for, flatpack}
 use Rattle.history.proofs.AbsentLeaf.{absent-leaf-last}
@@ -24,6 +23,7 @@ use Rattle.history.proofs.Walk.{labels-of as walked, walk-once, walk-never}
 use Rattle.tree.specs.Table.{child}
 use Rattle.tree.specs.Laying.{laid}
 use Rattle.tree.proofs.LaidTable.{labels-of, HasAll, Has, laid-length, laid-has}
+use Rattle.finished.specs.Finished.{AllMerged, tree-of}
 use Rattle.finished.proofs.Merged.{by-edge, Merged}
 
 module _ (modes : ℕ) (history : List Triple) where
@@ -56,8 +56,7 @@ edge-has modes history table label has (suc zero) h = has .y-is
 edge-has modes history table label has (suc (suc zero)) h = has .z-is
 edge-has modes history table label has (suc (suc (suc edge))) h = absurd (omega arith)
 
-module _ (modes : ℕ) (history : List Triple) (lawful : LawfulHistory modes history) (all : length history ≡ modes)
-    (some-modes : 1 ≤ modes) (small : 3 * modes ≤ absent) where
+module _ (modes : ℕ) (history : List Triple) (merges : AllMerged modes history) where
   abbrev labels : List ℕ
   labels = walked modes history
 
@@ -65,8 +64,8 @@ module _ (modes : ℕ) (history : List Triple) (lawful : LawfulHistory modes his
   at-most-once label = go (ltb label modes) refl
     where
       go : (b : Bool) → ltb label modes ≡ b → occurrences label labels ≤ 1
-      go true q = omega (arith, walk-once modes history lawful all some-modes small label (ltb-true label modes q))
-      go false q = omega (arith, walk-never modes history lawful all some-modes small label (ltb-false label modes q))
+      go true q = omega (arith, walk-once modes history (merges .lawful) (merges .all) (merges .some-modes) (merges .few-modes) label (ltb-true label modes q))
+      go false q = omega (arith, walk-never modes history (merges .lawful) (merges .all) (merges .some-modes) (merges .few-modes) label (ltb-false label modes q))
 
   label-below : (place : ℕ) → place < length labels → getD labels place 0 < modes
   label-below place h = go (ltb (getD labels place 0) modes) refl
@@ -77,7 +76,7 @@ module _ (modes : ℕ) (history : List Triple) (lawful : LawfulHistory modes his
           absurd
           (omega (
             arith,
-            walk-never modes history lawful all some-modes small (getD labels place 0) (ltb-false (getD labels place 0) modes q),
+            walk-never modes history (merges .lawful) (merges .all) (merges .some-modes) (merges .few-modes) (getD labels place 0) (ltb-false (getD labels place 0) modes q),
             occurs-at (getD labels place 0) labels place 0 h refl,
           ))
 
@@ -86,7 +85,7 @@ module _ (modes : ℕ) (history : List Triple) (lawful : LawfulHistory modes his
       every-by-place (λ label. ltb (3 * label + 2) (3 * modes)) labels 0
       (λ place h. lt-ltb (3 * getD labels place 0 + 2) (3 * modes) (omega (arith, label-below place h)))
 
-  has-rows : HasAll (laid modes (flatpack modes history)) (flatpack modes history)
+  has-rows : HasAll (tree-of modes history) (flatpack modes history)
   unfolding laid flatpack
   has-rows =
       let blank : List ℕ = replicate (3 * modes) absent in
@@ -94,15 +93,15 @@ module _ (modes : ℕ) (history : List Triple) (lawful : LawfulHistory modes his
       (rw (row-labels modes history labels, length-replicate (3 * modes) absent) labels-fit)
       (λ label. rw (row-labels modes history labels) (at-most-once label))
 
-  pub laid-merged : Merged modes history (laid modes (flatpack modes history))
+  pub laid-merged : Merged modes history (tree-of modes history)
   unfolding laid flatpack
   laid-merged =
       record {
         whole = laid-length (flatpack modes history) (replicate (3 * modes) absent) ∙ length-replicate (3 * modes) absent;
         child-is = λ label edge h k.
-            edge-has modes history (laid modes (flatpack modes history)) label
-            (row-of modes history (laid modes (flatpack modes history)) labels has-rows label
-            (omega (arith, walk-once modes history lawful all some-modes small label (omega arith))))
+            edge-has modes history (tree-of modes history) label
+            (row-of modes history (tree-of modes history) labels has-rows label
+            (omega (arith, walk-once modes history (merges .lawful) (merges .all) (merges .some-modes) (merges .few-modes) label (omega (arith, merges .all)))))
             edge k
-            ∙ ap (λ last. child-code modes last (by-edge (merge-of history label) edge)) (absent-leaf-last modes history lawful all some-modes);
+            ∙ ap (λ last. child-code modes last (by-edge (merge-of history label) edge)) (absent-leaf-last modes history (merges .lawful) (merges .all) (merges .some-modes));
       }

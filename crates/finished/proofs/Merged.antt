@@ -6,12 +6,13 @@ use native.Mathlib.Omega.{arith}
 use lib.ListN.{length}
 use Rattle.entities.specs.declared.Triple.{Triple}
 use Rattle.entities.specs.Parents.{parent-number}
-use Rattle.entities.specs.Codes.{absent, child-code}
+use Rattle.entities.specs.Codes.{child-code}
 use Rattle.entities.proofs.ChildCodes.{code-absent, code-leaf, entity-cases}
 use Rattle.history.specs.Lawful.{LawfulHistory}
 use Rattle.history.specs.History.{merge-of}
 use Rattle.history.proofs.Amounts.{older-merge, node}
 use Rattle.tree.specs.Table.{child}
+use Rattle.finished.specs.Finished.{AllMerged}
 
 -- A triple's entity under X (edge 0), Y (1) or Z (2).
 unfoldable pub by-edge : Triple → ℕ → ℕ
@@ -44,8 +45,7 @@ child-before modes history lawful label (suc (suc edge)) h = node modes history 
 
 -- What holds of leaves, and of a node through one step more than it holds of the node's children, holds of every entity through as many steps
 -- as nodes were made up to it.
-module _ (modes : ℕ) (history : List Triple) (lawful : LawfulHistory modes history) (all : length history ≡ modes) (small : 3 * modes ≤ absent)
-    (P : ℕ → ℕ → Type 0)
+module _ (modes : ℕ) (history : List Triple) (merges : AllMerged modes history) (P : ℕ → ℕ → Type 0)
     (at-leaf : (steps leaf : ℕ) → leaf ≤ 2 * modes → modes ≤ child-code modes (2 * modes) leaf → P steps leaf)
     (at-node : (steps label : ℕ) → label < modes → ((edge : ℕ) → P steps (by-edge (merge-of history label) edge)) → P (suc steps) (parent-number modes label)) where
   abbrev Holds : ℕ → Type 0
@@ -54,13 +54,13 @@ module _ (modes : ℕ) (history : List Triple) (lawful : LawfulHistory modes his
   by-case : (steps : ℕ) → ((label : ℕ) → label < modes → label < steps → P steps (parent-number modes label)) → Holds steps
   by-case steps node-holds =
       entity-cases modes (λ entity. entity < 2 * modes + 1 + steps → P steps entity)
-      (λ k. at-leaf steps (2 * modes) (omega arith) (rw (code-absent modes) (omega arith)))
+      (λ k. at-leaf steps (2 * modes) (omega arith) (rw (code-absent modes) (omega (arith, merges .few-modes))))
       (λ leaf l k. at-leaf steps leaf (omega arith) (rw (code-leaf modes leaf l) (omega arith)))
       (λ label l k. node-holds label l (omega arith))
 
   children-hold : (steps label : ℕ) → label < modes → label ≤ steps → Holds steps → (edge : ℕ) → P steps (by-edge (merge-of history label) edge)
   children-hold steps label l within on edge =
-      let before = child-before modes history lawful label edge (omega arith) in
+      let before = child-before modes history (merges .lawful) label edge (omega (arith, merges .all)) in
       on (by-edge (merge-of history label) edge) (omega arith) (omega arith)
 
   pub going-down : (steps : ℕ) → Holds steps

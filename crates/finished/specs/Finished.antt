@@ -8,25 +8,25 @@ use Rattle.entities.specs.declared.Triple.{Triple}
 use Rattle.history.specs.Lawful.{LawfulHistory}
 use Rattle.history.specs.Flatpack.{flatpack}
 use Rattle.journal.specs.Resuming.{Ending, done, Rooms, resumed}
-use Rattle.tree.specs.declared.TreeChecked.the-variants.{Accepted}
 use Rattle.tree.specs.Laying.{laid}
-use Rattle.tree.specs.Pairs.{chain-end}
-use Rattle.tree.specs.Check.{tree-checked}
-use Rattle.tree.specs.Accepted.{IsTree}
+use Rattle.tree.specs.Finished.{FinishedTree}
 
--- A tree with this root "that the check accepts …: each node and leaf once, each pair 2k and 2k+1 ending z-chains from one node's X and Y
--- children, the absent child ending the root's".
-pub record FinishedTree (most modes root : ℕ) (table : List ℕ) : Type 0 where
-  pub accepted : tree-checked most modes table ≡ Accepted
-  pub is-tree : IsTree modes table root
-  pub absent-ends : chain-end modes table modes root ≡ absent
+-- n lawful merges, however they were chosen, of modes whose codes are below the absent child's.
+pub record AllMerged (modes : ℕ) (history : List Triple) : Type 0 where
+  pub lawful : LawfulHistory modes history
+  pub all : length history ≡ modes
+  pub some-modes : 1 ≤ modes
+  pub few-modes : 3 * modes ≤ absent
 
--- Any n lawful merges end in one, however they were chosen, and the last parent is its root. The check may take more modes than there are.
+-- "its rows … laid in label order".
+abbrev pub tree-of : ℕ → List Triple → List ℕ
+tree-of modes history = laid modes (flatpack modes history)
+
+-- All such merges end in a finished tree, and the last parent is its root; `most` is the most modes that the check takes.
 abbrev pub LawfulFinishes : Type 0
 LawfulFinishes =
-    (most modes : ℕ) (history : List Triple) → LawfulHistory modes history → length history ≡ modes
-    → 1 ≤ modes → modes ≤ most → 3 * modes ≤ absent
-    → FinishedTree most modes (modes - 1) (laid modes (flatpack modes history))
+    (most modes : ℕ) (history : List Triple) → AllMerged modes history → modes ≤ most
+    → FinishedTree most modes (modes - 1) (tree-of modes history)
 
 -- "HATT and every accepted resume": HATT is resuming from an empty journal.
 abbrev pub EveryFinish : Type 0

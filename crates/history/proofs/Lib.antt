@@ -6,6 +6,7 @@ pub mod ChosenRight
 pub mod ChosenOne
 pub mod RowsAfter
 pub mod Images
+pub mod OpenOver
 pub mod OpenSums
 pub mod AbsentLeaf
 pub mod Partners

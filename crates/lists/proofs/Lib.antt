@@ -16,6 +16,7 @@ pub mod Least
 pub mod Listed
 pub mod Totals
 pub mod Sums
+pub mod SumsCompared
 pub mod Behind
 pub mod Kept
 pub mod Joined

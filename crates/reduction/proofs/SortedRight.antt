@@ -1,5 +1,5 @@
 -- Sorting is right: the numbers ascend, each occurs as often as before, and a list that ascends already stays as it is.
-use mathlib.Core.Path.{_≡_, refl, ap, _∙_}
+use mathlib.Core.Path.{_≡_, refl, ap, _∙_, sym}
 use mathlib.Core.Bool.{Bool, true, false}
 use mathlib.Core.List.{List, [], _∷_}
 use Prim.Native.Nat.{ℕ, suc, _+_, _≤_, min, max}
@@ -7,11 +7,12 @@ use native.Mathlib.Omega.{arith}
 use borrow.Author.Tests.{leb-true, leb-false}
 use lib.Dec.{leb}
 use lib.ListN.{length}
-use Rattle.lists.specs.Counting.{same, occurrences}
+use Rattle.lists.specs.Counting.{sum, same, occurrences}
 use Rattle.lists.specs.Members.{every}
 use Rattle.lists.specs.Ranges.{ascends-from, ascends}
 use Rattle.lists.proofs.Ascending.{ascends-cons, ascends-uncons, ascends-lower}
 use Rattle.lists.proofs.Every.{every-cons, every-uncons}
+use Rattle.lists.proofs.Sums.{sum-of, sum-occurrences}
 use Rattle.reduction.specs.Reduction.{put-in, sorted}
 
 pub length-put-in : (number : ℕ) (l : List ℕ) → length (put-in number l) ≡ suc (length l)
@@ -54,18 +55,22 @@ in-either-order P a b this that = go (leb a b) refl
         let high : max a b ≡ a = omega arith in
         rw (low, high) that
 
-occurrences-put-in : (v number : ℕ) (l : List ℕ) → occurrences v (put-in number l) ≡ same number v + occurrences v l
-unfolding put-in occurrences
-occurrences-put-in v number [] = refl
-occurrences-put-in v number (next ∷ l) =
-    rw (occurrences-put-in v (max number next) l)
-    (in-either-order (λ a b. same a v + (same b v + occurrences v l) ≡ same number v + (same next v + occurrences v l)) number next
-    refl (omega arith))
+-- What the numbers weigh together stays, so how often each occurs does.
+module _ (weight : ℕ → ℕ) where
+  sum-put-in : (number : ℕ) (l : List ℕ) → sum-of weight (put-in number l) ≡ weight number + sum-of weight l
+  unfolding put-in sum
+  sum-put-in number [] = refl
+  sum-put-in number (next ∷ l) =
+      rw (sum-put-in (max number next) l)
+      (in-either-order (λ a b. weight a + (weight b + sum-of weight l) ≡ weight number + (weight next + sum-of weight l)) number next refl (omega arith))
+
+  pub sum-sorted : (l : List ℕ) → sum-of weight (sorted l) ≡ sum-of weight l
+  unfolding sorted sum
+  sum-sorted [] = refl
+  sum-sorted (number ∷ l) = sum-put-in number (sorted l) ∙ ap (λ n. weight number + n) (sum-sorted l)
 
 pub occurrences-sorted : (v : ℕ) (l : List ℕ) → occurrences v (sorted l) ≡ occurrences v l
-unfolding sorted occurrences
-occurrences-sorted v [] = refl
-occurrences-sorted v (number ∷ l) = occurrences-put-in v number (sorted l) ∙ ap (λ n. same number v + n) (occurrences-sorted v l)
+occurrences-sorted v l = sym (sum-occurrences v (sorted l)) ∙ sum-sorted (λ number. same number v) l ∙ sum-occurrences v l
 
 module _ (test : ℕ → Bool) where
   every-put-in : (number : ℕ) (l : List ℕ) → test number ≡ true → every test l ≡ true → every test (put-in number l) ≡ true

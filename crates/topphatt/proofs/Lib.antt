@@ -8,6 +8,7 @@ pub mod AnswerAccepted
 pub mod RoundsWent
 pub mod AssignDone
 pub mod OutcomeRight
+pub mod AnswerFinished
 pub mod OneAnswer
 pub mod RoundList
 pub mod ChosenLeaves

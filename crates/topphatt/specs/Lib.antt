@@ -3,5 +3,6 @@ pub mod Rounds
 pub mod Answer
 pub mod Promises
 pub mod Assignment
+pub mod Finished
 pub mod computed
 pub mod code

@@ -12,3 +12,4 @@ pub mod AcceptedTree
 pub mod AbsentEnds
 pub mod EachHosts
 pub mod WritingAnswered
+pub mod FinishedTables

@@ -6,3 +6,4 @@ pub mod Pairs
 pub mod Check
 pub mod Accepted
 pub mod Writing
+pub mod Finished

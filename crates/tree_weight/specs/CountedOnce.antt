@@ -53,9 +53,12 @@ AtMostListed =
     (modes : ℕ) (table : List ℕ) (terms : List (List ℕ)) → every (every (λ index. ltb index (2 * modes))) terms ≡ true
     → tree-weight modes table terms ≤ listed-weight modes table terms
 
+abbrev pub DifferentOperators : ℕ → List (List ℕ) → Type 0
+DifferentOperators modes terms =
+    (place later : ℕ) → place < later → later < length terms
+    → surviving (2 * modes) (getD terms place []) ≡ surviving (2 * modes) (getD terms later []) → ⊥
+
 abbrev pub AllDifferent : Type 0
 AllDifferent =
     (modes : ℕ) (table : List ℕ) (terms : List (List ℕ)) → every (every (λ index. ltb index (2 * modes))) terms ≡ true
-    → ((place later : ℕ) → place < later → later < length terms
-    → surviving (2 * modes) (getD terms place []) ≡ surviving (2 * modes) (getD terms later []) → ⊥)
-    → tree-weight modes table terms ≡ listed-weight modes table terms
+    → DifferentOperators modes terms → tree-weight modes table terms ≡ listed-weight modes table terms
