@@ -117,7 +117,10 @@ module _ (modes : ℕ) (table : List ℕ) (whole : length table ≡ 3 * modes) (
               (was .climbs (suc steps) node
               ∙ ap (known-or (edge-at modes history node leaf)) (one-up (length history) edge (code entity) within k stands steps node)
               ∙ ⊎-elim
-              (λ e. rw (e, newest-edge modes merge history leaf, at, no-edge modes history (length history) leaf (omega arith), eq-eqb (length history) (length history) refl, ne-eqb edge 3 (λ q. omega arith)))
+              (λ e.
+              let found = newest-edge modes merge history leaf ∙ at in
+              let unknown = no-edge modes history (length history) leaf (omega arith) in
+              rw (e, found, unknown, eq-eqb (length history) (length history) refl, ne-eqb edge 3 (λ q. omega arith)))
               (λ other. rw (older-edge modes merge history node leaf other, ne-eqb (length history) node (λ q. other (sym q))))
               (same-or-not node (length history)));
         }

@@ -12,7 +12,8 @@ use Rattle.finished.proofs.LaidMerged.{laid-merged}
 use Rattle.finished.proofs.UnderMerged.{code-once, absent-once}
 use Rattle.finished.proofs.ChainsMerged.{pair-merged}
 
-pub merged-tree : (modes : ℕ) (history : List Triple) → AllMerged modes history → (table : List ℕ) → Merged modes history table → IsTree modes table (modes - 1)
+pub merged-tree : (modes : ℕ) (history : List Triple) → AllMerged modes history → (table : List ℕ) → Merged modes history table
+    → IsTree modes table (modes - 1)
 unfolding met
 merged-tree modes history merges table merged =
     record {

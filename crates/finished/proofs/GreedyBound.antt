@@ -52,9 +52,10 @@ module _ (modes : ℕ) (history : List Triple) (merges : AllMerged modes history
       let steps : up .hops + (suc modes - up .hops) ≡ suc modes = omega (arith, up .few, merges .all) in
       let start : modes + leaf ≡ leaf + modes = omega arith in
       let root : parent-number modes (modes - 1) ≡ 3 * modes = omega (arith, merges .some-modes) in
+      let alone = one-root modes history (merges .lawful) (merges .all) (merges .some-modes) .alone in
       let last : child-code modes (2 * modes) (open-over modes history leaf) ≡ modes - 1 =
       ap (child-code modes (2 * modes))
-      (one-root modes history (merges .lawful) (merges .all) (merges .some-modes) .alone (open-over modes history leaf) (over-open modes history leaf (omega arith)) ∙ sym root)
+      (alone (open-over modes history leaf) (over-open modes history leaf (omega arith)) ∙ sym root)
       ∙ code-node modes (modes - 1) in
       let nowhere : occurrences (modes - 1) table ≡ 0 =
       ap (λ v. occurrences v table) (only-root modes table (modes - 1) (merges .few-modes) (merged .whole) tree) ∙ says .top in

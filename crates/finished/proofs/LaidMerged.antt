@@ -60,25 +60,25 @@ module _ (modes : ℕ) (history : List Triple) (merges : AllMerged modes history
   abbrev labels : List ℕ
   labels = walked modes history
 
+  once : (label : ℕ) → label < modes → occurrences label labels ≡ 1
+  once = walk-once modes history (merges .lawful) (merges .all) (merges .some-modes) (merges .few-modes)
+
+  never : (label : ℕ) → modes ≤ label → occurrences label labels ≡ 0
+  never = walk-never modes history (merges .lawful) (merges .all) (merges .some-modes) (merges .few-modes)
+
   at-most-once : (label : ℕ) → occurrences label labels ≤ 1
   at-most-once label = go (ltb label modes) refl
     where
       go : (b : Bool) → ltb label modes ≡ b → occurrences label labels ≤ 1
-      go true q = omega (arith, walk-once modes history (merges .lawful) (merges .all) (merges .some-modes) (merges .few-modes) label (ltb-true label modes q))
-      go false q = omega (arith, walk-never modes history (merges .lawful) (merges .all) (merges .some-modes) (merges .few-modes) label (ltb-false label modes q))
+      go true q = omega (arith, once label (ltb-true label modes q))
+      go false q = omega (arith, never label (ltb-false label modes q))
 
   label-below : (place : ℕ) → place < length labels → getD labels place 0 < modes
-  label-below place h = go (ltb (getD labels place 0) modes) refl
+  label-below place h = go (getD labels place 0) (occurs-at (getD labels place 0) labels place 0 h refl) (ltb (getD labels place 0) modes) refl
     where
-      go : (b : Bool) → ltb (getD labels place 0) modes ≡ b → getD labels place 0 < modes
-      go true q = ltb-true (getD labels place 0) modes q
-      go false q =
-          absurd
-          (omega (
-            arith,
-            walk-never modes history (merges .lawful) (merges .all) (merges .some-modes) (merges .few-modes) (getD labels place 0) (ltb-false (getD labels place 0) modes q),
-            occurs-at (getD labels place 0) labels place 0 h refl,
-          ))
+      go : (label : ℕ) → 1 ≤ occurrences label labels → (b : Bool) → ltb label modes ≡ b → label < modes
+      go label there true q = ltb-true label modes q
+      go label there false q = absurd (omega (arith, never label (ltb-false label modes q)))
 
   labels-fit : every (λ label. ltb (3 * label + 2) (3 * modes)) labels ≡ true
   labels-fit =
@@ -101,7 +101,8 @@ module _ (modes : ℕ) (history : List Triple) (merges : AllMerged modes history
         child-is = λ label edge h k.
             edge-has modes history (tree-of modes history) label
             (row-of modes history (tree-of modes history) labels has-rows label
-            (omega (arith, walk-once modes history (merges .lawful) (merges .all) (merges .some-modes) (merges .few-modes) label (omega (arith, merges .all)))))
+            (omega (arith, once label (omega (arith, merges .all)))))
             edge k
-            ∙ ap (λ last. child-code modes last (by-edge (merge-of history label) edge)) (absent-leaf-last modes history (merges .lawful) (merges .all) (merges .some-modes));
+            ∙ ap (λ last. child-code modes last (by-edge (merge-of history label) edge))
+            (absent-leaf-last modes history (merges .lawful) (merges .all) (merges .some-modes));
       }

@@ -26,7 +26,8 @@ pub record Merged (modes : ℕ) (history : List Triple) (table : List ℕ) : Typ
       → child table label edge ≡ child-code modes (2 * modes) (by-edge (merge-of history label) edge)
 
 -- The table has the merges before the newest too.
-pub merged-before : (modes : ℕ) (merge : Triple) (history : List Triple) (table : List ℕ) → Merged modes (merge ∷ history) table → Merged modes history table
+pub merged-before : (modes : ℕ) (merge : Triple) (history : List Triple) (table : List ℕ)
+    → Merged modes (merge ∷ history) table → Merged modes history table
 merged-before modes merge history table merged =
     record {
       whole = merged .whole;
@@ -47,7 +48,8 @@ child-before modes history lawful label (suc (suc edge)) h = node modes history 
 -- as nodes were made up to it.
 module _ (modes : ℕ) (history : List Triple) (merges : AllMerged modes history) (P : ℕ → ℕ → Type 0)
     (at-leaf : (steps leaf : ℕ) → leaf ≤ 2 * modes → modes ≤ child-code modes (2 * modes) leaf → P steps leaf)
-    (at-node : (steps label : ℕ) → label < modes → ((edge : ℕ) → P steps (by-edge (merge-of history label) edge)) → P (suc steps) (parent-number modes label)) where
+    (at-node : (steps label : ℕ) → label < modes → ((edge : ℕ) → P steps (by-edge (merge-of history label) edge))
+    → P (suc steps) (parent-number modes label)) where
   abbrev Holds : ℕ → Type 0
   Holds steps = (entity : ℕ) → entity < 2 * modes + 1 + modes → entity < 2 * modes + 1 + steps → P steps entity
 

@@ -29,8 +29,8 @@ use Rattle.finished.proofs.Merged.{by-edge}
 use Rattle.history.proofs.OpenOver.{open-over, sum-image}
 use Rattle.finished.proofs.EdgesMerged.{edge-in, edge-at, newest-edge, older-edge}
 
--- Of three different entities, an entity is at an edge where it is that edge's.
-module _ (triple : Triple) (x-not-y : triple .x ≡ triple .y → ⊥) (x-not-z : triple .x ≡ triple .z → ⊥) (y-not-z : triple .y ≡ triple .z → ⊥) (entity : ℕ) where
+-- The three are different, so an entity is at an edge of theirs just where it is that edge's.
+module _ (modes : ℕ) (history : List Triple) (triple : Triple) (lawful : Lawful modes history triple) (entity : ℕ) where
   abbrev At : ℕ → Type 0
   At edge = same (edge-in triple entity) edge ≡ same entity (by-edge triple edge)
 
@@ -38,11 +38,12 @@ module _ (triple : Triple) (x-not-y : triple .x ≡ triple .y → ⊥) (x-not-z 
   unfolding edge-in by-edge same
   at-each = go (eqb entity (triple .x)) refl (eqb entity (triple .y)) refl (eqb entity (triple .z)) refl
     where
-      go : (x : Bool) → eqb entity (triple .x) ≡ x → (y : Bool) → eqb entity (triple .y) ≡ y → (z : Bool) → eqb entity (triple .z) ≡ z → At 0 × At 1 × At 2
-      go true p true q z r = absurd (x-not-y (sym (eqb-true entity (triple .x) p) ∙ eqb-true entity (triple .y) q))
-      go true p false q true r = absurd (x-not-z (sym (eqb-true entity (triple .x) p) ∙ eqb-true entity (triple .z) r))
+      go : (x : Bool) → eqb entity (triple .x) ≡ x → (y : Bool) → eqb entity (triple .y) ≡ y → (z : Bool) → eqb entity (triple .z) ≡ z
+          → At 0 × At 1 × At 2
+      go true p true q z r = absurd (lawful .x-not-y (sym (eqb-true entity (triple .x) p) ∙ eqb-true entity (triple .y) q))
+      go true p false q true r = absurd (lawful .x-not-z (sym (eqb-true entity (triple .x) p) ∙ eqb-true entity (triple .z) r))
       go true p false q false r = (rw p, rw (p, q), rw (p, r))
-      go false p true q true r = absurd (y-not-z (sym (eqb-true entity (triple .y) q) ∙ eqb-true entity (triple .z) r))
+      go false p true q true r = absurd (lawful .y-not-z (sym (eqb-true entity (triple .y) q) ∙ eqb-true entity (triple .z) r))
       go false p true q false r = (rw (p, q), rw (p, q), rw (p, q, r))
       go false p false q true r = (rw (p, q, r), rw (p, q, r), rw (p, q, r))
       go false p false q false r = (rw (p, q, r), rw (p, q, r), rw (p, q, r))
@@ -58,39 +59,40 @@ abbrev pub EdgesKnown : ℕ → List ℕ → List Triple → Type 0
 EdgesKnown modes table history =
     (node leaf : ℕ) → node < length history → leaf < 2 * modes → edge-under table (suc modes) node (modes + leaf) ≡ edge-at modes history node leaf
 
-module _ (modes : ℕ) (table : List ℕ) where
-  abbrev below : List ℕ → Bool
-  below term = every (λ index. ltb index (2 * modes)) term
+-- The row's indices are below 2n.
+abbrev below : ℕ → List ℕ → Bool
+below modes term = every (λ index. ltb index (2 * modes)) term
 
-  module _ (merge : Triple) (history : List Triple) (lawful : Lawful modes history merge) (known : EdgesKnown modes table (merge ∷ history)) where
-    counted : (term : List ℕ) → below term ≡ true → (edge : ℕ) → edge < 3
-        → occurrences edge (edges modes table (length history) term) ≡ occurrences (by-edge merge edge) (image modes history term)
-    unfolding edges
-    counted term low edge h =
-        let climbed : ℕ → ℕ = λ index. edge-under table (suc modes) (length history) (modes + index) in
-        sym (sum-occurrences edge (edges modes table (length history) term))
-        ∙ sum-map (λ a. same a edge) climbed term
-        ∙ sum-same (λ index. ltb index (2 * modes)) (λ index. same (climbed index) edge) (λ index. same (open-over modes history index) (by-edge merge edge))
-        (λ index l.
-        ap (λ a. same a edge) (known (length history) index (omega arith) (ltb-true index (2 * modes) l) ∙ newest-edge modes merge history index)
-        ∙ at-edge merge (lawful .x-not-y) (lawful .x-not-z) (lawful .y-not-z) (open-over modes history index) edge h)
-        term low
-        ∙ sym (sum-image modes history (λ entity. same entity (by-edge merge edge)) term)
-        ∙ sum-occurrences (by-edge merge edge) (image modes history term)
+module _ (modes : ℕ) (table : List ℕ) (merge : Triple) (history : List Triple) (lawful : Lawful modes history merge)
+    (known : EdgesKnown modes table (merge ∷ history)) where
+  counted : (term : List ℕ) → below modes term ≡ true → (edge : ℕ) → edge < 3
+      → occurrences edge (edges modes table (length history) term) ≡ occurrences (by-edge merge edge) (image modes history term)
+  unfolding edges
+  counted term low edge h =
+      let climbed : ℕ → ℕ = λ index. edge-under table (suc modes) (length history) (modes + index) in
+      sym (sum-occurrences edge (edges modes table (length history) term))
+      ∙ sum-map (λ a. same a edge) climbed term
+      ∙ sum-same (λ index. ltb index (2 * modes)) (λ index. same (climbed index) edge) (λ index. same (open-over modes history index) (by-edge merge edge))
+      (λ index l.
+      ap (λ a. same a edge) (known (length history) index (omega arith) (ltb-true index (2 * modes) l) ∙ newest-edge modes merge history index)
+      ∙ at-edge modes history merge lawful (open-over modes history index) edge h)
+      term low
+      ∙ sym (sum-image modes history (λ entity. same entity (by-edge merge edge)) term)
+      ∙ sum-occurrences (by-edge merge edge) (image modes history term)
 
-    node-weighs : (term : List ℕ) → below term ≡ true → term-weight merge (image modes history term) ≡ node-weight modes table term (length history)
-    unfolding node-weight node-letter term-weight term-letter by-edge
-    node-weighs term low = rw (counted term low 0 (omega arith), counted term low 1 (omega arith), counted term low 2 (omega arith))
+  node-weighs : (term : List ℕ) → below modes term ≡ true → term-weight merge (image modes history term) ≡ node-weight modes table term (length history)
+  unfolding node-weight node-letter term-weight term-letter by-edge
+  node-weighs term low = rw (counted term low 0 (omega arith), counted term low 1 (omega arith), counted term low 2 (omega arith))
 
-  weightless : (triple : Triple) → term-weight triple [] ≡ 0
-  unfolding term-weight term-letter counted-letter occurrences letter-of
-  weightless triple = refl
+weightless : (triple : Triple) → term-weight triple [] ≡ 0
+unfolding term-weight term-letter counted-letter occurrences letter-of
+weightless triple = refl
 
 -- What all terms weigh at a node.
 abbrev pub all-at : List ℕ → Job → ℕ → ℕ
 all-at table job node = sum-of (λ term. node-weight (job .modes) table term node) (job .terms)
 
-module _ (job : Job) (table : List ℕ) (low : every (below (job .modes) table) (job .terms) ≡ true) where
+module _ (job : Job) (table : List ℕ) (low : every (below (job .modes)) (job .terms) ≡ true) where
   step-at-most : (merge : Triple) (history : List Triple) → Lawful (job .modes) history merge → EdgesKnown (job .modes) table (merge ∷ history)
       → weight-in job history merge ≤ all-at table job (length history)
   unfolding weight-in weight-of
@@ -100,11 +102,11 @@ module _ (job : Job) (table : List ℕ) (low : every (below (job .modes) table) 
       sum-by-place (term-weight merge) images [] [] (rows-after job history) (job .terms) (length-rows-after job history)
       (λ place h.
       ⊎-elim
-      (λ gone. rw gone (rw (weightless (job .modes) table merge) (omega arith)))
+      (λ gone. rw gone (rw (weightless merge) (omega arith)))
       (λ there. rw there (omega arith))
       (image-or-gone job history place h)) in
       let as-nodes : sum-of images (job .terms) ≡ all-at table job (length history) =
-      sum-same (below (job .modes) table) images (λ term. node-weight (job .modes) table term (length history))
+      sum-same (below (job .modes)) images (λ term. node-weight (job .modes) table term (length history))
       (λ term l. node-weighs (job .modes) table merge history lawful known term l) (job .terms) low in
       omega arith
 
