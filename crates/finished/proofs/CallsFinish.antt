@@ -11,6 +11,8 @@ use Rattle.lists.proofs.Every.{every-also}
 use Rattle.entities.specs.Codes.{absent}
 use Rattle.entities.specs.Limits.{row-width}
 use Rattle.entities.specs.declared.Triple.{Triple}
+use Rattle.terms.specs.declared.rules.Rule.{Rule}
+use Rattle.terms.specs.Rules.{rule-of}
 use Rattle.terms.specs.Job.{job-of}
 use Rattle.terms.specs.Rows.{terms-of}
 use Rattle.terms.specs.Good.{modes-good, good-term, checked}
@@ -31,21 +33,21 @@ use Rattle.finished.specs.GreedyBound.{indices-below, AtMostTree, EveryC
 use Rattle.finished.proofs.FinishedTrees.{lawful-finishes}
 use Rattle.finished.proofs.GreedyBound.{greedy-at-most-tree}
 
-pub record Finishes (modes : ℕ) (numbers : List ℕ) (part : Ending) : Type 0 where
+pub record Finishes (modes : ℕ) (rule : Rule) (numbers : List ℕ) (part : Ending) : Type 0 where
   pub count : ℕ
   pub terms-are : checked modes numbers ≡ Good count
   pub history : List Triple
   pub merges : AllMerged modes history
   pub count-is : part .count ≡ count
   pub rows-are : part .rows ≡ flatpack modes history
-  pub weight-is : part .weight ≡ run-weight (job-of modes count numbers) history
+  pub weight-is : part .weight ≡ run-weight (job-of modes rule count numbers) history
 
-pub call-finishes : (rooms : Rooms) (modes : ℕ) (numbers bytes : List ℕ) (part : Ending) → resumed rooms modes numbers bytes ≡ done part
-    → 3 * modes ≤ absent → Finishes modes numbers part
+pub call-finishes : (rooms : Rooms) (modes rule : ℕ) (numbers bytes : List ℕ) (part : Ending) → resumed rooms modes rule numbers bytes ≡ done part
+    → 3 * modes ≤ absent → Finishes modes (rule-of rule) numbers part
 unfolding modes-good ending
-call-finishes rooms modes numbers bytes part says few =
-    let known = call-done rooms modes numbers bytes part says in
-    let job = job-of modes (known .count) numbers in
+call-finishes rooms modes rule numbers bytes part says few =
+    let known = call-done rooms modes rule numbers bytes part says in
+    let job = job-of modes (rule-of rule) (known .count) numbers in
     let told = obedient job bytes (known .history) (known .obeys) in
     let merges : AllMerged modes (finished job (known .history)) = record {
       lawful = finished-lawful job (known .history) (told .lawful) (told .within);
@@ -64,32 +66,32 @@ call-finishes rooms modes numbers bytes part says few =
     }
 
 pub every-finish : EveryFinish
-every-finish rooms most modes numbers bytes part says few small =
-    let known = call-finishes rooms modes numbers bytes part says small in
+every-finish rooms most modes rule numbers bytes part says few small =
+    let known = call-finishes rooms modes rule numbers bytes part says small in
     rw (known .rows-are) (lawful-finishes most modes (known .history) (known .merges) few)
 
 -- Terms that a call took have their indices below 2n.
-taken-below : (modes count : ℕ) (numbers : List ℕ) → checked modes numbers ≡ Good count → indices-below (job-of modes count numbers) ≡ true
-taken-below modes count numbers good =
+taken-below : (modes : ℕ) (rule : Rule) (count : ℕ) (numbers : List ℕ) → checked modes numbers ≡ Good count → indices-below (job-of modes rule count numbers) ≡ true
+taken-below modes rule count numbers good =
     every-also (good-term (2 * modes)) (every (λ index. ltb index (2 * modes)))
     (λ term e. good-term-says (2 * modes) term e .below) (terms-of row-width count numbers) (accepted modes numbers count good .good)
 
 -- Rows and a weight that are those of n lawful merges.
-merges-at-most : (most modes count : ℕ) (numbers rows : List ℕ) (greedy : ℕ) (history : List Triple) → AllMerged modes history → modes ≤ most
+merges-at-most : (most modes : ℕ) (rule : Rule) (count : ℕ) (numbers rows : List ℕ) (greedy : ℕ) (history : List Triple) → AllMerged modes history → modes ≤ most
     → checked modes numbers ≡ Good count → DifferentOperators modes (terms-of row-width count numbers)
-    → rows ≡ flatpack modes history → greedy ≡ run-weight (job-of modes count numbers) history → AtMostTree most modes rows numbers greedy
+    → rows ≡ flatpack modes history → greedy ≡ run-weight (job-of modes rule count numbers) history → AtMostTree most modes rows numbers greedy
 unfolding tree-weighed weighed-tree weighed-terms
-merges-at-most most modes count numbers rows greedy history merges few good different rows-are weight-is =
-    let job = job-of modes count numbers in
+merges-at-most most modes rule count numbers rows greedy history merges few good different rows-are weight-is =
+    let job = job-of modes rule count numbers in
     let tree = lawful-finishes most modes history merges few in
     record {
       weight = tree-weight modes (tree-of modes history) (job .terms);
       weighed = rw rows-are (rw (tree .accepted, good));
-      at-most = rw weight-is (greedy-at-most-tree job history merges (taken-below modes count numbers good) different);
+      at-most = rw weight-is (greedy-at-most-tree job history merges (taken-below modes rule count numbers good) different);
     }
 
 pub every-call-at-most-tree : EveryCallAtMostTree
-every-call-at-most-tree rooms most modes numbers bytes part says few small different =
-    let known = call-finishes rooms modes numbers bytes part says small in
-    merges-at-most most modes (known .count) numbers (part .rows) (part .weight) (known .history) (known .merges) few (known .terms-are)
+every-call-at-most-tree rooms most modes rule numbers bytes part says few small different =
+    let known = call-finishes rooms modes rule numbers bytes part says small in
+    merges-at-most most modes (rule-of rule) (known .count) numbers (part .rows) (part .weight) (known .history) (known .merges) few (known .terms-are)
     (rw (known .count-is) at different) (known .rows-are) (known .weight-is)

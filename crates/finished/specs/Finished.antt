@@ -28,9 +28,9 @@ LawfulFinishes =
     (most modes : ℕ) (history : List Triple) → AllMerged modes history → modes ≤ most
     → FinishedTree most modes (modes - 1) (tree-of modes history)
 
--- "HATT and every accepted resume": HATT is resuming from an empty journal.
+-- "HATT and every accepted resume", by either rule: HATT is resuming from an empty journal.
 abbrev pub EveryFinish : Type 0
 EveryFinish =
-    (rooms : Rooms) (most modes : ℕ) (numbers bytes : List ℕ) (part : Ending)
-    → resumed rooms modes numbers bytes ≡ done part → modes ≤ most → 3 * modes ≤ absent
+    (rooms : Rooms) (most modes rule : ℕ) (numbers bytes : List ℕ) (part : Ending)
+    → resumed rooms modes rule numbers bytes ≡ done part → modes ≤ most → 3 * modes ≤ absent
     → FinishedTree most modes (modes - 1) (laid modes (part .rows))

@@ -40,10 +40,10 @@ pub record AtMostTree (most modes : ℕ) (rows numbers : List ℕ) (greedy : ℕ
   pub weighed : tree-weighed most modes (laid modes rows) numbers ≡ Weight weight
   pub at-most : greedy ≤ weight
 
--- The sentence, of "HATT and every accepted resume".
+-- The sentence, of "HATT and every accepted resume", "for both rules".
 abbrev pub EveryCallAtMostTree : Type 0
 EveryCallAtMostTree =
-    (rooms : Rooms) (most modes : ℕ) (numbers bytes : List ℕ) (part : Ending)
-    → resumed rooms modes numbers bytes ≡ done part → modes ≤ most → 3 * modes ≤ absent
+    (rooms : Rooms) (most modes rule : ℕ) (numbers bytes : List ℕ) (part : Ending)
+    → resumed rooms modes rule numbers bytes ≡ done part → modes ≤ most → 3 * modes ≤ absent
     → DifferentOperators modes (terms-of row-width (part .count) numbers)
     → AtMostTree most modes (part .rows) numbers (part .weight)
