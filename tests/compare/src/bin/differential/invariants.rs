@@ -1,11 +1,12 @@
 //! What every accepted resume must satisfy, whatever journal it was given, and what every refused one must.
 
 use crate::calls::{accepted, resume, Finished};
+use crate::finished::{is_accepted, weighs_at_least};
 use crate::judge::judge;
 use crate::tally::equal;
 use compare::cases::tree_of_rows;
 use plain::merging::Merge;
-use plain::{check_tree, find_line, Refusal};
+use plain::{find_line, Refusal};
 
 /// "With n modes and k kept merge lines a run has j(j+1)(4j-1)/3, j = n-k."
 pub fn total_trials(left: usize) -> u64 {
@@ -56,7 +57,8 @@ pub fn hold(modes: usize, terms: &[u16], read: &[u8], finished: &Finished) -> Re
     new_lines_are_greedy(modes, terms, read, finished)?;
     lines_give_the_rows(modes, kept, finished)?;
     let tree = tree_of_rows(&finished.rows);
-    equal("tree check", check_tree(modes, &tree), Ok(()))?;
+    is_accepted(modes, &tree)?;
+    weighs_at_least(modes, &tree, terms, done.weight)?;
     is_whole(modes, terms, &whole, finished)
 }
 

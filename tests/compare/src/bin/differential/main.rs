@@ -4,6 +4,7 @@ mod bounds;
 mod calls;
 mod cuts;
 mod damage;
+mod finished;
 mod invariants;
 mod judge;
 mod keeping;

@@ -2,6 +2,7 @@
 
 use super::{size_of, smallest, Terms, COUNTS};
 use crate::calls;
+use crate::finished::is_accepted;
 use crate::tally::{equal, Tally};
 use compare::cases::{any_tree, flat, terms, tree, Random, Shape, GROWTHS, SHAPES};
 
@@ -79,5 +80,5 @@ fn assign_agrees(
     let (expected, expected_weight) = oracle::assign(modes, tree, heuristic, terms);
     equal("table", &table, &expected)?;
     equal("weight", weight, expected_weight as u64)?;
-    equal("tree check", plain::check_tree(modes, &table), Ok(()))
+    is_accepted(modes, &table)
 }

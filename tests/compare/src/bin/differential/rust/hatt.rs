@@ -2,6 +2,7 @@
 
 use super::{size_of, smallest, Terms, COUNTS};
 use crate::calls;
+use crate::finished::is_accepted;
 use crate::invariants::total_trials;
 use crate::tally::{equal, Tally};
 use compare::cases::{flat, terms, tree_of_rows, Random, Shape, ABSENT, SHAPES};
@@ -74,11 +75,7 @@ fn hatt_agrees(modes: usize, terms: &Terms) -> Result<(), String> {
     equal("rows", &finished.rows, &rows)?;
     equal("weight", finished.done.weight, weight as u64)?;
     equal("trials", finished.done.trials, total_trials(modes))?;
-    equal(
-        "tree check",
-        plain::check_tree(modes, &tree_of_rows(&rows)),
-        Ok(()),
-    )?;
+    is_accepted(modes, &tree_of_rows(&rows))?;
     let printed = plain::program(program_input(modes, terms).as_bytes());
     let expected = program_output(&rows, weight, total_trials(modes));
     equal(

@@ -1,0 +1,41 @@
+//! What a finished tree guarantees: the check accepts it, and the run that ended in it weighs no more than it does.
+
+use crate::tally::equal;
+use compare::proved;
+use std::collections::BTreeSet;
+
+/// Both checks accept the tree, the plain program's and the proved one.
+pub fn is_accepted(modes: usize, tree: &[u16]) -> Result<(), String> {
+    equal("tree check", plain::check_tree(modes, tree), Ok(()))?;
+    equal("proved tree check", proved::check_tree(modes, tree), [0; 3])
+}
+
+/// Greedy weight is at most what the rows weigh one by one, and at most the tree weight where no two of them are the same operator.
+pub fn weighs_at_least(
+    modes: usize,
+    tree: &[u16],
+    terms: &[u16],
+    greedy: u64,
+) -> Result<(), String> {
+    let weight = |rows: &[u16]| proved::tree_weight(modes, tree, rows)[2];
+    let listed = terms.chunks(8).map(weight).sum();
+    at_most("listed rows", greedy, listed)?;
+    let operators: BTreeSet<Vec<u16>> = terms.chunks(8).map(surviving).collect();
+    if 8 * operators.len() == terms.len() {
+        at_most("tree weight", greedy, weight(terms))?;
+    }
+    Ok(())
+}
+
+/// The indices that occur an odd number of times in a row.
+fn surviving(row: &[u16]) -> Vec<u16> {
+    let indices = &row[1..=usize::from(row[0])];
+    let runs = indices.chunk_by(|a, b| a == b);
+    runs.filter(|run| run.len() % 2 == 1)
+        .map(|run| run[0])
+        .collect()
+}
+
+fn at_most(what: &str, greedy: u64, weight: u64) -> Result<(), String> {
+    equal(what, greedy.max(weight), weight)
+}
