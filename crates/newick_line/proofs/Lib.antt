@@ -1,3 +1,4 @@
 -- The laws of the printed Newick line.
 pub mod LinePrinted
 pub mod LineSuffices
+pub mod RunsWritten

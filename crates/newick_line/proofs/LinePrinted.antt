@@ -17,7 +17,8 @@ use Rattle.newick.specs.Calls.{newick-written}
 use Rattle.terms.specs.declared.rules.Rule.the-variants.{Published}
 use Rattle.text.specs.Running.{Rooms}
 use Rattle.text.specs.Output.{refusal-text}
-use Rattle.newick_line.specs.NewickLine.{table-line, newick-printed, newick-answer-text}
+use Rattle.newick_line.specs.NewickLine.{newick-line, newick-printed, newick-answer-text}
+use Rattle.newick_line.specs.code.Lines.{table-line}
 use Rattle.text.specs.code.Printing.{Puts}
 use Rattle.text.proofs.PrintedLines.{front-over}
 use Rattle.ran_tree.specs.Printing.{written-printed}
@@ -44,7 +45,7 @@ module _ (most modes : ℕ) (table : List ℕ) (room : ℕ) where
     -- LF behind the text makes the line.
     pub written-line : (count : ℕ) (after : List ℕ) → Written count ≡ means → after ≡ text-after (Written count) text out → room < length out
         → Puts (table-line most room modes table) out (set after count 10) (count + 1)
-    unfolding text-after table-line written-printed
+    unfolding text-after table-line newick-line written-printed
     written-line count after e f k =
         let fits = line-fits count e in
         let size = length-append text (spelt "\n") in
@@ -60,7 +61,7 @@ module _ (most modes : ℕ) (table : List ℕ) (room : ℕ) where
     -- A refusal leaves nothing, and is printed over that.
     pub refused-line : (refusal : Refusal) (after : List ℕ) → Unwritten refusal ≡ means → after ≡ text-after (Unwritten refusal) text out
         → {last : List ℕ} {r : ℕ} → Puts (refusal-text refusal) after last r → Puts (table-line most room modes table) out last r
-    unfolding text-after table-line written-printed
+    unfolding text-after table-line newick-line written-printed
     refused-line refusal after e f puts =
         let line : refusal-text refusal ≡ table-line most room modes table = ap (λ r. written-printed r (text ++ spelt "\n")) e in
         rw (f, line) at puts
@@ -69,4 +70,4 @@ module _ (most modes : ℕ) (table : List ℕ) (room : ℕ) where
 pub cut-newick : (rooms : Rooms) (cut : ℕ) (text : List ℕ) → 12 + 47 * rooms .terms < cut
     → newick-answer-text rooms (take cut text) ≡ newick-answer-text rooms text
 unfolding newick-answer-text
-cut-newick rooms cut text h = ap (newick-printed (rooms .run .modes)) (cut-runs rooms Published cut text [] h)
+cut-newick rooms cut text h = ap newick-printed (cut-runs rooms Published cut text [] h)

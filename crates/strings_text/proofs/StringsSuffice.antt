@@ -3,6 +3,7 @@ use mathlib.Core.Path.{_≡_, refl, ap, _∙_}
 use mathlib.Core.List.{List, [], _++_, flatMap}
 use Prim.Native.Nat.{ℕ, zero, suc, _+_, _-_, _*_, _≤_}
 use native.Mathlib.Omega.{arith}
+use borrow.Author.Tests.{le-leb}
 use lib.ListN.{length, getD}
 use Rattle.lists.specs.Ranges.{listed}
 use Rattle.lists.proofs.Pigeonholes.{total-at-most, total-more}
@@ -12,18 +13,23 @@ use Rattle.refusal.specs.declared.Refusal.the-variants.{Room}
 use Rattle.entities.specs.Limits.{most-modes}
 use Rattle.fields.specs.Decimal.{digits, decimal}
 use Rattle.fields.specs.Fields.{tabbed}
+use Rattle.tree.specs.declared.TreeChecked.the-variants.{Accepted}
 use Rattle.tree.specs.declared.TreeWritten.{TreeWritten}
 use Rattle.tree.specs.declared.TreeWritten.the-variants.{Written, Unwritten}
+use Rattle.tree.specs.Check.{tree-checked}
+use Rattle.tree.specs.Writing.{written-as, tree-written}
 use Rattle.tree.specs.Laying.{modes-in, table-of}
 use Rattle.tree.proofs.AcceptedParts.{accepted-parts}
 use Rattle.strings.specs.Text.{string-line, majoranas, strings-text, line-length, strings-length, strings-written}
 use Rattle.strings.proofs.LinesWritten.{text-long}
 use Rattle.journal.specs.Resuming.{Outcome, done, refuses}
 use Rattle.nodes_text.specs.TreeInput.{TreeSaid, nodes, malformed, tree-said}
+use Rattle.terms_text.specs.Jobs.{Request}
 use Rattle.text.specs.Running.{program-rooms, ran}
 use Rattle.text.specs.Output.{line-of, refusal-text}
 use Rattle.text.proofs.RoomSuffices.{refusal-five, number-in, ran-never}
 use Rattle.ran_tree.specs.Printing.{written-printed, tree-printed}
+use Rattle.ran_tree.proofs.RunsAccepted.{printed-same}
 use Rattle.ran_tree.proofs.WritingNever.{number-written, writing-never}
 use Rattle.strings_text.specs.Printing.{strings-room, table-strings, hatt-strings-text, strings-as, tree-strings-text, HattStringsSuffice, TreeStringsSuffice}
 
@@ -48,6 +54,19 @@ strings-never modes table =
     let few = accepted-parts most-modes modes table accepted .few in
     omega (arith, text-long modes table, text-short modes few))
 
+-- An accepted tree's strings are printed, and so are those of a run's tree.
+accepted-strings : (modes : ℕ) (table : List ℕ) → tree-checked most-modes modes table ≡ Accepted
+    → table-strings most-modes modes table ≡ strings-text modes table
+unfolding table-strings strings-written tree-written written-as written-printed
+accepted-strings modes table accepted =
+    let few = accepted-parts most-modes modes table accepted .few in
+    let fits = le-leb (length (strings-text modes table)) strings-room (omega (arith, text-long modes table, text-short modes few)) in
+    rw accepted (rw fits)
+
+pub run-strings : (asks : Request) → tree-printed (table-strings most-modes) (ran program-rooms asks []) ≡ hatt-strings-text program-rooms asks
+unfolding hatt-strings-text
+run-strings asks = printed-same program-rooms asks [] (table-strings most-modes) strings-text (omega arith) accepted-strings
+
 -- Strings begin otherwise than a refusal does: with the number 0, or not at all.
 first-byte : (modes : ℕ) (table : List ℕ) → getD (strings-text modes table) 0 0 ≡ 114 → ⊥
 unfolding strings-text majoranas listed string-line decimal digits flatMap
@@ -69,11 +88,11 @@ table-never modes table e = strings-never modes table (five-written modes table 
 
 -- The theorems: 5 is never printed.
 pub hatt-strings-suffice : HattStringsSuffice
-unfolding hatt-strings-text tree-printed number-in
+unfolding hatt-strings-text tree-printed number-in refusal-text line-of tabbed
 hatt-strings-suffice asks = go (ran program-rooms asks []) refl
   where
-    go : (end : Outcome) → ran program-rooms asks [] ≡ end → tree-printed (table-strings most-modes) end ≡ refusal-text Room → ⊥
-    go (done ending) f e = table-never (modes-in (ending .rows)) (table-of (ending .rows)) e
+    go : (end : Outcome) → ran program-rooms asks [] ≡ end → tree-printed strings-text end ≡ refusal-text Room → ⊥
+    go (done ending) f e = first-byte (modes-in (ending .rows)) (table-of (ending .rows)) (ap (λ text. getD text 0 0) e)
     go (refuses refusal) f e = ran-never asks [] (rw f (refusal-five refusal e))
 
 pub tree-strings-suffice : TreeStringsSuffice

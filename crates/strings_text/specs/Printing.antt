@@ -21,9 +21,9 @@ strings-room = 133522
 unfoldable pub table-strings : ℕ → ℕ → List ℕ → List ℕ
 table-strings most modes table = written-printed (strings-written most modes table strings-room) (strings-text modes table)
 
--- Those of the tree that HATT builds for what is asked, a rule and the text of terms.
+-- Those of the tree that HATT builds for what is asked, a rule and the text of terms. Every such tree is accepted (W-212), so no refusal is printed for it.
 unfoldable pub hatt-strings-text : Rooms → Request → List ℕ
-hatt-strings-text rooms asks = tree-printed (table-strings (rooms .run .modes)) (ran rooms asks [])
+hatt-strings-text rooms asks = tree-printed strings-text (ran rooms asks [])
 
 -- Those of a tree's text: 18 before any other number.
 unfoldable pub strings-as : ℕ → TreeSaid → List ℕ

@@ -1,10 +1,12 @@
 -- The run was refused, or its table stands in front, whose line is printed.
-use mathlib.Core.Path.{sym}
+use mathlib.Core.Path.{sym, _∙_}
 use native.Mathlib.Omega.{arith}
 use borrow.Author.Needs.{needs}
 use lib.Seq.{length-take-le}
 use Rattle.ran_tree.proofs.TreeEnds.{tree-stands, tree-refused}
-use Rattle.newick_line.specs.NewickLine.{table-line, line-room, newick-printed, newick-answer-text}
+use Rattle.newick_line.specs.NewickLine.{newick-answer-text}
+use Rattle.newick_line.specs.code.Lines.{table-line, line-room}
+use Rattle.newick_line.proofs.RunsWritten.{run-line}
 use Rattle.newick_line.proofs.print_newick.Statement.{statement}
 use Rattle.newick_line.proofs.print_newick.Tie as tie
 
@@ -41,8 +43,8 @@ same-length-2 : tie.Need-same-length-2
 same-length-2 c = search needs
 
 returns : tie.Need-returns
-unfolding newick-answer-text newick-printed
-returns c = rw (tree-refused 256 _ _ _ (c .before .before .before .before .before .before .before .before .before .run-tree .ensures) _ (c .before .before .before .before .before .refusal .given .1) (table-line 256 line-room)) at (c .before .before .put-refusal .ensures)
+unfolding newick-answer-text
+returns c = rw (tree-refused 256 _ _ _ (c .before .before .before .before .before .before .before .before .before .run-tree .ensures) _ (c .before .before .before .before .before .refusal .given .1) (table-line 256 line-room) ∙ run-line _) at (c .before .before .put-refusal .ensures)
 
 same-length-3 : tie.Need-same-length-3
 same-length-3 c = search needs
@@ -51,8 +53,8 @@ same-length-4 : tie.Need-same-length-4
 same-length-4 c = search needs
 
 returns-2 : tie.Need-returns-2
-unfolding newick-answer-text newick-printed
-returns-2 c = rw ((tree-stands 256 _ _ _ (c .before .before .before .before .before .before .before .before .before .before .run-tree .ensures) _ (c .before .before .before .before .before .before .modes .given .1)) .prints (table-line 256 line-room)) at (c .before .before .put-line .ensures)
+unfolding newick-answer-text
+returns-2 c = rw ((tree-stands 256 _ _ _ (c .before .before .before .before .before .before .before .before .before .before .run-tree .ensures) _ (c .before .before .before .before .before .before .modes .given .1)) .prints (table-line 256 line-room) ∙ run-line _) at (c .before .before .put-line .ensures)
 
 pub print-newick-spec : {M : Type 1} → statement M
 print-newick-spec =

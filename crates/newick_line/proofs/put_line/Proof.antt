@@ -4,7 +4,7 @@ use native.Mathlib.Omega.{arith}
 use borrow.Author.Needs.{needs}
 use Rattle.tree.specs.Writing.{text-after}
 use Rattle.newick.specs.Writing.{newick-text}
-use Rattle.newick_line.specs.NewickLine.{line-room}
+use Rattle.newick_line.specs.code.Lines.{line-room}
 use Rattle.newick_line.proofs.LinePrinted.{line-fits, written-line, refused-line}
 use Rattle.newick_line.proofs.put_line.Statement.{statement}
 use Rattle.newick_line.proofs.put_line.Tie as tie

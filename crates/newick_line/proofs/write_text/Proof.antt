@@ -6,7 +6,7 @@ use borrow.Author.Needs.{needs}
 use lib.ListN.{drop}
 use lib.Seq.{length-take-le}
 use Rattle.newick.specs.Calls.{newick-written}
-use Rattle.newick_line.specs.NewickLine.{line-room}
+use Rattle.newick_line.specs.code.Lines.{line-room}
 use Rattle.newick_line.proofs.LinePrinted.{after-front}
 use Rattle.newick_line.proofs.write_text.Statement.{statement}
 use Rattle.newick_line.proofs.write_text.Tie as tie

@@ -1,10 +1,11 @@
 -- The run was refused, or its table stands in front, whose strings are printed.
-use mathlib.Core.Path.{sym}
+use mathlib.Core.Path.{sym, _∙_}
 use native.Mathlib.Omega.{arith}
 use borrow.Author.Needs.{needs}
 use lib.Seq.{length-take-le}
 use Rattle.ran_tree.proofs.TreeEnds.{tree-stands, tree-refused}
-use Rattle.strings_text.specs.Printing.{table-strings, hatt-strings-text}
+use Rattle.strings_text.specs.Printing.{table-strings}
+use Rattle.strings_text.proofs.StringsSuffice.{run-strings}
 use Rattle.strings_text.proofs.print_hatt.Statement.{statement}
 use Rattle.strings_text.proofs.print_hatt.Tie as tie
 
@@ -41,8 +42,7 @@ same-length-2 : tie.Need-same-length-2
 same-length-2 c = search needs
 
 returns : tie.Need-returns
-unfolding hatt-strings-text
-returns c = rw (tree-refused 256 _ _ _ (c .before .before .before .before .before .before .before .before .before .run-tree .ensures) _ (c .before .before .before .before .before .refusal .given .1) (table-strings 256)) at (c .before .before .put-refusal .ensures)
+returns c = rw (tree-refused 256 _ _ _ (c .before .before .before .before .before .before .before .before .before .run-tree .ensures) _ (c .before .before .before .before .before .refusal .given .1) (table-strings 256) ∙ run-strings _) at (c .before .before .put-refusal .ensures)
 
 same-length-3 : tie.Need-same-length-3
 same-length-3 c = search needs
@@ -51,8 +51,7 @@ same-length-4 : tie.Need-same-length-4
 same-length-4 c = search needs
 
 returns-2 : tie.Need-returns-2
-unfolding hatt-strings-text
-returns-2 c = rw ((tree-stands 256 _ _ _ (c .before .before .before .before .before .before .before .before .before .before .run-tree .ensures) _ (c .before .before .before .before .before .before .modes .given .1)) .prints (table-strings 256)) at (c .before .before .put-strings .ensures)
+returns-2 c = rw ((tree-stands 256 _ _ _ (c .before .before .before .before .before .before .before .before .before .before .run-tree .ensures) _ (c .before .before .before .before .before .before .modes .given .1)) .prints (table-strings 256) ∙ run-strings _) at (c .before .before .put-strings .ensures)
 
 pub print-hatt-spec : {M : Type 1} → statement M
 print-hatt-spec =
