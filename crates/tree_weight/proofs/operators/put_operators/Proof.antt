@@ -13,7 +13,7 @@ reduce-hamiltonian-requires : tie.Need-reduce-hamiltonian-requires
 reduce-hamiltonian-requires c κs =
     let put = c .before .before .before in
     let start = put .before .before .before .before in
-    (held-fewer 8 _ _ _ (omega arith) (put .put-surviving .ensures .held), start .pre .0 .few)
+    (held-fewer 8 _ _ _ (omega arith) (put .put-surviving .ensures .held), omega (arith, start .pre .0 .few))
 
 same-length : tie.Need-same-length
 same-length c = search needs
