@@ -2,9 +2,10 @@
 
 use crate::calls::{assign_by, resume_by, Finished, KEEP, PUBLISHED};
 use crate::cuts::describe;
+use crate::finished::{is_accepted, weighs_at_least};
 use crate::invariants::{kept_part, total_trials};
 use crate::tally::{equal, Tally};
-use compare::cases::{any_terms, any_tree, flat, terms, Random, Shape, SHAPES};
+use compare::cases::{any_terms, any_tree, flat, terms, tree_of_rows, Random, Shape, SHAPES};
 use plain::Refusal;
 
 /// Unbroken runs of every number of modes from 1 to 12, every shape and some larger.
@@ -35,8 +36,14 @@ fn unbroken(tally: &mut Tally, modes: usize, terms: &[u16]) {
     });
 }
 
+/// A run that is accepted, whose tree the check accepts and whose weight is at most the tree's.
 fn accepted(modes: usize, terms: &[u16], read: &[u8]) -> Result<Finished, String> {
-    resume_by(KEEP, modes, terms, read)?.map_err(|refusal| format!("refused: {refusal:?}"))
+    let finished = resume_by(KEEP, modes, terms, read)?
+        .map_err(|refusal| format!("refused: {refusal:?}"))?;
+    let tree = tree_of_rows(&finished.rows);
+    is_accepted(modes, &tree)?;
+    weighs_at_least(modes, &tree, terms, finished.done.weight)?;
+    Ok(finished)
 }
 
 /// Journals cut at every byte and resumed; and each cut of two lines and more given to the other rule, and to one that there isn't.
