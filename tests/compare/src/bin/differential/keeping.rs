@@ -38,8 +38,8 @@ fn unbroken(tally: &mut Tally, modes: usize, terms: &[u16]) {
 
 /// A run that is accepted, whose tree the check accepts and whose weight is at most the tree's.
 fn accepted(modes: usize, terms: &[u16], read: &[u8]) -> Result<Finished, String> {
-    let finished = resume_by(KEEP, modes, terms, read)?
-        .map_err(|refusal| format!("refused: {refusal:?}"))?;
+    let finished =
+        resume_by(KEEP, modes, terms, read)?.map_err(|refusal| format!("refused: {refusal:?}"))?;
     let tree = tree_of_rows(&finished.rows);
     is_accepted(modes, &tree)?;
     weighs_at_least(modes, &tree, terms, finished.done.weight)?;
