@@ -30,6 +30,7 @@ use Rattle.refusal.specs.declared.Refusal.the-variants.{
   Malformed,
   NewickForm,
   Rule,
+  TooManyToTry,
   TooManyNodes,
 }
 use Rattle.refusal.specs.Numbers.{numberOf, placeOf}
@@ -37,7 +38,7 @@ use Rattle.terms.specs.Good.{good-rows, checked}
 use Rattle.terms.specs.declared.checking.Checked.{Checked}
 use Rattle.terms.specs.declared.checking.Checked.the-variants.{Good, Refused as BadTerms}
 
-pub number-small : (refusal : Refusal) → (1 ≤ numberOf refusal) × (numberOf refusal ≤ 20)
+pub number-small : (refusal : Refusal) → (1 ≤ numberOf refusal) × (numberOf refusal ≤ 22)
 number-small Modes = omega arith
 number-small TermNumbers = omega arith
 number-small TooManyTerms = omega arith
@@ -58,6 +59,7 @@ number-small Heuristic = omega arith
 number-small (Malformed line) = omega arith
 number-small (NewickForm byte) = omega arith
 number-small Rule = omega arith
+number-small TooManyToTry = omega arith
 number-small (TooManyNodes byte) = omega arith
 
 -- The one number that a refused call returns, taken apart.

@@ -28,7 +28,7 @@ lawful-one : ℕ → List Triple → ℕ → ℕ → ℕ
 lawful-one modes history a z = one-if (is-lawful modes history (named modes history (record { a = a; z = z })))
 
 -- 1 for an entity whose z-end has a mate, else 0.
-mated : ℕ → List Triple → ℕ → ℕ
+unfoldable pub mated : ℕ → List Triple → ℕ → ℕ
 mated modes history entity = one-if (ltb (z-end modes history entity) (2 * modes))
 
 module _ (modes : ℕ) (history : List Triple) where
@@ -96,7 +96,7 @@ module _ (modes : ℕ) (history : List Triple) where
       ap one-if (unlawful-test modes history (named modes history pair) (λ t. unfit-a (first-fits modes history pair t)))))
 
   module _ (lawful : LawfulHistory modes history) (j : ℕ) (left : length history + j ≡ modes) where
-    pairs-share : (a : ℕ) → length (pairs-with modes history a) ≡ share modes history (λ entity. (2 * j - 1) * mated modes history entity) a
+    pub pairs-share : (a : ℕ) → length (pairs-with modes history a) ≡ share modes history (λ entity. (2 * j - 1) * mated modes history entity) a
     unfolding share mated
     pairs-share a = go (is-open modes history a) refl (ltb (z-end modes history a) (2 * modes)) refl
       where

@@ -24,7 +24,7 @@ use Rattle.history.proofs.RunLawful.{greedy-lawful, greedy-length, fini
 use Rattle.history.proofs.GreedySteps.{before-step, step-chosen}
 
 -- What stands before a step of a lawful history is lawful.
-before-lawful : (modes more : ℕ) (history : List Triple) → LawfulHistory modes history → LawfulHistory modes (drop more history)
+pub before-lawful : (modes more : ℕ) (history : List Triple) → LawfulHistory modes history → LawfulHistory modes (drop more history)
 before-lawful modes zero history lawful = lawful
 before-lawful modes (suc more) [] lawful = tt
 before-lawful modes (suc more) (merge ∷ history) lawful = before-lawful modes more history (lawful .1)

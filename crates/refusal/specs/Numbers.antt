@@ -1,4 +1,4 @@
--- "Each returns its number and a place": the table of document 01, "Refusal numbers", a line for each refusal, and document 02's 19 and 20.
+-- "Each returns its number and a place": the table of document 01, "Refusal numbers", a line for each refusal, and document 02's 19, 20 and 22.
 use mathlib.Core.Path.{_≡_}
 use mathlib.Core.List.{List, _∷_}
 use Prim.Native.Nat.{ℕ}
@@ -25,6 +25,7 @@ use Rattle.refusal.specs.declared.Refusal.the-variants.{
   Malformed,
   NewickForm,
   Rule,
+  TooManyToTry,
   TooManyNodes,
 }
 
@@ -50,6 +51,7 @@ table Heuristic = (17, 0)
 table (Malformed line) = (18, line)
 table (NewickForm byte) = (19, byte)
 table Rule = (20, 0)
+table TooManyToTry = (22, 0)
 table (TooManyNodes byte) = (1, byte)
 
 abbrev pub numberOf : Refusal → ℕ

@@ -43,6 +43,8 @@ pub enum Refusal {
     NewickForm(usize),
     // 20: no rule of reduction has this number
     Rule,
+    // 22: more modes than every sequence of merges is gone through for
+    TooManyToTry,
     // 1 again, of a Newick text: the `(` of the first node beyond 256
     TooManyNodes(usize),
 }
@@ -72,6 +74,7 @@ pub fn number(refusal: Refusal) -> usize
         Refusal::Malformed(_) => 18,
         Refusal::NewickForm(_) => 19,
         Refusal::Rule => 20,
+        Refusal::TooManyToTry => 22,
         Refusal::TooManyNodes(_) => 1,
     }
 }
@@ -101,6 +104,7 @@ pub fn place(refusal: Refusal) -> usize
         Refusal::Malformed(line) => line,
         Refusal::NewickForm(byte) => byte,
         Refusal::Rule => 0,
+        Refusal::TooManyToTry => 0,
         Refusal::TooManyNodes(byte) => byte,
     }
 }

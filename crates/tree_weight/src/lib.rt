@@ -8,7 +8,7 @@ ghost use Rattle.lists.specs.Members.{every};
 ghost use Rattle.refusal.specs.Numbers.{Tells};
 ghost use Rattle.entities.specs.Limits.{«most-modes», «row-width»};
 ghost use Rattle.terms.specs.Rows.{«terms-of»};
-ghost use Rattle.tree_weight.specs.code.Promises.{Places, GoodRows, RowsBelow};
+ghost use Rattle.tree_weight.specs.code.Promises.{Places, GoodRows, RowsBelow, «own-weight», OperatorsOf};
 ghost use Rattle.tree_weight.specs.Weight.{«node-letter», «row-weight», «listed-weight», «tree-weight», «tree-weighed», «weight-numbers»};
 use refusal::Refusal;
 use terms::checking;
@@ -87,16 +87,34 @@ fn rows_weight(modes: usize, tree: &[u16], places: &[usize], terms: &[u16], coun
     sum
 }
 
+// The operators of so many good rows, in an array of the caller's own: they are found once and weighed in as many trees as the caller has.
+pub fn own_operators(modes: usize, terms: &[u16], count: usize) -> [u16; 16384]
+    requires { ⌜ modes ≤ most-modes ⌝ }
+    requires { ⌜ GoodRows modes count (now terms) ⌝ }
+    ensures { λ r. ⌜ OperatorsOf modes count (now (terms .entry)) r ⌝ }
+{
+    operators::operators(terms, count)
+}
+
+// What such operators weigh in a tree.
+pub fn operators_weight(modes: usize, tree: &[u16], own: &[u16], count: usize) -> u64
+    requires { ⌜ (length (now tree) ≡ 3 * modes) × (modes ≤ most-modes) ⌝ }
+    requires { ⌜ RowsBelow modes count (now own) ⌝ }
+    ensures { λ r. ⌜ r ≡ own-weight modes count (now (own .entry)) (now (tree .entry)) ⌝ }
+{
+    let mut places = [0usize; 768];
+    climbing::fill_places(tree, &mut places);
+    rows_weight(modes, tree, &places, own, count)
+}
+
 // The weight of the operators of so many good rows in an accepted tree.
 fn accepted_weight(modes: usize, tree: &[u16], terms: &[u16], count: usize) -> u64
     requires { ⌜ (length (now tree) ≡ 3 * modes) × (modes ≤ most-modes) ⌝ }
     requires { ⌜ GoodRows modes count (now terms) ⌝ }
     ensures { λ r. ⌜ r ≡ tree-weight modes (now (tree .entry)) (terms-of row-width count (now (terms .entry))) ⌝ }
 {
-    let mut places = [0usize; 768];
-    climbing::fill_places(tree, &mut places);
-    let own = operators::operators(terms, count);
-    rows_weight(modes, tree, &places, &own, count)
+    let own = own_operators(modes, terms, count);
+    operators_weight(modes, tree, &own, count)
 }
 
 // The tree weight of the terms, or why tree or terms are refused.

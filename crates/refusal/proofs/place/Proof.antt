@@ -30,6 +30,7 @@ place-spec =
     (λ c. search needs)
     (λ c. search needs)
     (λ c. search needs)
+    (λ c. search needs)
     (λ c. sym (ap placeOf (c .enum-told .given .1)))
     (λ c. sym (ap placeOf (c .enum-told2 .given .1)))
     (λ c. sym (ap placeOf (c .enum-told3 .given .1)))
@@ -50,4 +51,5 @@ place-spec =
     (λ c. sym (ap placeOf (c .before .refusal10 .given .1)))
     (λ c. sym (ap placeOf (c .before .refusal11 .given .1)))
     (λ c. sym (ap placeOf (c .enum-told9 .given .1)))
+    (λ c. sym (ap placeOf (c .enum-told10 .given .1)))
     (λ c. sym (ap placeOf (c .before .refusal12 .given .1))))

@@ -15,6 +15,7 @@ use Rattle.terms.specs.Good.{good-term}
 use Rattle.reduction.specs.Reduction.{live}
 use Rattle.tree.specs.Table.{place-of}
 use Rattle.tree_weight.specs.Operators.{surviving}
+use Rattle.tree_weight.specs.Weight.{listed-weight, tree-weight}
 
 -- The places hold the place of each code below the table's length.
 pub record Places (table places : List ℕ) : Type 0 where
@@ -62,3 +63,13 @@ pub record OperatorRows (count : ℕ) (rows own : List ℕ) : Type 0 where
   pub held : Held row-width count own
   pub terms : (bound : ℕ) → bound ≤ absent → every (every (λ index. ltb index bound)) (terms-of row-width count rows) ≡ true
       → live (terms-of row-width count own) ≡ firsts alike (live (map (surviving bound) (terms-of row-width count rows)))
+
+-- What so many rows of an array of operators weigh in a tree.
+unfoldable pub own-weight : ℕ → ℕ → List ℕ → List ℕ → ℕ
+own-weight modes count own table = listed-weight modes table (terms-of row-width count own)
+
+-- The array is of the operators of the first rows: its rows are below 2n, and weigh in any tree what the rows' terms weigh there.
+pub record OperatorsOf (modes count : ℕ) (rows own : List ℕ) : Type 0 where
+  pub whole : length own ≡ row-width * most-terms
+  pub below : RowsBelow modes count own
+  pub weighs : (table : List ℕ) → own-weight modes count own table ≡ tree-weight modes table (terms-of row-width count rows)
