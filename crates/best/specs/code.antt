@@ -1,0 +1,2 @@
+-- How the code goes through the sequences: no promise needs it.
+pub mod Numbered
