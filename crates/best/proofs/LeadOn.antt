@@ -1,11 +1,11 @@
 -- What is known after the first k sequences, one sequence on, and at the end of all.
 use mathlib.Core.Path.{_≡_, refl, ap, _∙_, sym, fun-ext}
-use mathlib.Core.List.{List, [], _∷_, _++_}
+use mathlib.Core.List.{List, [], _++_}
 use Prim.Native.Nat.{ℕ, _+_, _*_, _/_, _<_, _≤_}
 use native.Mathlib.Nat.{zero-add}
 use native.Mathlib.Omega.{arith}
 use lib.Dec.{eqb}
-use lib.ListN.{length, take, drop, length-append, take-append-drop}
+use lib.ListN.{length, take, drop, take-append-drop}
 use Rattle.lists.specs.Least.{least-of}
 use Rattle.lists.specs.Members.{keep}
 use Rattle.lists.specs.Written.{written-at}
@@ -20,6 +20,7 @@ use Rattle.best.specs.Best.{sequence-weight}
 use Rattle.best.specs.computed.Lightest.{lightest, least-weight, how-many}
 use Rattle.best.specs.Call.{terms-in, sequence-numbers, sequence-after}
 use Rattle.best.specs.code.Numbered.{history-in, weight-by, lead-first, lead-reached, Led, FrontOnly, NumbersPut, Weighed}
+use Rattle.best.proofs.MergesKept.{length-numbers}
 use Rattle.best.proofs.LightestSoFar.{lighter-leads, as-light-counts, heavier-passes, lead-all, reached-all, lead-none, reached-at-most}
 use Rattle.best.proofs.LightestBest.{sequences-there, lightest-best}
 
@@ -103,12 +104,6 @@ module _ (modes count : ℕ) (rows own : List ℕ) (made : OperatorsOf modes cou
 
     pub front-found : take (3 * modes) numbers ≡ sequence-numbers (lightest modes terms)
     front-found = led .front-is ∙ ap sequence-numbers lead-lightest
-
-length-numbers : (history : List Triple) → length (sequence-numbers history) ≡ 3 * length history
-unfolding sequence-numbers
-length-numbers [] = refl
-length-numbers (merge ∷ history) =
-    omega (arith, length-append (sequence-numbers history) (merge .x ∷ (merge .y ∷ (merge .z ∷ []))), length-numbers history)
 
 -- The front and what is behind it are the numbers with the sequence written over them.
 pub sequence-written : (modes : ℕ) (rows : List ℕ) (weight reached : ℕ) (before after : List ℕ)

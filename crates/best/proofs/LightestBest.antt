@@ -150,6 +150,21 @@ module _ (modes : ℕ) (numbers : List ℕ) (room weight reached : ℕ) where
       go false true e = not-refused e
       go false false e = among-holds (checked modes numbers) e
 
+-- And the modes are no more than are gone through.
+pub found-few : (most modes : ℕ) (numbers : List ℕ) (room weight reached : ℕ) → best-found most modes numbers room ≡ Found weight reached → modes ≤ most
+unfolding best-found
+found-few most modes numbers room weight reached e = go (eqb modes 0) refl (ltb most modes) refl e
+  where
+    never : {refusal : Refusal} → Unfound refusal ≡ Found weight reached → modes ≤ most
+    never f = let z : _≡_ {A = ℕ} 0 1 = cc in absurd (omega arith)
+
+    go : (a : Bool) → eqb modes 0 ≡ a → (b : Bool) → ltb most modes ≡ b
+        → cond a (Unfound Modes) (cond b (Unfound TooManyToTry) (found-among modes numbers room (checked modes numbers))) ≡ Found weight reached
+        → modes ≤ most
+    go true p b q f = never f
+    go false p true q f = never f
+    go false p false q f = ltb-false most modes q
+
 pub found-best : FoundBest
 found-best most modes numbers room weight reached says =
     let held = found-holds modes numbers room weight reached most says in

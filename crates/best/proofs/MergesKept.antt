@@ -4,11 +4,12 @@ use mathlib.Core.Bool.{Bool, true, false, _&&_}
 use mathlib.Core.List.{List, [], _∷_, _++_, append-assoc}
 use mathlib.Core.Logic.{⊎-elim}
 use Prim.Native.Nat.{ℕ, zero, suc, _+_, _*_, _<_, _≤_}
+use native.Mathlib.Nat.{add-zero}
 use native.Mathlib.Numerals.{add-one}
 use native.Mathlib.Omega.{arith}
 use borrow.Author.Tests.{eq-eqb, ne-eqb}
-use lib.ListN.{length, getD, set, take, length-set}
-use lib.Seq.{take-suc, getD-set-same, getD-set-other}
+use lib.ListN.{length, getD, set, take, length-set, length-append}
+use lib.Seq.{take-suc, getD-set-same, getD-set-other, getD-append-add}
 use Rattle.lists.proofs.Tests.{same-or-not}
 use Rattle.entities.specs.declared.Triple.{Triple}
 use Rattle.entities.specs.Parents.{parent-number}
@@ -152,3 +153,23 @@ module _ (numbers : List ℕ) (steps entity : ℕ) where
       → among (merge-in numbers steps) entity ≡ false
   unfolding among merge-in
   is-none x y z = rw (ne-eqb entity _ x, ne-eqb entity _ y, ne-eqb entity _ z)
+
+pub length-numbers : (history : List Triple) → length (sequence-numbers history) ≡ 3 * length history
+unfolding sequence-numbers
+length-numbers [] = refl
+length-numbers (merge ∷ history) =
+    omega (arith, length-append (sequence-numbers history) (merge .x ∷ (merge .y ∷ (merge .z ∷ []))), length-numbers history)
+
+-- A sequence's numbers, whatever stands behind them, hold the sequence.
+pub sequence-kept : (history : List Triple) (rest : List ℕ) → history-in (sequence-numbers history ++ rest) (length history) ≡ history
+unfolding sequence-numbers history-in merge-in
+sequence-kept [] rest = refl
+sequence-kept (merge ∷ history) rest =
+    let front = sequence-numbers history in
+    let three : List ℕ = merge .x ∷ (merge .y ∷ (merge .z ∷ [])) in
+    let long = length-numbers history in
+    let at : (i : ℕ) → getD (front ++ (three ++ rest)) (3 * length history + i) 0 ≡ getD (three ++ rest) i 0 =
+    λ i. ap (λ n. getD (front ++ (three ++ rest)) (n + i) 0) (sym long) ∙ getD-append-add front (three ++ rest) i 0 in
+    let first : getD (front ++ (three ++ rest)) (3 * length history) 0 ≡ merge .x =
+    ap (λ n. getD (front ++ (three ++ rest)) n 0) (sym (add-zero (3 * length history))) ∙ at 0 in
+    rw (append-assoc front three rest) (rw (first, at 1, at 2, sequence-kept history (three ++ rest)))

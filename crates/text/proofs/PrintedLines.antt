@@ -81,7 +81,7 @@ unfolding refusal-text line-of tabbed
 refusal-parts refusal = simp append-assoc
 
 -- What a run prints: two lines of one number each, and the lines of its rows.
-values-joined : (word number other second rest : List ℕ)
+pub values-joined : (word number other second rest : List ℕ)
     → ((((word ++ (9 ∷ [])) ++ (number ++ (10 ∷ []))) ++ ((other ++ (9 ∷ [])) ++ (second ++ (10 ∷ [])))) ++ rest)
     ≡ line-of (word ∷ (number ∷ [])) ++ (line-of (other ∷ (second ∷ [])) ++ rest)
 unfolding line-of tabbed

@@ -1,0 +1,3 @@
+-- The laws of what `best` prints.
+pub mod MergesPrinted
+pub mod BestPrinted

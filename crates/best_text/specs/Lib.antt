@@ -1,0 +1,2 @@
+-- What the command `best` prints.
+pub mod Printing
