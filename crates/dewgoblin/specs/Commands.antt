@@ -3,13 +3,15 @@ use mathlib.Core.Bool.{cond}
 use mathlib.Core.List.{List}
 use Prim.Native.Nat.{ℕ}
 use Rattle.lists.specs.Members.{alike}
-use Rattle.entities.specs.Limits.{most-modes}
+use Rattle.entities.specs.Limits.{most-modes, most-terms}
 use Rattle.fields.specs.Texts.{spelt}
 use Rattle.terms.specs.declared.rules.Rule.{Rule}
 use Rattle.terms.specs.declared.rules.Rule.the-variants.{Published, Keep}
 use Rattle.terms_text.specs.Jobs.{Request}
 use Rattle.text.specs.Running.{program-rooms}
 use Rattle.text.specs.Output.{resume-text, continue-text}
+use Rattle.best.specs.Call.{most-to-try}
+use Rattle.best_text.specs.Printing.{best-text}
 use Rattle.steering.specs.Steering.{steer-text}
 use Rattle.steering.specs.Reasons.{reason-text}
 use Rattle.letters_text.specs.Lettering.{letters-text}
@@ -38,6 +40,11 @@ command-text name word asks file =
     (cond (alike name (spelt "assign")) (assign-text program-rooms file word asks)
     (cond (alike name (spelt "letters")) (letters-text program-rooms asks file word)
     (journal-command name asks file))))
+
+-- `best` is for the terms alone: no file is read, and no rule is in it.
+unfoldable pub terms-command : List ℕ → List ℕ → Request → List ℕ → List ℕ
+terms-command name word asks file =
+    cond (alike name (spelt "best")) (best-text most-to-try most-terms (asks .text)) (command-text name word asks file)
 
 -- Those whose answers are longer: `strings` has the strings of the tree that its file is, and `hatt_strings`, for which no file is read, of
 -- the tree that HATT builds.

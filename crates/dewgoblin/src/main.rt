@@ -3,7 +3,7 @@ ghost use mathlib.Core.Path.{_≡_};
 ghost use Rattle.io.specs.Counts.{Counts};
 ghost use Rattle.terms_text.specs.Jobs.{request};
 ghost use Rattle.text.specs.Output.{Prints};
-ghost use Rattle.dewgoblin.specs.Commands.{«rule-named», «journal-command», «command-text», «strings-command»};
+ghost use Rattle.dewgoblin.specs.Commands.{«rule-named», «journal-command», «command-text», «terms-command», «strings-command»};
 ghost use Rattle.strings_text.specs.Printing.{PrintsStrings};
 use fields::parts;
 use standard_input::Input;
@@ -73,6 +73,16 @@ fn answer(name: &[u8], word: &[u8], rule: Rule, input: &[u8], file: &[u8]) -> Pr
     journal_answer(name, rule, input, file)
 }
 
+// The answer of a command that may be for terms alone: `best` reads no file and asks for no rule.
+fn terms_answer(name: &[u8], word: &[u8], rule: Rule, input: &[u8], file: &[u8]) -> Printed
+    ensures { λ r. ⌜ Prints (terms-command (now (name .entry)) (now (word .entry)) (request rule (now (input .entry))) (now (file .entry))) r ⌝ }
+{
+    if parts::same_bytes(name, b"best") {
+        return best_text::best_answer(input);
+    }
+    answer(name, word, rule, input, file)
+}
+
 // The answer of a command that prints strings.
 fn strings_answer(name: &[u8], rule: Rule, input: &[u8], file: &[u8]) -> strings_text::Printed
     ensures { λ r. ⌜ PrintsStrings (strings-command (now (name .entry)) (request rule (now (input .entry))) (now (file .entry))) r ⌝ }
@@ -91,7 +101,7 @@ fn write_answer(answer: &[u8]) {
 
 // A command's answer written.
 fn give_answer(name: &[u8], word: &[u8], rule: Rule, input: &[u8], file: &[u8]) {
-    let printed = answer(name, word, rule, input, file);
+    let printed = terms_answer(name, word, rule, input, file);
     let bytes = printed.bytes;
     let length = printed.count;
     write_answer(&bytes[..length]);

@@ -1,6 +1,7 @@
 //! The commands of the program `dewgoblin`, from the bytes that they read to the bytes that they print.
 
 use crate::assign::assign;
+use crate::best::best;
 use crate::journal::{complete_lines, fields, obey, read_merge, resume, LINE_FEED};
 use crate::journal::{read_number, read_numbers, write_header, write_merge};
 use crate::letters::letter_lines;
@@ -22,6 +23,7 @@ pub fn command(name: &str, word: &str, rule: Rule, file: &[u8], input: &[u8]) ->
         "letters" => letters(rule, input, file, word),
         "assign" => assign_tree(rule, input, file, word),
         "weigh" => weigh_tree(input, file),
+        "best" => best_of_terms(input),
         "check" => check_nodes(file),
         "strings" => strings_of_nodes(file),
         "hatt_strings" => go_on(rule, input, &[]).and_then(|run| strings_of_nodes(&run.nodes)),
@@ -29,6 +31,18 @@ pub fn command(name: &str, word: &str, rule: Rule, file: &[u8], input: &[u8]) ->
         _ => return None,
     };
     Some(printed.unwrap_or_else(print_refusal).into_bytes())
+}
+
+/// `least`, `reached`, and the merges of the first as lines by hand.
+fn best_of_terms(input: &[u8]) -> Result<String, Refusal> {
+    let (modes, terms) = read_input(input)?;
+    let found = best(modes, &terms)?;
+    let lines = found.first.iter();
+    let merges: String = lines.map(|[x, y, z]| format!("{x}\t{y}\t{z}\n")).collect();
+    Ok(format!(
+        "least\t{}\nreached\t{}\n{merges}",
+        found.least, found.reached
+    ))
 }
 
 /// A run that went on from a journal: what `resume` prints of it, its `node` lines alone, and the new lines.

@@ -1,9 +1,10 @@
 //! The rules of docs/01-scope.md ("01" below), and of the requests of docs/02 that landed, written a second time, in ordinary Rust with ordinary vectors.
 //!
 //! It judges what the Rust original has no counterpart for: the journal, the refusals, the tree
-//! check, the trial count, the tree weight, the programs' text, their commands, Newick texts and Pauli strings. It is clear rather than fast.
+//! check, the trial count, the tree weight, the programs' text, their commands, Newick texts, Pauli strings and the best of all sequences of merges. It is clear rather than fast.
 
 pub mod assign;
+pub mod best;
 pub mod commands;
 pub mod journal;
 pub mod letters;
@@ -16,6 +17,7 @@ pub mod text;
 pub mod tree;
 
 pub use assign::assign;
+pub use best::best;
 pub use commands::command;
 pub use journal::{find_line, hatt, resume, Done};
 pub use newick::{read_newick, write_newick};

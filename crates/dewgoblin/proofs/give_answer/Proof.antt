@@ -6,11 +6,11 @@ use Rattle.text.proofs.PrintedLines.{prints-within}
 use Rattle.dewgoblin.proofs.give_answer.Statement.{statement}
 use Rattle.dewgoblin.proofs.give_answer.Tie as tie
 
-answer-requires : tie.Need-answer-requires
-answer-requires c κs = search needs
+terms-answer-requires : tie.Need-terms-answer-requires
+terms-answer-requires c κs = search needs
 
 array-share-prefix-bytes : tie.Need-array-share-prefix-bytes
-array-share-prefix-bytes c = prints-within (c .before .answer .ensures)
+array-share-prefix-bytes c = prints-within (c .before .terms-answer .ensures)
 
 slice-aggregate-write-answer : tie.Need-slice-aggregate-write-answer
 slice-aggregate-write-answer c = sym (length-take-le _ _ (array-share-prefix-bytes (c .before)))
@@ -25,7 +25,7 @@ pub give-answer-spec : {M : Type 1} → statement M
 give-answer-spec =
     tie.close
     (tie.spec
-    answer-requires
+    terms-answer-requires
     array-share-prefix-bytes
     slice-aggregate-write-answer
     write-answer-requires

@@ -6,6 +6,7 @@ mod inputs;
 mod journals;
 mod merges;
 mod program;
+mod small;
 mod trees;
 
 use compare::cases::Random;
@@ -31,7 +32,7 @@ fn main() {
     let mut program = Program::new(words.collect());
     let mut kinds = Kinds::new();
     // Each part has its own seed, so that a change to one leaves the inputs of the others alone.
-    for (number, part) in [merges::each, trees::each, journals::each]
+    for (number, part) in [merges::each, trees::each, journals::each, small::each]
         .iter()
         .enumerate()
     {

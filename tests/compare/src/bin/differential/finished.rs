@@ -27,6 +27,16 @@ pub fn weighs_at_least(
     Ok(())
 }
 
+/// Of few modes, the tree weighs no less than the best of all lawful sequences of merges, as the plain program finds it. (Of 4 it would take too long for every case; the commands' comparison has those.)
+pub fn not_below_best(modes: usize, tree: &[u16], terms: &[u16]) -> Result<(), String> {
+    if modes > 3 {
+        return Ok(());
+    }
+    let found = plain::best(modes, terms).expect("good terms of few modes");
+    let weight = proved::tree_weight(modes, tree, terms)[2];
+    at_most("the best there is", found.least, weight)
+}
+
 /// The indices that occur an odd number of times in a row.
 fn surviving(row: &[u16]) -> Vec<u16> {
     let indices = &row[1..=usize::from(row[0])];

@@ -1,7 +1,7 @@
 //! What every accepted resume must satisfy, whatever journal it was given, and what every refused one must.
 
 use crate::calls::{accepted, resume, Finished};
-use crate::finished::{is_accepted, weighs_at_least};
+use crate::finished::{is_accepted, not_below_best, weighs_at_least};
 use crate::judge::judge;
 use crate::tally::equal;
 use compare::cases::tree_of_rows;
@@ -59,6 +59,7 @@ pub fn hold(modes: usize, terms: &[u16], read: &[u8], finished: &Finished) -> Re
     let tree = tree_of_rows(&finished.rows);
     is_accepted(modes, &tree)?;
     weighs_at_least(modes, &tree, terms, done.weight)?;
+    not_below_best(modes, &tree, terms)?;
     is_whole(modes, terms, &whole, finished)
 }
 

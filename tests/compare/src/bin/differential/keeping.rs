@@ -2,7 +2,7 @@
 
 use crate::calls::{assign_by, resume_by, Finished, KEEP, PUBLISHED};
 use crate::cuts::describe;
-use crate::finished::{is_accepted, weighs_at_least};
+use crate::finished::{is_accepted, not_below_best, weighs_at_least};
 use crate::invariants::{kept_part, total_trials};
 use crate::tally::{equal, Tally};
 use compare::cases::{any_terms, any_tree, flat, terms, tree_of_rows, Random, Shape, SHAPES};
@@ -43,6 +43,7 @@ fn accepted(modes: usize, terms: &[u16], read: &[u8]) -> Result<Finished, String
     let tree = tree_of_rows(&finished.rows);
     is_accepted(modes, &tree)?;
     weighs_at_least(modes, &tree, terms, finished.done.weight)?;
+    not_below_best(modes, &tree, terms)?;
     Ok(finished)
 }
 
