@@ -14,6 +14,10 @@ most-terms = 2048
 abbrev pub row-width : ℕ
 row-width = 8
 
+-- Document 02: "Each work row gets a ninth number".
+abbrev pub work-width : ℕ
+work-width = 9
+
 -- "marks for all 769 entities held by value": leaves 0 to 2n and parents to 3n, of the most modes.
 abbrev pub entity-room : ℕ
 entity-room = 3 * most-modes + 1

@@ -1,5 +1,6 @@
 -- What document 01 says of rows: how they stand in numbers, which are good, what a triple weighs in them.
 pub mod Rows
+pub mod Counted
 pub mod Rules
 pub mod Job
 pub mod Good
