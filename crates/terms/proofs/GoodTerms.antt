@@ -13,7 +13,7 @@ use Rattle.lists.specs.Ranges.{ascends}
 use Rattle.lists.proofs.Every.{every-at, every-cons, every-uncons, every-leading}
 use Rattle.terms.specs.declared.checking.Checked.the-variants.{Good}
 use Rattle.terms.specs.Rows.{rows-of, term, terms-of}
-use Rattle.terms.specs.code.Held.{Held}
+use Rattle.terms.specs.code.Held.{Given}
 use Rattle.terms.specs.Good.{good-indices, good-row, good-term, good-rows, checked}
 use Rattle.terms.proofs.RowSteps.{row-first, length-term, length-rows, rows-at}
 
@@ -69,8 +69,8 @@ module _ (bound : ℕ) where
       (row-term (take 8 s) (p .0) (length-take-le 8 s (omega arith)))
       (good-terms count (drop 8 s) (simp length-drop (omega arith)) (p .1))
 
-  good-held : (count : ℕ) (s : List ℕ) → 8 * count ≤ length s → every (good-row bound) (rows-of 8 count s) ≡ true → Held 8 count s
-  good-held count s h e =
+  good-given : (count : ℕ) (s : List ℕ) → 8 * count ≤ length s → every (good-row bound) (rows-of 8 count s) ≡ true → Given count s
+  good-given count s h e =
       let says : (place : ℕ) → place < count → (1 ≤ getD s (8 * place) 0) × (getD s (8 * place) 0 ≤ 7) =
       λ place k.
       let good : good-row bound (take 8 (drop (8 * place) s)) ≡ true =
@@ -79,9 +79,14 @@ module _ (bound : ℕ) where
       let first = row-first 8 place s (omega arith) (omega arith) in
       (omega (arith, told .0, first), omega (arith, told .1, first)) in
       record {
-        room = h;
-        within = λ place k. omega (arith, says place k .1);
-        zeros = λ place k none. absurd (omega (arith, says place k .0, none));
+        held =
+            record {
+              wide = omega arith;
+              room = h;
+              within = λ place k. omega (arith, says place k .1);
+              zeros = λ place k none. absurd (omega (arith, says place k .0, none));
+            };
+        there = λ place k. omega (arith, says place k .0);
       }
 
 -- What the check's acceptance of so many rows says of the numbers.
@@ -89,7 +94,7 @@ pub record Accepted (modes : ℕ) (numbers : List ℕ) (count : ℕ) : Type 0 wh
   pub rows : count ≡ length numbers / 8
   pub whole : length numbers ≡ 8 * count
   pub at-most : count ≤ 2048
-  pub held : Held 8 count numbers
+  pub given : Given count numbers
   pub good : every (good-term (2 * modes)) (terms-of 8 count numbers) ≡ true
 
 module _ (modes : ℕ) (numbers : List ℕ) (count : ℕ) where
@@ -102,7 +107,7 @@ module _ (modes : ℕ) (numbers : List ℕ) (count : ℕ) where
         rows = rows;
         whole = omega arith;
         at-most = most;
-        held = good-held (2 * modes) count numbers (omega arith) good;
+        given = good-given (2 * modes) count numbers (omega arith) good;
         good = good-terms (2 * modes) count numbers (omega arith) good;
       }
 

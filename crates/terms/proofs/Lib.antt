@@ -3,6 +3,8 @@ pub mod RuleNumbers
 pub mod RowSteps
 pub mod GoodSteps
 pub mod OwnRows
+pub mod RowPut
+pub mod CountedRows
 pub mod LetterLaws
 pub mod Weighing
 pub mod WeightBound

@@ -116,7 +116,18 @@ terms-more w count s = ap (map term) (rows-more w count s) ∙ map-append term (
 pub held-fewer : (w fewer count : ℕ) (s : List ℕ) → fewer ≤ count → Held w count s → Held w fewer s
 held-fewer w fewer count s h held =
     record {
+      wide = held .wide;
       room = omega (arith, mul-le-mul-left w h, held .room);
       within = λ place k. held .within place (omega arith);
       zeros = λ place k. held .zeros place (omega arith);
     }
+
+-- Each of rows that are held is whole.
+pub row-room : (w count place : ℕ) (s : List ℕ) → Held w count s → place < count → w * place + w ≤ length s
+row-room w count place s held h = omega (arith, mul-le-mul-left w h, held .room)
+
+-- What is the same from a row on is the same from the next one on.
+pub rest-on : (w place : ℕ) (s t : List ℕ) → drop (w * place) s ≡ drop (w * place) t → drop (w * (place + 1)) s ≡ drop (w * (place + 1)) t
+rest-on w place s t same =
+    let e : w * place + w ≡ w * (place + 1) = omega arith in
+    rw (← e, ← drop-drop w (w * place) s, ← drop-drop w (w * place) t, same) refl

@@ -31,17 +31,17 @@ unfolding term-weight term-letter odd-ones
 no-weight-changes triple term = not-none-counts (occurrences (triple .x) term) (occurrences (triple .y) term) (occurrences (triple .z) term)
 
 -- Along the rows: the weight of those passed and of those ahead is the weight of all.
-module _ (triple : Triple) (count place : ℕ) (rows : List ℕ) where
+module _ (triple : Triple) (w count place : ℕ) (rows : List ℕ) where
   pub weight-step : place < count
-      → weight-of triple (terms-of 8 (count - place) (drop (8 * place) rows))
-      ≡ term-weight triple (term (take 8 (drop (8 * place) rows)))
-      + weight-of triple (terms-of 8 (count - (place + 1)) (drop (8 * (place + 1)) rows))
+      → weight-of triple (terms-of w (count - place) (drop (w * place) rows))
+      ≡ term-weight triple (term (take w (drop (w * place) rows)))
+      + weight-of triple (terms-of w (count - (place + 1)) (drop (w * (place + 1)) rows))
   unfolding weight-of sum
-  weight-step h = rw (terms-step 8 count place rows h)
+  weight-step h = rw (terms-step w count place rows h)
 
-  pub weight-end : count ≤ place → weight-of triple (terms-of 8 (count - place) (drop (8 * place) rows)) ≡ 0
+  pub weight-end : count ≤ place → weight-of triple (terms-of w (count - place) (drop (w * place) rows)) ≡ 0
   unfolding weight-of sum
-  weight-end h = rw (terms-end 8 count place rows h)
+  weight-end h = rw (terms-end w count place rows h)
 
 -- The weight from how many of the three are odd.
 pub weighs-odd : (triple : Triple) (term : List ℕ) (odd : ℕ) → odd ≡ odd-ones triple term → (odd + 1) / 2 % 2 ≡ term-weight triple term

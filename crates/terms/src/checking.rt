@@ -1,9 +1,9 @@
 // The check of given terms: refusals 2, 3 and 4 of document 01.
 ghost use mathlib.Core.Path.{_≡_};
 ghost use Prim.Native.Nat.{_*_, _≤_};
-ghost use lib.ListN.{length, take};
+ghost use lib.ListN.{length};
 ghost use Rattle.refusal.specs.Numbers.{Tells};
-ghost use Rattle.entities.specs.Limits.{«most-terms», «row-width»};
+ghost use Rattle.entities.specs.Limits.{«row-width»};
 ghost use Rattle.terms.specs.Good.{«good-indices», «good-row», «good-rows», «check-numbers», checked};
 use crate::row;
 use crate::slices;
@@ -62,7 +62,7 @@ fn good_rows(modes: usize, terms: &[u16], count: usize) -> usize
 {
     let mut place = 0;
     while place < count {
-        if !good_row(modes, row::row_at(terms, place)) {
+        if !good_row(modes, row::row_at(terms, row::WIDTH, place)) {
             return place;
         }
         place += 1;
@@ -86,14 +86,4 @@ pub fn check_terms(modes: usize, terms: &[u16]) -> Checked
         return Checked::Refused(Refusal::BadRow(good));
     }
     Checked::Good(count)
-}
-
-// The terms in an array of the caller's own, at its front; 2048 rows of eight fit.
-pub fn own_copy(terms: &[u16]) -> [u16; 16384]
-    requires { ⌜ length (now terms) ≤ row-width * most-terms ⌝ }
-    ensures { λ r. ⌜ (length r ≡ row-width * most-terms) × (take (length (now (terms .entry))) r ≡ now (terms .entry)) ⌝ }
-{
-    let mut own = [0u16; 16384];
-    slices::put_front(terms, &mut own);
-    own
 }

@@ -2,7 +2,6 @@
 ghost use mathlib.Core.Path.{_≡_};
 ghost use Prim.Native.Nat.{_%_, _≤_};
 ghost use Rattle.lists.specs.Counting.{same as «one-if-same», occurrences};
-ghost use Rattle.entities.specs.Limits.{«row-width»};
 ghost use Rattle.terms.specs.Rows.{«terms-of»};
 ghost use Rattle.terms.specs.code.Held.{Held};
 ghost use Rattle.terms.specs.Weight.{«term-letter», «weight-of»};
@@ -36,15 +35,15 @@ pub fn qubit_term_weight(term: &[u16], triple: Triple) -> Letter
     letters::counted_letter(xs, ys, zs)
 }
 
-// The sum of the triple's weights in the first `count` rows.
-pub fn weight(rows: &[u16], count: usize, triple: Triple) -> usize
-    requires { ⌜ Held row-width count (now rows) ⌝ }
-    ensures { λ r. ⌜ (r ≡ weight-of triple (terms-of row-width count (now (rows .entry)))) × (r ≤ count) ⌝ }
+// The sum of the triple's weights in the first `count` rows of this width.
+pub fn weight(rows: &[u16], width: usize, count: usize, triple: Triple) -> usize
+    requires { ⌜ Held width count (now rows) ⌝ }
+    ensures { λ r. ⌜ (r ≡ weight-of triple (terms-of width count (now (rows .entry)))) × (r ≤ count) ⌝ }
 {
     let mut sum: usize = 0;
     let mut place = 0;
     while place < count {
-        sum += letters::not_none(qubit_term_weight(row::term_at(rows, place), triple));
+        sum += letters::not_none(qubit_term_weight(row::term_at(rows, width, place), triple));
         place += 1;
     }
     sum

@@ -1,8 +1,9 @@
 -- The row copied into the part that is lent is the row written over the rows.
+use mathlib.Core.Path.{refl}
 use Prim.Native.Nat.{_*_}
-use native.Mathlib.Omega.{arith}
 use native.Mathlib.Nat.{add-sub-cancel-left}
 use borrow.Author.Needs.{needs}
+use lib.ListN.{length}
 use Rattle.lists.proofs.Written.{put-written}
 use Rattle.terms.proofs.row.put_row.Statement.{statement}
 use Rattle.terms.proofs.row.put_row.Tie as tie
@@ -33,10 +34,9 @@ same-length c = search needs
 
 returns : tie.Need-returns
 returns c =
-    let start = c .before .before .before .before .before .before in
-    let rows = start .args .rows .now in
-    let row = start .args .row .now in
-    rw (add-sub-cancel-left, c .before .before .copy .ensures) (put-written (8 * start .args .place) row rows 8 (omega arith))
+    let args = c .before .before .before .before .before .before .args in
+    let row = args .row .now in
+    rw (add-sub-cancel-left, c .before .before .copy .ensures) (put-written (args .width * args .place) row (args .rows .now) (length row) refl)
 
 pub put-row-spec : {M : Type 1} → statement M
 put-row-spec =

@@ -13,10 +13,11 @@ row-at-requires c κs = search needs
 term-of-requires : tie.Need-term-of-requires
 term-of-requires c κs =
     let e = c .row-at .ensures in
-    let rows = c .before .before .args .rows .now in
-    let place = c .before .before .args .place in
+    let args = c .before .before .args in
+    let rows = args .rows .now in
     let room = c .before .before .pre .0 in
-    rw (e, row-length 8 place rows room, row-first 8 place rows room (omega arith)) (c .before .before .pre .1)
+    rw (e, row-length (args .width) (args .place) rows room, row-first (args .width) (args .place) rows room (omega (arith, c .before .before .pre .1)))
+    (c .before .before .pre .1)
 
 returns : tie.Need-returns
 returns c = c .term-of .ensures ∙ ap term (c .before .row-at .ensures)
