@@ -1,6 +1,6 @@
 -- The chains of the rows passed: down the chain of a term's mark one finds the row that is like it, and one row more is put on one chain.
 use mathlib.Core.Path.{_≡_, refl, ap, _∙_, sym}
-use mathlib.Core.Bool.{Bool, true, false, or-true}
+use mathlib.Core.Bool.{Bool, true, false}
 use mathlib.Core.List.{List, [], _∷_, _++_}
 use mathlib.Core.Logic.{⊎-elim}
 use Prim.Native.Nat.{ℕ, suc, _+_, _-_, _*_, _<_, _≤_}
@@ -15,7 +15,8 @@ use Rattle.lists.proofs.Steps.{drop-step}
 use Rattle.lists.proofs.Tests.{not-so, same-or-not}
 use Rattle.terms.specs.Rows.{rows-of, term, terms-of}
 use Rattle.terms.proofs.RowSteps.{rows-at, length-terms, terms-more}
-use Rattle.reduction.specs.code.Marks.{next-mark, mark-after, mark-of, Leads, Chained, put-first}
+use Rattle.reduction.specs.code.Marks.{next-mark, mark-after, mark-of, Leads, Chained, put-first, first-like}
+use Rattle.reduction.proofs.FirstLike.{first-like-none, first-like-at}
 
 -- Along a term: the mark so far and the numbers ahead give the mark.
 pub mark-start : (size : ℕ) (term : List ℕ) → mark-of size term ≡ mark-after size 0 (drop 0 term)
@@ -49,11 +50,6 @@ module _ {A : Type 0} (test : A → Bool) (a : A) where
   some-misses [] e = rw e
   some-misses (b ∷ l) e = rw (some-misses l e)
 
-  some-finds : (l : List A) → test a ≡ true → some-of test (l ++ (a ∷ [])) ≡ true
-  unfolding some-of
-  some-finds [] e = rw e
-  some-finds (b ∷ l) e = rw (some-finds l e) (or-true (test b))
-
 -- The term at a place among the first rows.
 pub terms-at : (w count place : ℕ) (s : List ℕ) → place < count → getD (terms-of w count s) place [] ≡ term (take w (drop (w * place) s))
 unfolding terms-of term
@@ -78,9 +74,9 @@ module _ (size most : ℕ) (terms : List (List ℕ)) (chains : List ℕ) (chaine
       }
 
   module _ (at : ℕ) (s : Seeking size terms term at) where
-    pub seeking-ends : at ≡ 0 → some-of (alike term) terms ≡ false
+    pub seeking-ends : at ≡ 0 → length terms ≡ first-like term terms
     unfolding some-of
-    seeking-ends e = s .left ∙ s .leads .all term some refl ∙ rw e refl
+    seeking-ends e = sym (first-like-none term terms (s .left ∙ s .leads .all term some refl ∙ rw e refl))
 
     module _ (more : 0 < at) where
       pub place-inside : at - 1 < length terms
@@ -95,8 +91,13 @@ module _ (size most : ℕ) (terms : List (List ℕ)) (chains : List ℕ) (chaine
       left-here : some-of (alike term) terms ≡ some-of (alike term) (take (at - 1) terms ++ (getD terms (at - 1) [] ∷ []))
       left-here = s .left ∙ s .leads .all term some refl ∙ ap (some-of (alike term)) last-apart
 
-      pub seeking-found : alike term (getD terms (at - 1) []) ≡ true → some-of (alike term) terms ≡ true
-      seeking-found e = left-here ∙ some-finds (alike term) (getD terms (at - 1) []) (take (at - 1) terms) e
+      -- No term before the one found is like it, since none is like the one found.
+      pub seeking-found : alike term (getD terms (at - 1) []) ≡ true → at - 1 ≡ first-like term terms
+      seeking-found e =
+          let alone = chained .alone (at - 1) place-inside (s .leads .there more) in
+          sym
+          (first-like-at term terms (at - 1) place-inside e
+          (ap (λ t. some-of (alike t) (take (at - 1) terms)) (alike-same term (getD terms (at - 1) []) e) ∙ alone))
 
       pub seeking-on : alike term (getD terms (at - 1) []) ≡ false → Seeking size terms term (getD chains (size + (at - 1)) 0)
       seeking-on e =
@@ -122,6 +123,7 @@ chained-starts size most chains e =
           (let none : getD chains mark 0 ≡ 0 = rw e (getD-replicate (size + most) mark 0 0 (omega arith)) in
           record { inside = omega arith; there = λ more. absurd (omega arith); marked = λ more. absurd (omega arith); all = λ term some same. rw none refl });
       link = λ place h. absurd (omega arith);
+      alone = λ place h. absurd (omega arith);
     }
 
 -- One term more.
@@ -179,6 +181,18 @@ module _ (size most : ℕ) (terms : List (List ℕ)) (chains : List ℕ) (chaine
       (rw (getD-append-seam terms term [] []) (λ some. leads-still size terms term (length terms) _ _ (omega arith) (new some)))
       place (rw (length-longer terms term) at h)
 
+  -- None of the terms stands there twice where the new one is new.
+  alone-on : (0 < length term → some-of (alike term) terms ≡ false) → (place : ℕ) → place < length (longer terms term)
+      → 0 < length (getD (longer terms term) place [])
+      → some-of (alike (getD (longer terms term) place [])) (take place (longer terms term)) ≡ false
+  alone-on new place h =
+      below-more
+      (λ p. 0 < length (getD (longer terms term) p []) → some-of (alike (getD (longer terms term) p [])) (take p (longer terms term)) ≡ false)
+      (length terms)
+      (λ p k. rw (List·getD-append terms (term ∷ []) [] p k, take-append-le p terms (term ∷ []) (omega arith)) (chained .alone p k))
+      (rw (getD-append-seam terms term [] [], take-append-le (length terms) terms (term ∷ []) (omega arith), take-length terms) new)
+      place (rw (length-longer terms term) at h)
+
   -- An empty term is put on no chain.
   pub chained-gone : term ≡ [] → Chained size most (longer terms term) chains
   chained-gone e =
@@ -189,6 +203,7 @@ module _ (size most : ℕ) (terms : List (List ℕ)) (chains : List ℕ) (chaine
             leads-past size terms term mark (getD chains mark 0)
             (λ other some same. alike-lengths other term (λ long. omega (arith, ap length e))) (chained .last mark h);
         link = links-on chains (λ place h. refl) (λ some. absurd (omega (arith, ap length e)));
+        alone = alone-on (λ some. absurd (omega (arith, ap length e)));
       }
 
   module _ (some : 0 < length term) (marks : 0 < size) where
@@ -239,9 +254,9 @@ module _ (size most : ℕ) (terms : List (List ℕ)) (chains : List ℕ) (chaine
             let e : length terms + 1 - 1 ≡ length terms = omega arith in
             rw e (getD-append-seam terms term [] [])
 
-    pub chained-more : Chained size most (longer terms term) (put-first size (mark-of size term) (length terms) chains)
+    pub chained-more : some-of (alike term) terms ≡ false → Chained size most (longer terms term) (put-first size (mark-of size term) (length terms) chains)
     unfolding after mark put-first
-    chained-more =
+    chained-more new =
         record {
           room = length-set linked mark (length terms + 1) ∙ length-set chains (size + length terms) (getD chains mark 0) ∙ chained .room;
           fits = fits-on;
@@ -258,16 +273,18 @@ module _ (size most : ℕ) (terms : List (List ℕ)) (chains : List ℕ) (chaine
               links-on after
               (λ place h. others-there (size + place) (λ e. omega (arith, mark-below size marks term)) (λ e. omega arith))
               (λ h. rw link-there (chained .last mark (mark-below size marks term)));
+          alone = alone-on (λ h. new);
         }
 
 -- The same of rows: the term is that of the next row.
 module _ (size most w place : ℕ) (rows chains : List ℕ) (chained : Chained size most (terms-of w place rows) chains) (room : place < most) where
   pub row-chained : 0 < size → 0 < length (term (take w (drop (w * place) rows)))
+      → some-of (alike (term (take w (drop (w * place) rows)))) (terms-of w place rows) ≡ false
       → Chained size most (terms-of w (place + 1) rows) (put-first size (mark-of size (term (take w (drop (w * place) rows)))) place chains)
-  row-chained marks some =
+  row-chained marks some new =
       rw (terms-more w place rows)
       (rw (length-terms w place rows) at
-      (chained-more size most (terms-of w place rows) chains chained (rw (length-terms w place rows) room) (term (take w (drop (w * place) rows))) some marks))
+      (chained-more size most (terms-of w place rows) chains chained (rw (length-terms w place rows) room) (term (take w (drop (w * place) rows))) some marks new))
 
   pub row-gone : (after : List ℕ) → terms-of w (place + 1) after ≡ terms-of w place rows ++ ([] ∷ []) → Chained size most (terms-of w (place + 1) after) chains
   row-gone after e = rw e (chained-gone size most (terms-of w place rows) chains chained (rw (length-terms w place rows) room) [] refl)

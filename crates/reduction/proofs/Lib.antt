@@ -10,3 +10,6 @@ pub mod ByPlace
 pub mod AsTold
 pub mod LiveRows
 pub mod StaysGood
+pub mod CountedReduction
+pub mod FirstLike
+pub mod ReducedCounts

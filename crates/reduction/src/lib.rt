@@ -2,15 +2,15 @@
 ghost use mathlib.Core.Bool.{true};
 ghost use mathlib.Core.Path.{_≡_};
 ghost use Prim.Native.Nat.{_+_, _*_, _≤_, _<_};
-ghost use lib.ListN.{length, getD, drop, replicate};
+ghost use lib.ListN.{length, getD, set, drop, replicate};
 ghost use Rattle.lists.specs.Ranges.{ascends};
 ghost use Rattle.lists.specs.Written.{«written-at»};
-ghost use Rattle.entities.specs.Limits.{«most-terms», «row-width»};
+ghost use Rattle.entities.specs.Limits.{«most-terms», «row-width», «work-width»};
 ghost use Rattle.terms.specs.Rows.{«terms-of»};
-ghost use Rattle.terms.specs.code.Held.{Held};
-ghost use Rattle.reduction.specs.Reduction.{replacement, «put-in», rewriting, dropped, stays};
-ghost use Rattle.reduction.specs.code.Promises.{«term-at», Rewritten, RowSettled, RowReduced, Reduced};
-ghost use Rattle.reduction.specs.code.Marks.{«mark-room», Chained};
+ghost use Rattle.terms.specs.code.Held.{Held, Worked};
+ghost use Rattle.reduction.specs.Reduction.{replacement, «put-in», rewriting, dropped as «is-dropped»};
+ghost use Rattle.reduction.specs.code.Promises.{«term-at», Rewritten, «merged-rows», RowSettled, RowReduced, Reduced};
+ghost use Rattle.reduction.specs.code.Marks.{«mark-room», Chained, «first-like» as «like-before»};
 use entities::Triple;
 use terms::row;
 use terms::rules::Rule;
@@ -67,9 +67,9 @@ fn rewrite(term: &mut [u16], triple: Triple, parent: u16)
     }
 }
 
-// The row's term rewritten where it stands.
+// The row's term rewritten where it stands; its count stands behind it.
 fn rewrite_row(row: &mut [u16], triple: Triple, parent: u16)
-    requires { ⌜ getD (now row) 0 0 < length (now row) ⌝ }
+    requires { ⌜ (getD (now row) 0 0 < row-width) × (row-width < length (now row)) ⌝ }
     ensures { λ r. ⌜ Rewritten triple parent (now (row .entry)) (now (row .exit)) ⌝ }
 {
     let end = entities::wide(row[0]) + 1;
@@ -78,7 +78,7 @@ fn rewrite_row(row: &mut [u16], triple: Triple, parent: u16)
 
 // The rule drops rows that are all parent, and this term is.
 fn is_dropped(rule: Rule, parent: u16, term: &[u16]) -> bool
-    ensures { λ r. ⌜ r ≡ dropped rule parent (now (term .entry)) ⌝ }
+    ensures { λ r. ⌜ r ≡ is-dropped rule parent (now (term .entry)) ⌝ }
 {
     match rule {
         Rule::Published => slices::all_are(term, parent),
@@ -86,47 +86,83 @@ fn is_dropped(rule: Rule, parent: u16, term: &[u16]) -> bool
     }
 }
 
-// The term of the row at this place is not dropped, and none of the rows before it has it.
-fn survives<'a>(rows: &'a [u16], place: usize, chains: &'a [u16], rule: Rule, parent: u16) -> bool
-    requires { ⌜ Held row-width (place + 1) (now rows) ⌝ }
-    requires { ⌜ Chained mark-room most-terms (terms-of row-width place (now rows)) (now chains) ⌝ }
+// The term of the row at this place is dropped.
+fn drops_at(rows: &[u16], place: usize, rule: Rule, parent: u16) -> bool
+    requires { ⌜ Held work-width (place + 1) (now rows) ⌝ }
+    ensures { λ r. ⌜ r ≡ is-dropped rule parent (term-at place (now (rows .entry))) ⌝ }
+{
+    is_dropped(rule, parent, row::term_at(rows, row::WORK_WIDTH, place))
+}
+
+// The place of the row before this one that has its term, and this place where none has.
+fn first_like<'a>(rows: &'a [u16], place: usize, chains: &'a [u16]) -> usize
+    requires { ⌜ Held work-width (place + 1) (now rows) ⌝ }
+    requires { ⌜ Chained mark-room most-terms (terms-of work-width place (now rows)) (now chains) ⌝ }
     requires { ⌜ 0 < length (term-at place (now rows)) ⌝ }
-    ensures { λ r. ⌜ r ≡ stays rule parent (terms-of row-width place (now (rows .entry))) (term-at place (now (rows .entry))) ⌝ }
+    ensures { λ r. ⌜ r ≡ like-before (term-at place (now (rows .entry))) (terms-of work-width place (now (rows .entry))) ⌝ }
 {
-    let term = row::term_at(rows, place);
-    if is_dropped(rule, parent, term) {
-        return false;
-    }
-    !kept_rows::is_kept(rows, place, chains, term)
+    kept_rows::find_like(
+        rows,
+        place,
+        chains,
+        row::term_at(rows, row::WORK_WIDTH, place),
+    )
 }
 
-// Zeros written over the row at this place.
-fn clear_row(rows: &mut [u16], place: usize)
-    requires { ⌜ row-width * place + row-width ≤ length (now rows) ⌝ }
-    ensures { λ r. ⌜ now (rows .exit) ≡ written-at (row-width * place) (replicate row-width 0) (now (rows .entry)) ⌝ }
+// Zeros written over the row at this place; the count that stood there.
+fn clear_row(rows: &mut [u16], place: usize) -> u16
+    requires { ⌜ work-width * place + work-width ≤ length (now rows) ⌝ }
+    ensures { λ r. ⌜ r ≡ getD (now (rows .entry)) (work-width * place + row-width) 0 ⌝ }
+    ensures { λ r. ⌜ now (rows .exit) ≡ written-at (work-width * place) (replicate work-width 0) (now (rows .entry)) ⌝ }
 {
-    let from = 8 * place;
-    let end = from + 8;
+    let from = row::WORK_WIDTH * place;
+    let end = from + row::WORK_WIDTH;
+    let count = rows[from + row::WIDTH];
     slices::fill(&mut rows[from..end], 0);
+    count
 }
 
-// The row at this place left as it is where its term stays, and put on its mark's chain; else made zeros.
-fn settle_row(rows: &mut [u16], chains: &mut [u16], place: usize, rule: Rule, parent: u16)
-    requires { ⌜ Held row-width (place + 1) (now rows) ⌝ }
-    requires { ⌜ Chained mark-room most-terms (terms-of row-width place (now rows)) (now chains) ⌝ }
+// So many more counted for the row at this place.
+fn raise_count(rows: &mut [u16], place: usize, more: u16)
+    requires { ⌜ work-width * place + work-width ≤ length (now rows) ⌝ }
+    requires { ⌜ getD (now rows) (work-width * place + row-width) 0 + more < 65536 ⌝ }
+    ensures { λ r. ⌜ now (rows .exit) ≡ set (now (rows .entry)) (work-width * place + row-width) (getD (now (rows .entry)) (work-width * place + row-width) 0 + more) ⌝ }
+{
+    let at = row::WORK_WIDTH * place + row::WIDTH;
+    rows[at] = rows[at] + more;
+}
+
+// The row at this place made zeros, and its count added to that of an earlier row, which has its term.
+fn merge_row(rows: &mut [u16], place: usize, first: usize)
+    requires { ⌜ (first < place) × Worked (place + 1) (now rows) ⌝ }
+    ensures { λ r. ⌜ now (rows .exit) ≡ merged-rows place first (now (rows .entry)) ⌝ }
+{
+    let count = clear_row(rows, place);
+    raise_count(rows, first, count);
+}
+
+// The row at this place dropped, merged into the one before it that has its term, or left as it is and put on its mark's chain; how many input rows it stands for where it is dropped, else 0.
+fn settle_row(rows: &mut [u16], chains: &mut [u16], place: usize, rule: Rule, parent: u16) -> usize
+    requires { ⌜ Worked (place + 1) (now rows) ⌝ }
+    requires { ⌜ Chained mark-room most-terms (terms-of work-width place (now rows)) (now chains) ⌝ }
     requires { ⌜ 0 < length (term-at place (now rows)) ⌝ }
     requires { ⌜ place < most-terms ⌝ }
-    ensures { λ r. ⌜ RowSettled rule parent place (now (rows .entry)) (now (rows .exit)) ⌝ }
-    ensures { λ r. ⌜ Chained mark-room most-terms (terms-of row-width (place + 1) (now (rows .exit))) (now (chains .exit)) ⌝ }
+    ensures { λ r. ⌜ RowSettled rule parent place (now (rows .entry)) (now (rows .exit)) r ⌝ }
+    ensures { λ r. ⌜ Chained mark-room most-terms (terms-of work-width (place + 1) (now (rows .exit))) (now (chains .exit)) ⌝ }
 {
-    if survives(rows, place, chains, rule, parent) {
-        kept_rows::set_mark(chains, row::term_at(rows, place), place);
-        return;
+    if drops_at(rows, place, rule, parent) {
+        return entities::wide(clear_row(rows, place));
     }
-    clear_row(rows, place);
+    let first = first_like(rows, place, chains);
+    if first < place {
+        merge_row(rows, place, first);
+        return 0;
+    }
+    kept_rows::set_mark(chains, row::term_at(rows, row::WORK_WIDTH, place), place);
+    0
 }
 
-// The row at this place reduced where it stands, and put on a chain where it stays.
+// The row at this place reduced where it stands, and put on a chain where it stays; how many input rows were dropped with it.
 fn reduce_row(
     rows: &mut [u16],
     chains: &mut [u16],
@@ -134,40 +170,42 @@ fn reduce_row(
     rule: Rule,
     triple: Triple,
     parent: u16,
-)
-    requires { ⌜ Held row-width (place + 1) (now rows) ⌝ }
-    requires { ⌜ Chained mark-room most-terms (terms-of row-width place (now rows)) (now chains) ⌝ }
+) -> usize
+    requires { ⌜ Worked (place + 1) (now rows) ⌝ }
+    requires { ⌜ Chained mark-room most-terms (terms-of work-width place (now rows)) (now chains) ⌝ }
     requires { ⌜ place < most-terms ⌝ }
-    ensures { λ r. ⌜ RowReduced rule triple parent place (now (rows .entry)) (now (rows .exit)) ⌝ }
-    ensures { λ r. ⌜ Chained mark-room most-terms (terms-of row-width (place + 1) (now (rows .exit))) (now (chains .exit)) ⌝ }
+    ensures { λ r. ⌜ RowReduced rule triple parent place (now (rows .entry)) (now (rows .exit)) r ⌝ }
+    ensures { λ r. ⌜ Chained mark-room most-terms (terms-of work-width (place + 1) (now (rows .exit))) (now (chains .exit)) ⌝ }
 {
-    let from = 8 * place;
+    let from = row::WORK_WIDTH * place;
     // a row that is gone stays gone, and on no chain: no row that is there is like it
     if rows[from] == 0 {
-        return;
+        return 0;
     }
-    let end = from + 8;
+    let end = from + row::WORK_WIDTH;
     rewrite_row(&mut rows[from..end], triple, parent);
-    settle_row(rows, chains, place, rule, parent);
+    settle_row(rows, chains, place, rule, parent)
 }
 
-// The first rows reduced to the parent by the rule, each where it stands; a row that is dropped or merged is zeros there.
+// The first rows reduced to the parent by the rule, each where it stands; a row that is dropped or merged is zeros there. How many input rows those dropped stood for.
 pub fn reduce_hamiltonian(
     rows: &mut [u16],
     count: usize,
     rule: Rule,
     parent: u16,
     selection: Triple,
-)
-    requires { ⌜ Held row-width count (now rows) ⌝ }
+) -> usize
+    requires { ⌜ Worked count (now rows) ⌝ }
     requires { ⌜ count ≤ most-terms ⌝ }
-    ensures { λ r. ⌜ Reduced rule selection parent count (now (rows .entry)) (now (rows .exit)) ⌝ }
+    ensures { λ r. ⌜ Reduced rule selection parent count (now (rows .entry)) (now (rows .exit)) r ⌝ }
 {
     // a number for each mark and one for each place; no row is passed yet, so no chain has begun
     let mut chains = [0u16; 18432];
+    let mut dropped: usize = 0;
     let mut place = 0;
     while place < count {
-        reduce_row(rows, &mut chains, place, rule, selection, parent);
+        dropped += reduce_row(rows, &mut chains, place, rule, selection, parent);
         place += 1;
     }
+    dropped
 }

@@ -15,6 +15,15 @@ mul-from c = search needs
 add-end : tie.Need-add-end
 add-end c = search needs
 
+add-count : tie.Need-add-count
+add-count c = search needs
+
+mul-count : tie.Need-mul-count
+mul-count c = search needs
+
+slice-read-count : tie.Need-slice-read-count
+slice-read-count c = search needs
+
 mul-fill : tie.Need-mul-fill
 mul-fill c = search needs
 
@@ -35,11 +44,13 @@ same-length c = search needs
 
 returns : tie.Need-returns
 returns c =
-    let start = c .before .before .before .before .before in
+    let start = c .before .before .before .before .before .before in
     let rows = start .args .rows .now in
-    let place = start .args .place in
-    rw (add-sub-cancel-left, c .before .before .fill .ensures, add-sub-cancel-left, row-length 8 place rows (start .pre))
-    (put-written (8 * place) (replicate 8 0) rows 8 refl)
+    let place = start .args .place in (
+      refl,
+      rw (add-sub-cancel-left, c .before .before .fill .ensures, add-sub-cancel-left, row-length 9 place rows (start .pre))
+          (put-written (9 * place) (replicate 9 0) rows 9 refl),
+    )
 
 pub clear-row-spec : {M : Type 1} → statement M
 clear-row-spec =
@@ -47,6 +58,9 @@ clear-row-spec =
     (tie.spec
     mul-from
     add-end
+    add-count
+    mul-count
+    slice-read-count
     mul-fill
     sub-fill
     part-fill-start

@@ -1,4 +1,4 @@
--- The rows passed and what those ahead become behind them are the whole reduction; at the end nothing is ahead.
+-- The rows passed are reduced, those ahead are as they were, and what was dropped is counted with them.
 use mathlib.Core.Path.{refl}
 use Prim.Native.Nat.{_-_}
 use native.Mathlib.Omega.{arith}
@@ -6,16 +6,15 @@ use borrow.Author.Needs.{needs}
 use Rattle.terms.specs.Rows.{rows-of, terms-of}
 use Rattle.reduction.specs.code.Marks.{Chained}
 use Rattle.reduction.proofs.ChainedRows.{chained-starts}
-use Rattle.reduction.proofs.ReducedRows.{Passing, passing-starts, next-held, passing-on, passing-ends}
+use Rattle.reduction.proofs.ReducedRows.{Passing, passing-starts, next-worked, passing-on, drops-fit, passing-ends}
 use Rattle.reduction.proofs.reduce_hamiltonian.Statement.{statement}
 use Rattle.reduction.proofs.reduce_hamiltonian.Tie as tie
 
 abbrev Inv-loop : tie.InvT-loop
-Inv-loop rows₀ count rule parent selection chains₀ place₀ rows chains place =
-    Passing rule selection parent count rows₀ rows place × Chained 16384 2048 (terms-of 8 place rows) chains
+Inv-loop rows₀ count rule parent selection chains₀ dropped₀ place₀ rows chains dropped place = Passing rule selection parent count rows₀ rows place dropped × Chained 16384 2048 (terms-of 9 place rows) chains
 
 abbrev μ-loop : tie.MeasureT-loop
-μ-loop rows₀ count rule parent selection chains₀ place₀ rows chains place = count - place
+μ-loop rows₀ count rule parent selection chains₀ dropped₀ place₀ rows chains dropped place = count - place
 
 loop-holds : tie.Need-loop-holds Inv-loop μ-loop
 unfolding terms-of rows-of
@@ -31,10 +30,20 @@ reduce-row-requires c κs =
     let here = c .before .before .before in
     let start = here .before .before in
     let args = start .args in (
-      next-held (args .rule) (args .selection) (args .parent) (args .count) (args .rows .now) (start .pre .0) _ _ (here .loop .inv .0)
+      next-worked (args .rule) (args .selection) (args .parent) (args .count) (args .rows .now) (start .pre .0) _ _ _ (here .loop .inv .0)
           (c .before .before .loop-test .taken),
       (here .loop .inv .1, omega (arith, start .pre .1)),
     )
+
+add-dropped : tie.Need-add-dropped Inv-loop μ-loop
+add-dropped c =
+    let called = c .before .before .before in
+    let here = called .before .before .before .before in
+    let start = here .before .before in
+    let args = start .args in
+    let fit = drops-fit (args .rule) (args .selection) (args .parent) (args .count) (args .rows .now) (start .pre .0) _ _ _ (here .loop .inv .0)
+    (called .before .before .before .loop-test .taken) _ _ (called .reduce-row .ensures .0) in
+    omega (arith, fit)
 
 add-place : tie.Need-add-place Inv-loop μ-loop
 add-place c = search needs
@@ -49,8 +58,8 @@ loop-again c =
     let start = here .before .before in
     let args = start .args in
     let reduced = called .reduce-row in (
-      passing-on (args .rule) (args .selection) (args .parent) (args .count) (args .rows .now) (start .pre .0) _ _ (here .loop .inv .0)
-          (called .before .before .before .loop-test .taken) _ (reduced .ensures .0),
+      passing-on (args .rule) (args .selection) (args .parent) (args .count) (args .rows .now) (start .pre .0) _ _ _ (here .loop .inv .0)
+          (called .before .before .before .loop-test .taken) _ _ (reduced .ensures .0),
       reduced .ensures .1,
     )
 
@@ -63,7 +72,7 @@ returns c =
     let start = here .before .before in
     let args = start .args in
     let p = here .loop .inv .0 in
-    passing-ends (args .rule) (args .selection) (args .parent) (args .count) (args .rows .now) (start .pre .0) _ _ p
+    passing-ends (args .rule) (args .selection) (args .parent) (args .count) (args .rows .now) (start .pre .0) _ _ _ p
     (omega (arith, p .inside, c .loop-test .left))
 
 pub reduce-hamiltonian-spec : {M : Type 1} → statement M
@@ -75,6 +84,7 @@ reduce-hamiltonian-spec =
     loop-holds
     slice-aggregate-reduce-row
     reduce-row-requires
+    add-dropped
     add-place
     loop-less
     loop-again

@@ -10,7 +10,7 @@ use Rattle.lists.specs.Written.{written-at}
 use Rattle.lists.proofs.Written.{put-written}
 use Rattle.terms.proofs.RowSteps.{row-length, row-first, terms-more}
 use Rattle.reduction.specs.code.Promises.{Rewritten}
-use Rattle.reduction.proofs.RowReduced.{room-here, gone-term, stays-gone, between-held, between-terms, between-there, then-settled}
+use Rattle.reduction.proofs.RowReduced.{room-here, gone-term, stays-gone, between-worked, between-terms, between-there, then-settled}
 use Rattle.reduction.proofs.ChainedRows.{row-gone}
 use Rattle.reduction.proofs.reduce_row.Statement.{statement}
 use Rattle.reduction.proofs.reduce_row.Tie as tie
@@ -18,32 +18,32 @@ use Rattle.reduction.proofs.reduce_row.Tie as tie
 -- The part that was lent is the row, and it came back as the row rewritten.
 row-rewritten : (c : tie.After-rewrite-row)
     → Rewritten (c .before .before .before .before .before .before .args .triple) (c .before .before .before .before .before .before .args .parent)
-    (take 8 (drop (8 * c .before .before .before .before .before .before .args .place) (c .before .before .before .before .before .before .args .rows .now)))
+    (take 9 (drop (9 * c .before .before .before .before .before .before .args .place) (c .before .before .before .before .before .before .args .rows .now)))
     (c .rewrite-row .last .0)
 row-rewritten c = rw add-sub-cancel-left at (c .rewrite-row .ensures)
 
-whole-row : (c : tie.After-rewrite-row) → length (c .rewrite-row .last .0) ≡ 8
+whole-row : (c : tie.After-rewrite-row) → length (c .rewrite-row .last .0) ≡ 9
 whole-row c =
     let start = c .before .before .before .before .before .before in
     let place = start .args .place in
     let rows = start .args .rows .now in
-    c .rewrite-row .kept .0 ∙ rw add-sub-cancel-left (row-length 8 place rows (room-here place rows (start .pre .0)))
+    c .rewrite-row .kept .0 ∙ rw add-sub-cancel-left (row-length 9 place rows (room-here place rows (start .pre .0 .held)))
 
 put-back : (c : tie.After-rewrite-row) → (let args = c .before .before .before .before .before .before .args in
-    putMid (8 * args .place) (8 * args .place + 8 - 8 * args .place) (args .rows .now) (c .rewrite-row .last .0)
-    ≡ written-at (8 * args .place) (c .rewrite-row .last .0) (args .rows .now))
+    putMid (9 * args .place) (9 * args .place + 9 - 9 * args .place) (args .rows .now) (c .rewrite-row .last .0)
+    ≡ written-at (9 * args .place) (c .rewrite-row .last .0) (args .rows .now))
 put-back c =
     let args = c .before .before .before .before .before .before .args in
-    put-written (8 * args .place) (c .rewrite-row .last .0) (args .rows .now) _ (whole-row c ∙ sym (add-sub-cancel-left (8 * args .place) 8))
+    put-written (9 * args .place) (c .rewrite-row .last .0) (args .rows .now) _ (whole-row c ∙ sym (add-sub-cancel-left (9 * args .place) 9))
 
 mul-from : tie.Need-mul-from
-mul-from c = let start = c .before .before in omega (arith, start .pre .0 .room)
+mul-from c = let start = c .before .before in omega (arith, start .pre .0 .held .room)
 
 mul-if1 : tie.Need-mul-if1
-mul-if1 c = let start = c .before .before in omega (arith, start .pre .0 .room)
+mul-if1 c = let start = c .before .before in omega (arith, start .pre .0 .held .room)
 
 slice-read-if1 : tie.Need-slice-read-if1
-slice-read-if1 c = let start = c .before .before .before in omega (arith, start .pre .0 .room)
+slice-read-if1 c = let start = c .before .before .before in omega (arith, start .pre .0 .held .room)
 
 returns : tie.Need-returns
 returns c =
@@ -51,9 +51,9 @@ returns c =
     let args = start .args in
     let rows = args .rows .now in
     let none = c .if1 .taken in (
-      stays-gone (args .place) rows (start .pre .0) (args .rule) (args .triple) (args .parent) none,
-      row-gone 16384 2048 8 (args .place) rows (args .chains .now) (start .pre .1 .0) (start .pre .1 .1) rows
-          (rw (terms-more 8 (args .place) rows, gone-term (args .place) rows (start .pre .0) (args .rule) (args .triple) (args .parent) none)),
+      stays-gone (args .rule) (args .triple) (args .parent) (args .place) rows (start .pre .0) none,
+      row-gone 16384 2048 9 (args .place) rows (args .chains .now) (start .pre .1 .0) (start .pre .1 .1) rows
+          (rw (terms-more 9 (args .place) rows, gone-term (args .rule) (args .triple) (args .parent) (args .place) rows (start .pre .0) none)),
     )
 
 add-end : tie.Need-add-end
@@ -76,8 +76,9 @@ rewrite-row-requires c κs =
     let start = c .before .before .before .before .before in
     let place = start .args .place in
     let rows = start .args .rows .now in
-    let room = room-here place rows (start .pre .0) in
-    rw (add-sub-cancel-left, row-length 8 place rows room, row-first 8 place rows room (omega arith)) (start .pre .0 .within place (omega arith))
+    let room = room-here place rows (start .pre .0 .held) in
+    rw (add-sub-cancel-left, row-length 9 place rows room, row-first 9 place rows room (omega arith))
+    (start .pre .0 .held .within place (omega arith), omega arith)
 
 settle-row-requires : tie.Need-settle-row-requires
 settle-row-requires c κs =
@@ -85,14 +86,14 @@ settle-row-requires c κs =
     let start = made .before .before .before .before .before .before in
     let args = start .args in
     let rows = args .rows .now in
-    let held = start .pre .0 in
+    let worked = start .pre .0 in
     let some = made .before .before .if1 .left in
     let row = made .rewrite-row .last .0 in
     rw (put-back made) (
-      between-held (args .place) rows held (args .rule) (args .triple) (args .parent) some row (whole-row made) (row-rewritten made),
+      between-worked (args .rule) (args .triple) (args .parent) (args .place) rows worked some row (whole-row made) (row-rewritten made),
       (
-        rw (between-terms (args .place) rows held (args .rule) (args .triple) (args .parent) some row (whole-row made) (row-rewritten made)) (start .pre .1 .0),
-        (between-there (args .place) rows held (args .rule) (args .triple) (args .parent) some row (whole-row made) (row-rewritten made), start .pre .1 .1),
+        rw (between-terms (args .rule) (args .triple) (args .parent) (args .place) rows worked some row (whole-row made) (row-rewritten made)) (start .pre .1 .0),
+        (between-there (args .rule) (args .triple) (args .parent) (args .place) rows worked some row (whole-row made) (row-rewritten made), start .pre .1 .1),
       ),
     )
 
@@ -108,8 +109,8 @@ returns-2 c =
     let made = settled .before .before .before .before .before in
     let start = made .before .before .before .before .before .before in
     let args = start .args in (
-      then-settled (args .place) (args .rows .now) (start .pre .0) (args .rule) (args .triple) (args .parent) (made .before .before .if1 .left)
-          (made .rewrite-row .last .0) (whole-row made) (row-rewritten made) (settled .settle-row .last .0)
+      then-settled (args .rule) (args .triple) (args .parent) (args .place) (args .rows .now) (start .pre .0) (made .before .before .if1 .left)
+          (made .rewrite-row .last .0) (whole-row made) (row-rewritten made) (settled .settle-row .last .0) _
           (rw (put-back made) at (settled .settle-row .ensures .0)),
       settled .settle-row .ensures .1,
     )

@@ -34,9 +34,10 @@ returns : tie.Need-returns
 unfolding term
 returns c =
     let args = c .before .before .before .before .before .before .before .args in
+    let pre = c .before .before .before .before .before .before .before .pre in
     let e = c .before .before .before .before .wide .ensures .0 in
     rw (add-sub-cancel, e)
-    (row-rewritten (args .row .now) (c .before .before .before .before .before .before .before .pre) (args .triple) (args .parent) _
+    (row-rewritten (args .row .now) (pre .0) (pre .1) (args .triple) (args .parent) _
     (rw (add-sub-cancel, e) at (c .before .before .rewrite .ensures)))
 
 pub rewrite-row-spec : {M : Type 1} → statement M

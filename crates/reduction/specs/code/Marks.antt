@@ -1,9 +1,10 @@
 -- Marks of terms: a number made from a term's indices, and a chain through the places of those with the same mark. Every mark is below `size`.
 use mathlib.Core.Path.{_≡_}
+use mathlib.Core.Bool.{false, not}
 use mathlib.Core.List.{List, [], _∷_}
 use Prim.Native.Nat.{ℕ, _+_, _-_, _*_, _%_, _<_, _≤_}
 use lib.ListN.{length, getD, take, set}
-use Rattle.lists.specs.Members.{some-of, alike}
+use Rattle.lists.specs.Members.{some-of, leading, alike}
 
 -- How many marks there are.
 abbrev pub mark-room : ℕ
@@ -32,14 +33,20 @@ pub record Leads (size : ℕ) (terms : List (List ℕ)) (count mark last : ℕ) 
       → some-of (alike term) (take count terms) ≡ some-of (alike term) (take last terms)
 
 -- The chains of terms, at most so many: at each mark the number that leads to its terms, and behind the marks, for the place of each term
--- that is not empty, the number that leads to those before it with its mark.
+-- that is not empty, the number that leads to those before it with its mark. No term that is not empty stands there twice.
 pub record Chained (size most : ℕ) (terms : List (List ℕ)) (chains : List ℕ) : Type 0 where
   pub room : length chains ≡ size + most
   pub fits : length terms ≤ most
   pub last : (mark : ℕ) → mark < size → Leads size terms (length terms) mark (getD chains mark 0)
   pub link : (place : ℕ) → place < length terms → 0 < length (getD terms place [])
       → Leads size terms place (mark-of size (getD terms place [])) (getD chains (size + place) 0)
+  pub alone : (place : ℕ) → place < length terms → 0 < length (getD terms place [])
+      → some-of (alike (getD terms place [])) (take place terms) ≡ false
 
 -- A place put first on the chain of a mark.
 unfoldable pub put-first : ℕ → ℕ → ℕ → List ℕ → List ℕ
 put-first size mark place chains = set (set chains (size + place) (getD chains mark 0)) mark (place + 1)
+
+-- The place of the first term that is like this one; where there is none, how many they are.
+unfoldable pub first-like : List ℕ → List (List ℕ) → ℕ
+first-like term terms = leading (λ other. not (alike term other)) terms

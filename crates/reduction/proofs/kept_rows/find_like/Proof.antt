@@ -1,4 +1,4 @@
--- The number leads down the chain of the term's mark: a row that is like the term ends the search, any other is passed.
+-- The number leads down the chain of the term's mark: the row that is like the term ends the search, any other is passed.
 use mathlib.Core.Path.{_≡_, _∙_, sym}
 use mathlib.Core.List.{[]}
 use Prim.Native.Nat.{_-_, _<_}
@@ -9,11 +9,11 @@ use Rattle.lists.specs.Members.{alike}
 use Rattle.terms.specs.Rows.{terms-of}
 use Rattle.terms.proofs.RowSteps.{length-terms}
 use Rattle.reduction.proofs.ChainedRows.{terms-at, Seeking, seeking-starts, seeking-on, seeking-found, seeking-ends, place-inside, chain-falls}
-use Rattle.reduction.proofs.kept_rows.is_kept.Statement.{statement}
-use Rattle.reduction.proofs.kept_rows.is_kept.Tie as tie
+use Rattle.reduction.proofs.kept_rows.find_like.Statement.{statement}
+use Rattle.reduction.proofs.kept_rows.find_like.Tie as tie
 
 abbrev Inv-loop : tie.InvT-loop
-Inv-loop rows count chains term mark at₀ at = Seeking 16384 (terms-of 8 count rows) term at
+Inv-loop rows count chains term mark at₀ at = Seeking 16384 (terms-of 9 count rows) term at
 
 abbrev μ-loop : tie.MeasureT-loop
 μ-loop rows count chains term mark at₀ at = at
@@ -45,7 +45,7 @@ row-there c =
     let start = here .before .before .before .before .before .before .before in
     let chained = start .pre .1 .0 in
     let inside = place-inside _ _ _ _ chained _ (start .pre .1 .1) _ (here .loop .inv) (c .loop-test .taken) in
-    (rw (length-terms 8 (start .args .count) (start .args .rows .now)) at inside, omega (arith, inside, chained .fits))
+    (rw (length-terms 9 (start .args .count) (start .args .rows .now)) at inside, omega (arith, inside, chained .fits))
 
 sub-place : tie.Need-sub-place Inv-loop μ-loop
 sub-place c = search needs
@@ -55,7 +55,7 @@ term-at-requires c κs =
     let here = c .before in
     let held = here .before .before .before .before .before .before .before .pre .0 in
     let inside = row-there c .0 in
-    (omega (arith, held .room), held .within (here .loop .at - 1) inside)
+    (omega (arith, held .room), omega (arith, held .within (here .loop .at - 1) inside))
 
 same-requires : tie.Need-same-requires Inv-loop μ-loop
 same-requires c κs = search needs
@@ -64,21 +64,20 @@ same-requires c κs = search needs
 compared : (c : tie.After-same Inv-loop μ-loop)
     → (let here = c .before .before .before in
     let args = here .before .before .before .before .before .before .before .args in
-    c .same .result ≡ alike (args .term .now) (getD (terms-of 8 (args .count) (args .rows .now)) (here .loop .at - 1) []))
+    c .same .result ≡ alike (args .term .now) (getD (terms-of 9 (args .count) (args .rows .now)) (here .loop .at - 1) []))
 compared c =
     let turn = c .before .before in
     let here = turn .before in
     let args = here .before .before .before .before .before .before .before .args in
-    rw (terms-at 8 (args .count) (here .loop .at - 1) (args .rows .now) (row-there turn .0), ← c .before .term-at .ensures) (c .same .ensures)
+    rw (terms-at 9 (args .count) (here .loop .at - 1) (args .rows .now) (row-there turn .0), ← c .before .term-at .ensures) (c .same .ensures)
 
 returns : tie.Need-returns Inv-loop μ-loop
 returns c =
     let turn = c .before .before .before in
     let here = turn .before in
     let start = here .before .before .before .before .before .before .before in
-    sym
-    (seeking-found _ _ _ _ (start .pre .1 .0) _ (start .pre .1 .1) _ (here .loop .inv) (turn .loop-test .taken)
-    (sym (compared (c .before)) ∙ c .if1 .taken))
+    seeking-found _ _ _ _ (start .pre .1 .0) _ (start .pre .1 .1) _ (here .loop .inv) (turn .loop-test .taken)
+    (sym (compared (c .before)) ∙ c .if1 .taken)
 
 add-wide : tie.Need-add-wide Inv-loop μ-loop
 add-wide c = omega (arith, row-there (c .before .before .before) .1)
@@ -116,10 +115,11 @@ returns-2 : tie.Need-returns-2 Inv-loop μ-loop
 returns-2 c =
     let here = c .before in
     let start = here .before .before .before .before .before .before .before in
-    sym (seeking-ends _ _ _ _ (start .pre .1 .0) _ (start .pre .1 .1) _ (here .loop .inv) (omega arith))
+    sym (length-terms 9 (start .args .count) (start .args .rows .now))
+    ∙ seeking-ends _ _ _ _ (start .pre .1 .0) _ (start .pre .1 .1) _ (here .loop .inv) (omega arith)
 
-pub is-kept-spec : {M : Type 1} → statement M
-is-kept-spec =
+pub find-like-spec : {M : Type 1} → statement M
+find-like-spec =
     tie.close
     (tie.spec
     Inv-loop
