@@ -20,3 +20,6 @@ pub mod RunsOn
 pub mod TrialTotals
 pub mod Walk
 pub mod FlatpackRows
+pub mod DropsAddUp
+pub mod DropsLive
+pub mod DropsEnd
