@@ -6,4 +6,5 @@ pub mod StateFresh
 pub mod StateMerged
 pub mod StateStepped
 pub mod StateAsked
+pub mod RowsHeld
 pub mod Runs

@@ -7,7 +7,7 @@ use native.Mathlib.Omega.{arith}
 use lib.ListN.{length, take}
 use Rattle.entities.specs.declared.Triple.{Triple}
 use Rattle.terms.specs.Job.{Job}
-use Rattle.terms.proofs.RowSteps.{terms-front}
+use Rattle.terms.proofs.CountedRows.{counted-front}
 use Rattle.terms.proofs.OwnRows.{front-held}
 use Rattle.history.specs.Lawful.{Lawful, LawfulHistory}
 use Rattle.history.specs.Choice.{weight-in}
@@ -25,12 +25,12 @@ module _ (job : Job) (rows : List ℕ) (run : Run) (holds : Holds job rows run) 
   pub merges-lawful : LawfulHistory (job .modes) (history-of run)
   merges-lawful = holds .lawful
 
-  pub rows-room : 8 * length (job .terms) ≤ length rows
+  pub rows-room : 9 * length (job .terms) ≤ length rows
   rows-room = rw (← holds .count-is) (holds .held .room)
 
   -- The same rows at the front of other numbers.
-  pub moved : (others : List ℕ) → 8 * length (job .terms) ≤ length others
-      → take (8 * length (job .terms)) others ≡ take (8 * length (job .terms)) rows → Holds job others run
+  pub moved : (others : List ℕ) → 9 * length (job .terms) ≤ length others
+      → take (9 * length (job .terms)) others ≡ take (9 * length (job .terms)) rows → Holds job others run
   moved others room front =
       let count = holds .count-is in
       let same = rw (← count) at front in
@@ -45,11 +45,12 @@ module _ (job : Job) (rows : List ℕ) (run : Run) (holds : Holds job rows run) 
         inside = holds .inside;
         lawful = holds .lawful;
         tied = holds .tied;
-        held = front-held 8 (run .count) rows others same (rw count room) (holds .held);
-        rows-are = terms-front 8 (run .count) others rows same ∙ holds .rows-are;
+        held = front-held 9 (run .count) rows others same (rw count room) (holds .held);
+        rows-are = counted-front (run .count) others rows same ∙ holds .rows-are;
         weight-is = holds .weight-is;
         bounded = holds .bounded;
         weights-are = holds .weights-are;
+        drops-are = holds .drops-are;
       }
 
   -- The next merge, where it is lawful and truly weighed.

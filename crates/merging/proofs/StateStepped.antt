@@ -26,6 +26,7 @@ use Rattle.choosing.specs.code.Couples.{weight-here, nothing, weighed, seek}
 use Rattle.choosing.proofs.Seeking.{sought}
 use Rattle.merging.specs.declared.run.Run.{Run}
 use Rattle.merging.specs.code.State.{history-of, HoldsIn, ReadyIn}
+use Rattle.merging.proofs.RowsHeld.{terms-are}
 use Rattle.merging.proofs.StateMerged.{parent-is}
 use Rattle.merging.proofs.Recording.{length-recorded}
 
@@ -43,7 +44,7 @@ module _ (entities steps : ℕ) (job : Job) (rows : List ℕ) (run : Run) (holds
     unfolding weight-here weight-in
     weighs-here =
         let all = rows-after job (history-of run) in
-        ap (λ l. λ triple. weight-of triple l) (there .terms ∙ ap live (holds .rows-are)) ∙ fun-ext (λ triple. live-weight triple all)
+        ap (λ l. λ triple. weight-of triple l) (there .terms ∙ ap live (terms-are entities steps job rows run holds)) ∙ fun-ext (λ triple. live-weight triple all)
 
     weight-low : (triple : Triple) → weight-here kept gathered triple < nothing kept .weight
     unfolding weight-here nothing

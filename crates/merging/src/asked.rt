@@ -2,19 +2,23 @@
 ghost use mathlib.Core.Path.{_≡_};
 ghost use mathlib.Core.Bool.{true};
 ghost use mathlib.Core.List.{List};
-ghost use Prim.Native.Nat.{ℕ, _<_};
+ghost use Prim.Native.Nat.{ℕ, _≤_, _<_};
 ghost use lib.ListN.{length};
+ghost use Rattle.lists.specs.Written.{«written-at»};
 ghost use Rattle.terms.specs.Job.{Job};
 ghost use Rattle.history.specs.History.{«merge-of», «history-before», «is-open»};
 ghost use Rattle.history.specs.Lawful.{«three-open», paired};
 ghost use Rattle.history.specs.Choice.{«weight-in»};
 ghost use Rattle.history.specs.Run.{«run-weight»};
+ghost use Rattle.history.specs.Drops.{drops as «drops-of»};
 ghost use Rattle.merging.specs.code.State.{«history-of»};
 ghost use Rattle.merging.specs.code.Runs.{Holds};
 use crate::run::Run;
 use choosing::lawful;
 use entities::Triple;
+use terms::row;
 use terms::rules::Rule;
+use terms::slices;
 use terms::weight;
 
 // How many merges were made.
@@ -65,7 +69,7 @@ pub fn weight_of(run: Run, rows: &[u16], triple: Triple) -> usize
     requires { ⌜ ((job : Job) × Holds job (now rows) run) ⌝ }
     ensures { λ r. ⌜ ((job : Job) → Holds job (now (rows .entry)) run → r ≡ weight-in job (history-of run) triple) ⌝ }
 {
-    weight::weight(rows, run.count, triple)
+    weight::weight(rows, row::WORK_WIDTH, run.count, triple)
 }
 
 // The merge of a step that was made.
@@ -86,4 +90,14 @@ pub fn step_weight(run: Run, step: usize) -> u16
     ensures { λ r. ⌜ ((job : Job) (rows : List ℕ) → Holds job rows run → r ≡ weight-in job (history-before (history-of run) step) (merge-of (history-of run) step)) ⌝ }
 {
     run.weights[step]
+}
+
+// How many input rows were dropped in each step so far, written over the front of other numbers.
+pub fn put_drops(run: Run, drops: &mut [u16])
+    requires { ⌜ ((job : Job) × ((rows : List ℕ) × (Holds job rows run × (length (history-of run) ≤ length (now drops))))) ⌝ }
+    ensures { λ r. ⌜ ((job : Job) (rows : List ℕ) → Holds job rows run → now (drops .exit) ≡ written-at 0 (drops-of job (history-of run)) (now (drops .entry))) ⌝ }
+{
+    let noted = run.drops;
+    let end = run.step;
+    slices::put_front(&noted[..end], drops);
 }

@@ -4,8 +4,8 @@ ghost use mathlib.Core.List.{List, [], _∷_};
 ghost use Prim.Native.Nat.{ℕ, _+_, _*_, _≤_, _<_};
 ghost use lib.ListN.{getD};
 ghost use Rattle.lists.specs.Ranges.{listed};
-ghost use Rattle.entities.specs.Limits.{«most-modes», «most-terms», «row-width», «entity-room»};
-ghost use Rattle.terms.specs.code.Held.{Held};
+ghost use Rattle.entities.specs.Limits.{«most-modes», «most-terms», «entity-room»};
+ghost use Rattle.terms.specs.code.Held.{Spread};
 ghost use Rattle.terms.specs.Job.{Job, «job-of»};
 ghost use Rattle.history.specs.History.{«is-open»};
 ghost use Rattle.history.specs.computed.Choosing.{chosen};
@@ -18,8 +18,8 @@ use entities::parents;
 use reduction::live_rows;
 use terms::rules::Rule;
 
-// What a run holds: its modes, its rule and how many rows it has, a mark, a z-end and a holder for every entity, and x, y, z and the weight of
-// every merge.
+// What a run holds: its modes, its rule and how many rows it has, a mark, a z-end and a holder for every entity, and of every merge x, y, z, its
+// weight and how many input rows were dropped with it.
 pub struct Run {
     pub modes: usize,
     pub rule: Rule,
@@ -33,6 +33,7 @@ pub struct Run {
     pub ys: [u16; 256],
     pub zs: [u16; 256],
     pub weights: [u16; 256],
+    pub drops: [u16; 256],
 }
 
 // Every entity its own z-end and its own holder.
@@ -66,7 +67,7 @@ fn leaves(modes: usize) -> [bool; 769]
 // The state before the first step, of so many modes and rows, by this rule.
 pub fn fresh(modes: usize, rule: Rule, count: usize) -> Run
     requires { ⌜ (1 ≤ modes) × (modes ≤ most-modes) × (count ≤ most-terms) ⌝ }
-    ensures { λ r. ⌜ ((rows : List ℕ) → Held row-width count rows → Holds (job-of modes rule count rows) rows r × (history-of r ≡ [])) ⌝ }
+    ensures { λ r. ⌜ ((numbers rows : List ℕ) → Spread count numbers rows → Holds (job-of modes rule count numbers) rows r × (history-of r ≡ [])) ⌝ }
 {
     let opens = leaves(modes);
     let ends = identity();
@@ -84,6 +85,7 @@ pub fn fresh(modes: usize, rule: Rule, count: usize) -> Run
         ys: [0u16; 256],
         zs: [0u16; 256],
         weights: [0u16; 256],
+        drops: [0u16; 256],
     }
 }
 
@@ -111,15 +113,16 @@ impl Run {
     }
 
     // The merge written down as the next step.
-    fn noted(mut self, triple: Triple, weight: u16) -> Run
+    fn noted(mut self, triple: Triple, weight: u16, dropped: u16) -> Run
         requires { ⌜ self .step < most-modes ⌝ }
-        ensures { λ r. ⌜ Noted triple weight self r ⌝ }
+        ensures { λ r. ⌜ Noted triple weight dropped self r ⌝ }
     {
         let step = self.step;
         self.xs[step] = triple.x;
         self.ys[step] = triple.y;
         self.zs[step] = triple.z;
         self.weights[step] = weight;
+        self.drops[step] = dropped;
         self.step = step + 1;
         self
     }
@@ -131,10 +134,10 @@ impl Run {
     {
         let parent = parents::parent_number(self.modes, self.step);
         let rule = self.rule;
-        reduction::reduce_hamiltonian(rows, self.count, rule, parent, triple);
+        let dropped = reduction::reduce_hamiltonian(rows, self.count, rule, parent, triple);
         let sum = self.weight + weight;
         let mut next = self.entities_merged(triple)
-            .noted(triple, (weight % 65536) as u16);
+            .noted(triple, (weight % 65536) as u16, (dropped % 65536) as u16);
         next.weight = sum;
         next
     }

@@ -1,11 +1,11 @@
 // Lines obeyed one after the other, a journal's or merges by hand: each merge that they say is judged and made, until a line is refused.
 ghost use mathlib.Core.Path.{_≡_};
-ghost use mathlib.Core.List.{[]};
-ghost use Prim.Native.Nat.{_≤_};
+ghost use mathlib.Core.List.{List, []};
+ghost use Prim.Native.Nat.{ℕ, _≤_};
 ghost use lib.ListN.{length, drop};
-ghost use Rattle.entities.specs.Limits.{«most-modes», «most-terms», «row-width»};
+ghost use Rattle.entities.specs.Limits.{«most-modes», «most-terms»};
 ghost use Rattle.fields.specs.Lines.{lines};
-ghost use Rattle.terms.specs.code.Held.{Held};
+ghost use Rattle.terms.specs.code.Held.{Spread};
 ghost use Rattle.terms.specs.Job.{Job, «job-of»};
 ghost use Rattle.merging.specs.declared.run.Run.{Run as State};
 ghost use Rattle.merging.specs.code.State.{«history-of»};
@@ -114,11 +114,11 @@ fn obey_lines(
     }
 }
 
-// A journal obeyed from the first state on: the header, then the merges.
+// A journal obeyed from the first state on, on the work rows of input rows: the header, then the merges.
 pub fn obey(modes: usize, rule: Rule, count: usize, rows: &mut [u16], read: &[u8]) -> Obeying
     requires { ⌜ (1 ≤ modes) × (modes ≤ most-modes) × (count ≤ most-terms) ⌝ }
-    requires { ⌜ Held row-width count (now rows) ⌝ }
-    ensures { λ r. ⌜ Obeys (job-of modes rule count (now (rows .entry))) (obeyed (job-of modes rule count (now (rows .entry))) (now (read .entry))) (now (rows .entry)) (now (rows .exit)) r ⌝ }
+    requires { ⌜ ((numbers : List ℕ) × Spread count numbers (now rows)) ⌝ }
+    ensures { λ r. ⌜ ((numbers : List ℕ) → Spread count numbers (now (rows .entry)) → Obeys (job-of modes rule count numbers) (obeyed (job-of modes rule count numbers) (now (read .entry))) (now (rows .entry)) (now (rows .exit)) r) ⌝ }
 {
     let first = run::fresh(modes, rule, count);
     let end = lines::line_end(read, 0);
@@ -146,8 +146,8 @@ pub fn obey_by_hand(
     read: &[u8],
 ) -> Obeying
     requires { ⌜ (1 ≤ modes) × (modes ≤ most-modes) × (count ≤ most-terms) ⌝ }
-    requires { ⌜ Held row-width count (now rows) ⌝ }
-    ensures { λ r. ⌜ Obeys (job-of modes rule count (now (rows .entry))) (obeyed-by-hand (job-of modes rule count (now (rows .entry))) (now (read .entry))) (now (rows .entry)) (now (rows .exit)) r ⌝ }
+    requires { ⌜ ((numbers : List ℕ) × Spread count numbers (now rows)) ⌝ }
+    ensures { λ r. ⌜ ((numbers : List ℕ) → Spread count numbers (now (rows .entry)) → Obeys (job-of modes rule count numbers) (obeyed-by-hand (job-of modes rule count numbers) (now (read .entry))) (now (rows .entry)) (now (rows .exit)) r) ⌝ }
 {
     obey_lines(run::fresh(modes, rule, count), modes, rows, read, 0, true)
 }

@@ -1,7 +1,7 @@
 -- The leaves of each mode weighed with z row by row: what the table has of the rows passed, and what those ahead weigh, are all.
 use mathlib.Core.Path.{_≡_, refl, ap}
 use mathlib.Core.List.{List, []}
-use Prim.Native.Nat.{ℕ, zero, suc, _+_, _-_, _*_, _/_, _%_, _<_, _≤_}
+use Prim.Native.Nat.{ℕ, zero, suc, _+_, _-_, _*_, _%_, _<_, _≤_}
 use native.Mathlib.Omega.{arith}
 use lib.ListN.{length, getD, take, drop}
 use Rattle.lists.specs.Counting.{occurrences}
@@ -60,14 +60,14 @@ module _ (count : ℕ) (rows : List ℕ) (z : ℕ) where
           above = λ k l. omega (arith, so-far .above k l, row .weighs k (omega arith));
           below = λ k l.
               omega (arith, so-far .below k l, row .weighs k (omega arith), term-weight-at-most (pair-with z k) (term (take 8 (drop (8 * place) rows))));
-          weighs = λ k l. omega (arith, so-far .weighs k l, row .weighs k (omega arith), weight-step (pair-with z k) count place rows h);
+          weighs = λ k l. omega (arith, so-far .weighs k l, row .weighs k (omega arith), weight-step (pair-with z k) 8 count place rows h);
         }
 
     module _ (h : count ≤ place) where
       pub weighing-fits : count ≤ 2048 → (k : ℕ) → k < length table → (count ≤ getD table k 0 + odd) × (getD table k 0 + odd < 65536)
       weighing-fits few k l =
           let same = so-far .same-length in (
-            omega (arith, so-far .weighs k (omega arith), weight-end (pair-with z k) count place rows h),
+            omega (arith, so-far .weighs k (omega arith), weight-end (pair-with z k) 8 count place rows h),
             omega (arith, so-far .below k (omega arith), so-far .few, so-far .within),
           )
 
@@ -75,4 +75,4 @@ module _ (count : ℕ) (rows : List ℕ) (z : ℕ) where
       weighing-ends after lifted k l =
           let same = so-far .same-length in
           let still = lifted .same-length in
-          omega (arith, lifted .lifted k (omega arith), so-far .weighs k (omega arith), weight-end (pair-with z k) count place rows h)
+          omega (arith, lifted .lifted k (omega arith), so-far .weighs k (omega arith), weight-end (pair-with z k) 8 count place rows h)

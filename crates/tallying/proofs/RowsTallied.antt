@@ -59,10 +59,10 @@ module _ (count : ℕ) (rows : List ℕ) (x y : ℕ) where
           few = omega (arith, so-far .few);
           fewer = omega (arith, so-far .fewer);
           low = λ z k. omega (arith, so-far .low z k, row .up z (omega arith));
-          bound = λ z. omega (arith, so-far .bound z, row .apart z, weight-step (with z) count place rows h);
+          bound = λ z. omega (arith, so-far .bound z, row .apart z, weight-step (with z) 8 count place rows h);
           counts = λ z k.
               omega
-              (arith, so-far .counts z k, row .weighs z (omega arith), weight-step (with z) count place rows h, odds-step z count place rows h);
+              (arith, so-far .counts z k, row .weighs z (omega arith), weight-step (with z) 8 count place rows h, odds-step z count place rows h);
         }
 
   module _ (length₀ : ℕ) (less : List ℕ) (all apart place : ℕ) (so-far : Tallying length₀ less all apart place) (h : count ≤ place) where
@@ -71,7 +71,7 @@ module _ (count : ℕ) (rows : List ℕ) (x y : ℕ) where
         × ((z : ℕ) → apart ≤ weight-of (with z) whole)
     tallying-ends = (
       omega (arith, so-far .few, so-far .within, length-terms 8 count rows),
-      λ z k. omega (arith, so-far .counts z k, weight-end (with z) count place rows h, odds-end z count place rows h),
+      λ z k. omega (arith, so-far .counts z k, weight-end (with z) 8 count place rows h, odds-end z count place rows h),
       λ z. omega (arith, so-far .bound z),
     )
 

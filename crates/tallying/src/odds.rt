@@ -18,7 +18,7 @@ pub fn count_odds(rows: &[u16], count: usize, table: &mut [u16])
     slices::fill(table, 0);
     let mut place = 0;
     while place < count {
-        raising::raise(row::term_at(rows, place), table);
+        raising::raise(row::term_at(rows, row::WIDTH, place), table);
         place += 1;
     }
 }

@@ -2,7 +2,6 @@
 ghost use mathlib.Core.Path.{_≡_};
 ghost use Prim.Native.Nat.{ℕ, _+_, _*_, _%_, _≤_, _<_};
 ghost use lib.ListN.{length, getD, take};
-ghost use Rattle.lists.specs.Counting.{occurrences};
 ghost use Rattle.entities.specs.Limits.{«most-terms», «row-width»};
 ghost use Rattle.terms.specs.Rows.{«terms-of»};
 ghost use Rattle.terms.specs.code.Held.{Held};
@@ -103,7 +102,7 @@ pub fn weigh_pairs(rows: &[u16], count: usize, z: u16, table: &mut [u16])
     let mut odd: usize = 0;
     let mut place = 0;
     while place < count {
-        odd += weigh_row(row::term_at(rows, place), z, table);
+        odd += weigh_row(row::term_at(rows, row::WIDTH, place), z, table);
         place += 1;
     }
     lift(table, odd, count);

@@ -51,7 +51,7 @@ pub fn tally_couple(
     let mut apart: usize = 0;
     let mut place = 0;
     while place < count {
-        let odd = tally_row(row::term_at(rows, place), x, y, less);
+        let odd = tally_row(row::term_at(rows, row::WIDTH, place), x, y, less);
         all += (odd + 1) / 2;
         apart += odd % 2;
         if limit <= apart {

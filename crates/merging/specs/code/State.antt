@@ -5,11 +5,11 @@ use mathlib.Core.List.{List}
 use Prim.Native.Nat.{ℕ, _+_, _*_, _≤_, _<_}
 use lib.ListN.{length, getD, set, drop}
 use Rattle.entities.specs.declared.Triple.{Triple}
-use Rattle.entities.specs.Limits.{most-terms, row-width}
-use Rattle.terms.specs.Rows.{terms-of}
+use Rattle.entities.specs.Limits.{most-terms, work-width}
+use Rattle.terms.specs.Counted.{counted-of}
 use Rattle.terms.specs.code.Held.{Held}
 use Rattle.terms.specs.Job.{Job}
-use Rattle.history.specs.History.{rows-after}
+use Rattle.history.specs.Drops.{counted-after, drop-in}
 use Rattle.history.specs.Lawful.{Lawful, LawfulHistory}
 use Rattle.history.specs.Choice.{weight-in}
 use Rattle.history.specs.Run.{run-weight}
@@ -21,6 +21,12 @@ use Rattle.merging.specs.code.Recorded.{merge-at, recorded}
 abbrev pub history-of : Run → List Triple
 history-of run = recorded (run .xs) (run .ys) (run .zs) (run .step)
 
+-- The table has for each step so far what a rule says of its merge after those before it.
+abbrev pub TableOf : (List Triple → Triple → ℕ) → Run → List ℕ → Type 0
+TableOf rule run table =
+    (step : ℕ) → step < run .step
+    → getD table step 0 ≡ rule (recorded (run .xs) (run .ys) (run .zs) step) (merge-at (run .xs) (run .ys) (run .zs) step)
+
 -- Each table has its room: one for every entity, one for every step.
 pub record Whole (entities steps : ℕ) (run : Run) : Type 0 where
   pub opens : length (run .opens) ≡ entities
@@ -30,6 +36,7 @@ pub record Whole (entities steps : ℕ) (run : Run) : Type 0 where
   pub ys : length (run .ys) ≡ steps
   pub zs : length (run .zs) ≡ steps
   pub weights : length (run .weights) ≡ steps
+  pub drops : length (run .drops) ≡ steps
 
 -- The state of a run of this job, its rows at the front of the numbers, in tables of so many entities and steps.
 pub record HoldsIn (entities steps : ℕ) (job : Job) (rows : List ℕ) (run : Run) : Type 0 where
@@ -43,13 +50,12 @@ pub record HoldsIn (entities steps : ℕ) (job : Job) (rows : List ℕ) (run : R
   pub inside : run .step ≤ job .modes
   pub lawful : LawfulHistory (job .modes) (history-of run)
   pub tied : Tied entities (job .modes) (history-of run) (run .opens) (run .ends) (run .holders)
-  pub held : Held row-width (run .count) rows
-  pub rows-are : terms-of row-width (run .count) rows ≡ rows-after job (history-of run)
+  pub held : Held work-width (run .count) rows
+  pub rows-are : counted-of (run .count) rows ≡ counted-after job (history-of run)
   pub weight-is : run .weight ≡ run-weight job (history-of run)
   pub bounded : run .weight ≤ most-terms * run .step
-  pub weights-are : (step : ℕ) → step < run .step
-      → getD (run .weights) step 0
-      ≡ weight-in job (recorded (run .xs) (run .ys) (run .zs) step) (merge-at (run .xs) (run .ys) (run .zs) step)
+  pub weights-are : TableOf (weight-in job) run (run .weights)
+  pub drops-are : TableOf (drop-in job) run (run .drops)
 
 -- The entities' tables after a merge: the three closed, their parent open with z's end, which it holds; the merges written down as before.
 pub record EntitiesMerged (triple : Triple) (before after : Run) : Type 0 where
@@ -65,13 +71,15 @@ pub record EntitiesMerged (triple : Triple) (before after : Run) : Type 0 where
   pub ys : after .ys ≡ before .ys
   pub zs : after .zs ≡ before .zs
   pub weights : after .weights ≡ before .weights
+  pub drops : after .drops ≡ before .drops
 
 -- The merge written down as the next step; the entities' tables as before.
-pub record Noted (triple : Triple) (weight : ℕ) (before after : Run) : Type 0 where
+pub record Noted (triple : Triple) (weight dropped : ℕ) (before after : Run) : Type 0 where
   pub xs : after .xs ≡ set (before .xs) (before .step) (triple .x)
   pub ys : after .ys ≡ set (before .ys) (before .step) (triple .y)
   pub zs : after .zs ≡ set (before .zs) (before .step) (triple .z)
   pub weights : after .weights ≡ set (before .weights) (before .step) weight
+  pub drops : after .drops ≡ set (before .drops) (before .step) dropped
   pub step : after .step ≡ before .step + 1
   pub count : after .count ≡ before .count
   pub modes : after .modes ≡ before .modes
@@ -91,4 +99,4 @@ pub record ReadyIn (entities steps : ℕ) (job : Job) (rows : List ℕ) (run : R
 pub record WentIn (entities steps : ℕ) (job : Job) (history : List Triple) (rows : List ℕ) (after : Run) (now-rows : List ℕ) : Type 0 where
   pub holds : HoldsIn entities steps job now-rows after
   pub merges : history-of after ≡ history
-  pub rest : drop (row-width * length (job .terms)) now-rows ≡ drop (row-width * length (job .terms)) rows
+  pub rest : drop (work-width * length (job .terms)) now-rows ≡ drop (work-width * length (job .terms)) rows

@@ -15,20 +15,20 @@ obey-lines-requires c κs =
     let start = c .before .before .before .before in
     let args = start .args in
     let rows = args .rows .now in
-    let first = c .before .fresh .ensures rows (start .pre .1) in
-    ((job-of (args .modes) (args .rule) (args .count) rows, (first .0, refl)), omega arith)
+    let first = c .before .fresh .ensures (start .pre .1 .0) rows (start .pre .1 .1) in
+    ((job-of (args .modes) (args .rule) (args .count) (start .pre .1 .0), (first .0, refl)), omega arith)
 
 same-length : tie.Need-same-length
 same-length c = search needs
 
 returns : tie.Need-returns
 unfolding obeyed-by-hand
-returns c =
+returns c numbers spread =
     let start = c .before .before .before .before .before .before .before in
     let args = start .args in
     let rows = args .rows .now in
-    let first = c .before .before .before .before .fresh .ensures rows (start .pre .1) in
-    rw (first .1) at (c .before .before .obey-lines .ensures (job-of (args .modes) (args .rule) (args .count) rows) (first .0) refl)
+    let first = c .before .before .before .before .fresh .ensures numbers rows spread in
+    rw (first .1) at (c .before .before .obey-lines .ensures (job-of (args .modes) (args .rule) (args .count) numbers) (first .0) refl)
 
 pub obey-by-hand-spec : {M : Type 1} → statement M
 obey-by-hand-spec = tie.close (tie.spec fresh-requires obey-lines-requires same-length returns)

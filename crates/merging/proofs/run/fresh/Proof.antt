@@ -20,11 +20,11 @@ identity-requires-2 c κs = search needs
 
 returns : tie.Need-returns
 unfolding recorded
-returns c rows held =
+returns c numbers rows spread =
     let opens = c .before .before .leaves .ensures in
     let ends = c .before .identity .ensures in
     let holders = c .identity2 .ensures in (
-      fresh-holds 769 256 _ rows (omega arith)
+      fresh-holds 769 256 _ numbers rows (omega arith)
           (record {
             opens = ap length opens ∙ length-listed _ 0 769;
             ends = ap length ends ∙ length-listed _ 0 769;
@@ -33,8 +33,9 @@ returns c rows held =
             ys = refl;
             zs = refl;
             weights = refl;
+            drops = refl;
           })
-          refl refl (omega arith) (omega arith) (omega arith) held opens ends holders,
+          refl refl (omega arith) (omega arith) (omega arith) spread opens ends holders,
       refl,
     )
 

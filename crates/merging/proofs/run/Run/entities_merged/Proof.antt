@@ -67,6 +67,7 @@ returns c =
       ys = refl;
       zs = refl;
       weights = refl;
+      drops = refl;
     }
 
 pub entities-merged-spec : {M : Type 1} → statement M

@@ -2,6 +2,7 @@
 use native.Mathlib.Omega.{arith}
 use borrow.Author.Needs.{needs}
 use lib.Dec.{lit≤}
+use Rattle.merging.proofs.RowsHeld.{rows-worked}
 use Rattle.merging.proofs.StateMerged.{weight-bound, in-room, end-low, x-below, y-below, z-below, merged-went, same-run}
 use Rattle.merging.proofs.run.Run.merged.Statement.{statement}
 use Rattle.merging.proofs.run.Run.merged.Tie as tie
@@ -10,7 +11,10 @@ parent-number-requires : tie.Need-parent-number-requires
 parent-number-requires c κs = search needs
 
 reduce-hamiltonian-requires : tie.Need-reduce-hamiltonian-requires
-reduce-hamiltonian-requires c κs = search needs
+reduce-hamiltonian-requires c κs =
+    let start = c .before .before .before in
+    let holds = start .pre .1 .holds in
+    (rows-worked 769 256 (start .pre .0) (start .args .rows .now) (start .args .self) holds, omega (arith, holds .light, holds .count-is))
 
 add-sum : tie.Need-add-sum
 add-sum c =
@@ -41,6 +45,9 @@ entities-merged-requires c κs =
 cast-noted : tie.Need-cast-noted
 cast-noted c = search needs
 
+cast-noted-2 : tie.Need-cast-noted-2
+cast-noted-2 c = search needs
+
 noted-requires : tie.Need-noted-requires
 noted-requires c κs = search needs
 
@@ -55,8 +62,8 @@ returns c job ready =
     let noted = c .noted .ensures in
     let reduced = c .before .before .before .before .before .reduce-hamiltonian .ensures in
     let parent = c .before .before .before .before .before .before .before .parent-number .ensures in
-    rw (same-run (args .triple) (args .weight) (args .self) _ _ merged noted)
-    (merged-went 769 256 job (args .rows .now) (args .self) (args .triple) (args .weight) (lit≤ tt) ready _ (rw parent at reduced))
+    rw (same-run (args .triple) (args .weight) _ (args .self) _ _ merged noted)
+    (merged-went 769 256 job (args .rows .now) (args .self) (args .triple) (args .weight) (lit≤ tt) ready _ _ (rw parent at reduced))
 
 pub merged-spec : {M : Type 1} → statement M
 merged-spec =
@@ -67,6 +74,7 @@ merged-spec =
     add-sum
     entities-merged-requires
     cast-noted
+    cast-noted-2
     noted-requires
     same-length
     returns)
