@@ -1,6 +1,6 @@
 -- What is known when resuming is done: every test passed, and the answer is the end of the run from the journal's history.
 use mathlib.Core.Path.{_≡_, refl}
-use mathlib.Core.Bool.{Bool, true, false, _&&_}
+use mathlib.Core.Bool.{Bool, true, false}
 use mathlib.Core.List.{List}
 use Prim.Native.Nat.{ℕ, _+_, _*_, _≤_}
 use native.Mathlib.Omega.{arith}
@@ -20,17 +20,18 @@ use Rattle.journal.specs.Resuming.{Ending, done, refuses, ending, with-j
 
 -- What the test of the rooms says, and where it passes.
 pub rooms-say : (rooms : Rooms) (modes count : ℕ) → roomy rooms modes count ≡ true
-    → (8 * count ≤ rooms .work) × (4 * modes ≤ rooms .rows) × (16 + 21 * modes ≤ rooms .journal)
+    → (9 * count ≤ rooms .work) × (4 * modes ≤ rooms .rows) × (16 + 21 * modes ≤ rooms .journal) × (modes ≤ rooms .drops)
 unfolding roomy
 rooms-say rooms modes count e =
-    let work = both (leb (8 * count) (rooms .work)) (leb (4 * modes) (rooms .rows) && leb (16 + 21 * modes) (rooms .journal)) e in
-    let others = both (leb (4 * modes) (rooms .rows)) (leb (16 + 21 * modes) (rooms .journal)) (work .1) in
-    (leb-true _ _ (work .0), leb-true _ _ (others .0), leb-true _ _ (others .1))
+    let work = both (leb (9 * count) (rooms .work)) _ e in
+    let rows = both (leb (4 * modes) (rooms .rows)) _ (work .1) in
+    let others = both (leb (16 + 21 * modes) (rooms .journal)) (leb modes (rooms .drops)) (rows .1) in
+    (leb-true _ _ (work .0), leb-true _ _ (rows .0), leb-true _ _ (others .0), leb-true _ _ (others .1))
 
-pub rooms-fit : (rooms : Rooms) (modes count : ℕ) → 8 * count ≤ rooms .work → 4 * modes ≤ rooms .rows → 16 + 21 * modes ≤ rooms .journal
-    → roomy rooms modes count ≡ true
+pub rooms-fit : (rooms : Rooms) (modes count : ℕ) → 9 * count ≤ rooms .work → 4 * modes ≤ rooms .rows → 16 + 21 * modes ≤ rooms .journal
+    → modes ≤ rooms .drops → roomy rooms modes count ≡ true
 unfolding roomy
-rooms-fit rooms modes count work rows journal = rw (le-leb _ _ work, le-leb _ _ rows, le-leb _ _ journal)
+rooms-fit rooms modes count work rows journal drops = rw (le-leb _ _ work, le-leb _ _ rows, le-leb _ _ journal, le-leb _ _ drops)
 
 -- With room for all, the journal decides.
 pub with-room : (rooms : Rooms) (modes : ℕ) (rule : Rule) (numbers bytes : List ℕ) (count : ℕ) → roomy rooms modes count ≡ true

@@ -19,6 +19,7 @@ use Rattle.terms.specs.declared.checking.Checked.the-variants.{Good}
 use Rattle.terms.proofs.RowSteps.{length-terms}
 use Rattle.terms.proofs.GoodTerms.{accepted}
 use Rattle.history.specs.Run.{run-weight}
+use Rattle.history.specs.Drops.{drops}
 use Rattle.history.specs.Flatpack.{flatpack}
 use Rattle.obeying.specs.Obeying.{went, obeyed, obeyed-texts}
 use Rattle.journal.specs.computed.NewText.{new-text, unbroken}
@@ -84,6 +85,7 @@ module _ (other : Rooms) (modes rule count : ℕ) (numbers bytes : List ℕ) (hi
         resumes = resumes-on;
         same-rows = ap (flatpack modes) (found .same-end);
         same-weight = ap (run-weight job) (found .same-end);
+        same-drops = ap (drops job) (found .same-end);
         same-journal = found .same-bytes;
         told = obeyed-then-greedy other modes rule numbers _ _ resumes-on;
       }

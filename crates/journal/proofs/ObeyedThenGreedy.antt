@@ -69,6 +69,7 @@ module _ (modes : ℕ) (rule : Rule) (count : ℕ) (numbers bytes : List ℕ) (g
         merges = finished job history;
         runs = runs-on job history (told .lawful) (told .within) some;
         rows-are = refl;
+        drops-are = refl;
         weight-is = refl;
         trials-left = trials-total job (modes - length history) history (told .lawful) (omega (arith, told .within));
         kept-is = refl;

@@ -14,6 +14,7 @@ use Rattle.history.specs.computed.Greedy.{finished}
 use Rattle.history.proofs.RunLawful.{finished-lawful, finished-length}
 use Rattle.history.proofs.FlatpackRows.{length-flatpack}
 use Rattle.journal.specs.Resuming.{Ending, done, ending, Rooms, resumed}
+use Rattle.history.proofs.DropsAddUp.{length-drops}
 use Rattle.obeying.proofs.Obedience.{obedient}
 use Rattle.journal.proofs.CallDone.{rooms-say, call-done}
 
@@ -22,6 +23,7 @@ pub record RowsFit (rooms : Rooms) (modes : ℕ) (part : Ending) : Type 0 where
   pub few : modes ≤ rooms .modes
   pub room : 4 * modes ≤ rooms .rows
   pub exact : length (part .rows) ≡ 4 * modes
+  pub steps : length (part .drops) ≡ modes
 
 pub rows-fit : (rooms : Rooms) (modes rule : ℕ) (numbers bytes : List ℕ) (part : Ending) → 3 * rooms .modes ≤ 65535
     → resumed rooms modes rule numbers bytes ≡ done part → RowsFit rooms modes part
@@ -43,4 +45,5 @@ rows-fit rooms modes rule numbers bytes part small says =
       exact =
           ap (λ e. length (e .rows)) (known .ends)
           ∙ length-flatpack modes (finished job history) lawful all some (omega (arith, few, small));
+      steps = ap (λ e. length (e .drops)) (known .ends) ∙ length-drops job (finished job history) ∙ all;
     }

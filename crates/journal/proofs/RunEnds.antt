@@ -10,6 +10,7 @@ use Rattle.fields.specs.Lines.{kept-of}
 use Rattle.entities.specs.Limits.{most-modes, most-terms}
 use Rattle.terms.specs.Job.{Job}
 use Rattle.history.specs.Run.{run-weight}
+use Rattle.history.specs.Drops.{drops as drops-of}
 use Rattle.history.specs.computed.Greedy.{finished, trials}
 use Rattle.history.specs.Flatpack.{flatpack}
 use Rattle.history.specs.Trials.{trial-total}
@@ -67,32 +68,34 @@ module _ (job : Job) (work now-work : List ℕ) (run after : Run) (holds : Holds
         ap trial-total e
         ∙ sym (trials-total job (job .modes - length (history-of run)) (history-of run) (merges-lawful job work run holds) (omega (arith, within)))
 
-    cleared : written-at 0 (replicate (8 * count) 0) now-work ≡ written-at 0 (replicate (8 * length (job .terms)) 0) work
+    cleared : written-at 0 (replicate (9 * count) 0) now-work ≡ written-at 0 (replicate (9 * length (job .terms)) 0) work
     cleared =
         rw (← sized .count-is)
-        (written-front (replicate (8 * length (job .terms)) 0) now-work work (rw length-replicate (gone .rest)))
+        (written-front (replicate (9 * length (job .terms)) 0) now-work work (rw length-replicate (gone .rest)))
 
-    pub ends : (weight total kept new : ℕ) (bytes rows journal end-work end-rows end-journal : List ℕ) → kept ≡ length (kept-of bytes)
+    pub ends : (weight total kept new : ℕ) (bytes rows journal drops end-work end-rows end-journal end-drops : List ℕ) → kept ≡ length (kept-of bytes)
         → weight ≡ run-weight job (history-of after)
         → end-rows ≡ written-at 0 (flatpack (job .modes) (history-of after)) rows
         → (new ≡ length (noted-behind job kept (history-of after) from))
         × (end-journal ≡ written-at 0 (noted-behind job kept (history-of after) from) journal)
-        → end-work ≡ written-at 0 (replicate (8 * count) 0) now-work
+        → end-drops ≡ written-at 0 (drops-of job (history-of after)) drops
+        → end-work ≡ written-at 0 (replicate (9 * count) 0) now-work
         → total ≡ trial-total (modes - from)
-        → Answers (λ given. done (ending job bytes (history-of run))) (lent work rows journal) (lent end-work end-rows end-journal)
+        → Answers (λ given. done (ending job bytes (history-of run))) (lent work rows journal drops) (lent end-work end-rows end-journal end-drops)
         (Done (record { weight = weight; trials = total; kept = kept; new = new }))
     unfolding ending returned lent-then
-    ends weight total kept new bytes rows journal end-work end-rows end-journal kept-is weighs rows-put lines-put work-put totalled =
+    ends weight total kept new bytes rows journal drops end-work end-rows end-journal end-drops kept-is weighs rows-put lines-put drops-put work-put totalled =
         let text : noted-behind job kept (history-of after) from ≡ new-text job (length (kept-of bytes)) (history-of run) =
         ended-text job (history-of run) modes count from after has-ended kept ∙ ap (λ k. new-text job k (history-of run)) kept-is in
-        answers (λ given. done (ending job bytes (history-of run))) (lent work rows journal) _ _
+        answers (λ given. done (ending job bytes (history-of run))) (lent work rows journal drops) _ _
         (same-answer (weighs ∙ ap (run-weight job) (gone .merges)) (totalled ∙ trials-are) kept-is (lines-put .0 ∙ ap length text))
         (same-lent (work-put ∙ cleared) (rows-put ∙ ap (λ h. written-at 0 (flatpack (job .modes) h) rows) (gone .merges))
-        (lines-put .1 ∙ ap (λ l. written-at 0 l journal) text))
+        (lines-put .1 ∙ ap (λ l. written-at 0 l journal) text)
+        (drops-put ∙ ap (λ h. written-at 0 (drops-of job h) drops) (gone .merges)))
       where
         same-answer : {a b c d e f g h : ℕ} → a ≡ b → c ≡ d → e ≡ f → g ≡ h
             → Done (record { weight = a; trials = c; kept = e; new = g }) ≡ Done (record { weight = b; trials = d; kept = f; new = h })
         same-answer p q r s = rw (p, q, r, s)
 
-        same-lent : {a b c d e f : List ℕ} → a ≡ b → c ≡ d → e ≡ f → lent a c e ≡ lent b d f
-        same-lent p q r = rw (p, q, r)
+        same-lent : {a b c d e f g h : List ℕ} → a ≡ b → c ≡ d → e ≡ f → g ≡ h → lent a c e g ≡ lent b d f h
+        same-lent p q r s = rw (p, q, r, s)

@@ -20,6 +20,7 @@ pub record ResumesCut (rooms : Rooms) (modes rule : ℕ) (numbers journal : List
   pub resumes : resumed rooms modes rule numbers (take cut journal) ≡ done again
   pub same-rows : again .rows ≡ part .rows
   pub same-weight : again .weight ≡ part .weight
+  pub same-drops : again .drops ≡ part .drops
   pub same-journal : journal-of (take cut journal) again ≡ journal
   pub told : ObeyedThenGreedy modes (rule-of rule) numbers (take cut journal) again
 

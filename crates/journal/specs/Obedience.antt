@@ -13,6 +13,7 @@ use Rattle.terms.specs.Good.{checked}
 use Rattle.terms.specs.declared.checking.Checked.the-variants.{Good}
 use Rattle.history.specs.History.{merge-of, history-before}
 use Rattle.history.specs.Run.{run-weight, RunsFrom}
+use Rattle.history.specs.Drops.{drops}
 use Rattle.history.specs.Flatpack.{flatpack}
 use Rattle.history.specs.Trials.{trial-total}
 use Rattle.obeying.specs.Obedience.{Obedient}
@@ -29,6 +30,7 @@ pub record ObeyedThenGreedy (modes : ℕ) (rule : Rule) (numbers bytes : List �
   pub merges : List Triple
   pub runs : RunsFrom (job-of modes rule count numbers) history merges (part .trials)
   pub rows-are : part .rows ≡ flatpack modes merges
+  pub drops-are : part .drops ≡ drops (job-of modes rule count numbers) merges
   pub weight-is : part .weight ≡ run-weight (job-of modes rule count numbers) merges
   pub trials-left : part .trials ≡ trial-total (modes - length history)
   pub kept-is : part .kept ≡ length (kept-of bytes)

@@ -5,7 +5,7 @@ use Prim.Native.Nat.{ℕ, _*_}
 use lib.ListN.{length, replicate}
 use Rattle.lists.specs.Written.{written-at}
 use Rattle.refusal.specs.Numbers.{refused-numbers, done-numbers}
-use Rattle.entities.specs.Limits.{row-width}
+use Rattle.entities.specs.Limits.{work-width}
 use Rattle.journal.specs.declared.resuming.Answer.{Answer}
 use Rattle.journal.specs.declared.resuming.Answer.the-variants.{Done, Refused as Refuses}
 use Rattle.journal.specs.Resuming.{Outcome, done, refuses, Rooms}
@@ -21,27 +21,35 @@ returned (done ending) =
     Done (record { weight = ending .weight; trials = ending .trials; kept = ending .kept; new = length (ending .new) })
 returned (refuses refusal) = Refuses refusal
 
--- What is lent to a call: every element of work, rows and journal.
+-- What is lent to a call: every element of work, rows, journal and drops.
 pub record Lent : Type 0 where
   pub work : List ℕ
   pub rows : List ℕ
   pub journal : List ℕ
+  pub drops : List ℕ
 
-abbrev pub lent : List ℕ → List ℕ → List ℕ → Lent
-lent work rows journal = record { work = work; rows = rows; journal = journal }
+abbrev pub lent : List ℕ → List ℕ → List ℕ → List ℕ → Lent
+lent work rows journal drops = record { work = work; rows = rows; journal = journal; drops = drops }
 
 -- The rooms of what is lent, to a call that takes so many modes at most.
 abbrev pub rooms-of : ℕ → Lent → Rooms
 rooms-of most given =
-    record { modes = most; work = length (given .work); rows = length (given .rows); journal = length (given .journal) }
+    record {
+      modes = most;
+      work = length (given .work);
+      rows = length (given .rows);
+      journal = length (given .journal);
+      drops = length (given .drops);
+    }
 
--- "On success work's first 8T numbers are zero; outputs beyond the written front stay"; the journal's "front then holds the new lines".
+-- "outputs beyond the written front stay"; the journal's "front then holds the new lines". Document 02: "a success zeroes the first 9T".
 -- A refusal "alters nothing".
 unfoldable pub lent-then : Outcome → Lent → Lent
 lent-then (done ending) given = record {
-  work = written-at 0 (replicate (row-width * ending .count) 0) (given .work);
+  work = written-at 0 (replicate (work-width * ending .count) 0) (given .work);
   rows = written-at 0 (ending .rows) (given .rows);
   journal = written-at 0 (ending .new) (given .journal);
+  drops = written-at 0 (ending .drops) (given .drops);
 }
 lent-then (refuses refusal) given = given
 

@@ -7,7 +7,7 @@ use lib.ListN.{length}
 use Rattle.refusal.specs.declared.Refusal.{Refusal}
 use Rattle.refusal.specs.declared.Refusal.the-variants.{Modes, Room, Rule as NoRule}
 use Rattle.entities.specs.declared.Triple.{Triple}
-use Rattle.entities.specs.Limits.{row-width}
+use Rattle.entities.specs.Limits.{work-width}
 use Rattle.fields.specs.Lines.{kept-of}
 use Rattle.terms.specs.declared.rules.Rule.{Rule}
 use Rattle.terms.specs.Rules.{rule-good, rule-of}
@@ -16,12 +16,13 @@ use Rattle.terms.specs.Good.{modes-good, checked}
 use Rattle.terms.specs.declared.checking.Checked.{Checked}
 use Rattle.terms.specs.declared.checking.Checked.the-variants.{Good, Refused as BadTerms}
 use Rattle.history.specs.Run.{run-weight}
+use Rattle.history.specs.Drops.{drops}
 use Rattle.history.specs.computed.Greedy.{finished, trials}
 use Rattle.history.specs.Flatpack.{flatpack}
 use Rattle.obeying.specs.Obeying.{Obeyed, went, refused, obeyed}
 use Rattle.journal.specs.computed.NewText.{new-text}
 
--- What a run comes to: how many terms it had, its four numbers (the new bytes' is their count), its rows and its new bytes.
+-- What a run comes to: how many terms it had, its four numbers (the new bytes' is their count), its rows, its new bytes and its drops.
 pub record Ending : Type 0 where
   pub count : ℕ
   pub weight : ℕ
@@ -29,6 +30,7 @@ pub record Ending : Type 0 where
   pub kept : ℕ
   pub rows : List ℕ
   pub new : List ℕ
+  pub drops : List ℕ
 
 -- What a call comes to.
 pub data Outcome : Type 0 where
@@ -44,6 +46,7 @@ ending job bytes history = record {
   kept = length (kept-of bytes);
   rows = flatpack (job .modes) (finished job history);
   new = new-text job (length (kept-of bytes)) history;
+  drops = drops job (finished job history);
 }
 
 -- The journal's refusal, or the run from the history that it leads to.
@@ -51,17 +54,20 @@ unfoldable pub with-journal : Job → List ℕ → Obeyed → Outcome
 with-journal job bytes (went history) = done (ending job bytes history)
 with-journal job bytes (refused made refusal) = refuses refusal
 
--- What a call has room for: the most modes, and how many numbers and bytes are lent for work, rows and journal.
+-- What a call has room for: the most modes, and how many numbers and bytes are lent for work, rows, journal and drops.
 pub record Rooms : Type 0 where
   pub modes : ℕ
   pub work : ℕ
   pub rows : ℕ
   pub journal : ℕ
+  pub drops : ℕ
 
--- "Room: work 8T numbers; rows 4n; … journal bytes 16 + 21n."
+-- "Room: … rows 4n; … journal bytes 16 + 21n." Document 02: "5 now asks for 9T work numbers …, and HATT and resume for that table", "a lent
+-- table of n numbers".
 unfoldable pub roomy : Rooms → ℕ → ℕ → Bool
 roomy rooms modes count =
-    leb (row-width * count) (rooms .work) && (leb (4 * modes) (rooms .rows) && leb (16 + 21 * modes) (rooms .journal))
+    leb (work-width * count) (rooms .work)
+    && (leb (4 * modes) (rooms .rows) && (leb (16 + 21 * modes) (rooms .journal) && leb modes (rooms .drops)))
 
 -- 5: "any buffer below its room"; then the journal's lines.
 unfoldable pub with-terms : Rooms → ℕ → Rule → List ℕ → List ℕ → Checked → Outcome

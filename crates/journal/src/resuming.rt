@@ -4,9 +4,9 @@ ghost use mathlib.Core.Bool.{true};
 ghost use mathlib.Core.List.{List};
 ghost use Prim.Native.Nat.{ℕ, _≤_};
 ghost use lib.ListN.{length};
-ghost use Rattle.entities.specs.Limits.{«most-modes», «most-terms», «row-width»};
+ghost use Rattle.entities.specs.Limits.{«most-modes», «most-terms»};
 ghost use Rattle.fields.specs.Lines.{«kept-of»};
-ghost use Rattle.terms.specs.code.Held.{Held};
+ghost use Rattle.terms.specs.code.Held.{Spread};
 ghost use Rattle.terms.specs.Job.{Job, «job-of»};
 ghost use Rattle.terms.specs.Good.{checked};
 ghost use Rattle.terms.specs.declared.checking.Checked.the-variants.{Good};
@@ -24,6 +24,8 @@ use obeying::Verdict;
 use refusal::Refusal;
 use terms::checking;
 use terms::checking::Checked;
+use terms::counted;
+use terms::row;
 use terms::rules;
 use terms::rules::Rule;
 use terms::slices;
@@ -42,7 +44,7 @@ pub enum Answer {
     Refused(Refusal),
 }
 
-// The steps that are left, in the lent work, and then the rows, the new lines and the zeros; nothing can refuse any more.
+// The steps that are left, in the lent work, and then the rows, the drops, the new lines and the zeros; nothing can refuse any more.
 fn finish_run(
     run: Run,
     modes: usize,
@@ -51,16 +53,18 @@ fn finish_run(
     work: &mut [u16],
     rows: &mut [u16],
     journal: &mut [u8],
+    drops: &mut [u16],
 ) -> Answer
-    requires { ⌜ ((job : Job) × Finishing job run modes count (lent (now work) (now rows) (now journal))) ⌝ }
-    ensures { λ r. ⌜ ((job : Job) (bytes : List ℕ) → Finishing job run modes count (lent (now (work .entry)) (now (rows .entry)) (now (journal .entry))) → kept ≡ length (kept-of bytes) → Answers (λ given. done (ending job bytes (history-of run)))
-        (lent (now (work .entry)) (now (rows .entry)) (now (journal .entry))) (lent (now (work .exit)) (now (rows .exit)) (now (journal .exit))) r) ⌝ }
+    requires { ⌜ ((job : Job) × Finishing job run modes count (lent (now work) (now rows) (now journal) (now drops))) ⌝ }
+    ensures { λ r. ⌜ ((job : Job) (bytes : List ℕ) → Finishing job run modes count (lent (now (work .entry)) (now (rows .entry)) (now (journal .entry)) (now (drops .entry))) → kept ≡ length (kept-of bytes) → Answers (λ given. done (ending job bytes (history-of run)))
+        (lent (now (work .entry)) (now (rows .entry)) (now (journal .entry)) (now (drops .entry))) (lent (now (work .exit)) (now (rows .exit)) (now (journal .exit)) (now (drops .exit))) r) ⌝ }
 {
     let from = asked::merges(run);
     let end = run.finished(work);
     flatpack::write_flatpack(end, rows);
+    asked::put_drops(end, drops);
     let new = new_lines::write_new(end, modes, count, from, kept, journal);
-    slices::clear_front(work, 8 * count);
+    slices::clear_front(work, row::WORK_WIDTH * count);
     Answer::Done(Numbers {
         weight: asked::greedy_weight(end) as u64,
         trials: trials::trial_total(modes - from),
@@ -79,14 +83,15 @@ fn finish_lent(
     work: &mut [u16],
     rows: &mut [u16],
     journal: &mut [u8],
+    drops: &mut [u16],
 ) -> Answer
-    requires { ⌜ ((job : Job) × FromOwn job run modes count (now own) (lent (now work) (now rows) (now journal))) ⌝ }
-    ensures { λ r. ⌜ ((job : Job) (bytes : List ℕ) → FromOwn job run modes count (now (own .entry)) (lent (now (work .entry)) (now (rows .entry)) (now (journal .entry))) → kept ≡ length (kept-of bytes) → Answers (λ given. done (ending job bytes (history-of run)))
-        (lent (now (work .entry)) (now (rows .entry)) (now (journal .entry))) (lent (now (work .exit)) (now (rows .exit)) (now (journal .exit))) r) ⌝ }
+    requires { ⌜ ((job : Job) × FromOwn job run modes count (now own) (lent (now work) (now rows) (now journal) (now drops))) ⌝ }
+    ensures { λ r. ⌜ ((job : Job) (bytes : List ℕ) → FromOwn job run modes count (now (own .entry)) (lent (now (work .entry)) (now (rows .entry)) (now (journal .entry)) (now (drops .entry))) → kept ≡ length (kept-of bytes) → Answers (λ given. done (ending job bytes (history-of run)))
+        (lent (now (work .entry)) (now (rows .entry)) (now (journal .entry)) (now (drops .entry))) (lent (now (work .exit)) (now (rows .exit)) (now (journal .exit)) (now (drops .exit))) r) ⌝ }
 {
-    let end = 8 * count;
+    let end = row::WORK_WIDTH * count;
     slices::put_front(&own[..end], work);
-    finish_run(run, modes, count, kept, work, rows, journal)
+    finish_run(run, modes, count, kept, work, rows, journal, drops)
 }
 
 // The journal obeyed on rows of the call's own, and the run that goes on from it.
@@ -99,11 +104,13 @@ fn resume_own(
     work: &mut [u16],
     rows: &mut [u16],
     journal: &mut [u8],
+    drops: &mut [u16],
 ) -> Answer
-    requires { ⌜ (1 ≤ modes) × (modes ≤ most-modes) × (count ≤ most-terms) × Held row-width count (now own) ⌝ }
-    requires { ⌜ roomy (rooms-of most-modes (lent (now work) (now rows) (now journal))) modes count ≡ true ⌝ }
-    ensures { λ r. ⌜ Answers (λ given. with-journal (job-of modes rule count (now (own .entry))) (now (read .entry)) (obeyed (job-of modes rule count (now (own .entry))) (now (read .entry))))
-        (lent (now (work .entry)) (now (rows .entry)) (now (journal .entry))) (lent (now (work .exit)) (now (rows .exit)) (now (journal .exit))) r ⌝ }
+    requires { ⌜ (1 ≤ modes) × (modes ≤ most-modes) × (count ≤ most-terms) ⌝ }
+    requires { ⌜ ((numbers : List ℕ) × Spread count numbers (now own)) ⌝ }
+    requires { ⌜ roomy (rooms-of most-modes (lent (now work) (now rows) (now journal) (now drops))) modes count ≡ true ⌝ }
+    ensures { λ r. ⌜ ((numbers : List ℕ) → Spread count numbers (now (own .entry)) → Answers (λ given. with-journal (job-of modes rule count numbers) (now (read .entry)) (obeyed (job-of modes rule count numbers) (now (read .entry))))
+        (lent (now (work .entry)) (now (rows .entry)) (now (journal .entry)) (now (drops .entry))) (lent (now (work .exit)) (now (rows .exit)) (now (journal .exit)) (now (drops .exit))) r) ⌝ }
 {
     let found = obeying::obey(modes, rule, count, own, read);
     let verdict = found.verdict;
@@ -111,12 +118,22 @@ fn resume_own(
         Verdict::Refused(why) => Answer::Refused(why),
         Verdict::Fine => {
             let kept = lines::kept_bytes(read);
-            finish_lent(found.run, modes, count, own, kept, work, rows, journal)
+            finish_lent(
+                found.run,
+                modes,
+                count,
+                own,
+                kept,
+                work,
+                rows,
+                journal,
+                drops,
+            )
         }
     }
 }
 
-// A run from good terms with room for all it writes: the journal is obeyed on a copy of the terms, so that a refusal alters nothing.
+// A run from good terms with room for all it writes: the journal is obeyed on rows of the call's own, so that a refusal alters nothing.
 fn resume_copy(
     modes: usize,
     rule: Rule,
@@ -126,14 +143,25 @@ fn resume_copy(
     work: &mut [u16],
     rows: &mut [u16],
     journal: &mut [u8],
+    drops: &mut [u16],
 ) -> Answer
     requires { ⌜ (1 ≤ modes) × (modes ≤ most-modes) × (checked modes (now terms) ≡ Good count) ⌝ }
-    requires { ⌜ roomy (rooms-of most-modes (lent (now work) (now rows) (now journal))) modes count ≡ true ⌝ }
+    requires { ⌜ roomy (rooms-of most-modes (lent (now work) (now rows) (now journal) (now drops))) modes count ≡ true ⌝ }
     ensures { λ r. ⌜ Answers (λ given. with-journal (job-of modes rule count (now (terms .entry))) (now (read .entry)) (obeyed (job-of modes rule count (now (terms .entry))) (now (read .entry))))
-        (lent (now (work .entry)) (now (rows .entry)) (now (journal .entry))) (lent (now (work .exit)) (now (rows .exit)) (now (journal .exit))) r ⌝ }
+        (lent (now (work .entry)) (now (rows .entry)) (now (journal .entry)) (now (drops .entry))) (lent (now (work .exit)) (now (rows .exit)) (now (journal .exit)) (now (drops .exit))) r ⌝ }
 {
-    let mut own = checking::own_copy(terms);
-    resume_own(modes, rule, count, &mut own, read, work, rows, journal)
+    let mut own = counted::own_rows(terms, count);
+    resume_own(
+        modes,
+        rule,
+        count,
+        &mut own,
+        read,
+        work,
+        rows,
+        journal,
+        drops,
+    )
 }
 
 // Good terms: the rooms, and then the run.
@@ -146,12 +174,13 @@ fn resume_good(
     work: &mut [u16],
     rows: &mut [u16],
     journal: &mut [u8],
+    drops: &mut [u16],
 ) -> Answer
     requires { ⌜ (1 ≤ modes) × (modes ≤ most-modes) × (checked modes (now terms) ≡ Good count) ⌝ }
     ensures { λ r. ⌜ Answers (λ given. with-terms (rooms-of most-modes given) modes rule (now (terms .entry)) (now (read .entry)) (Good count))
-        (lent (now (work .entry)) (now (rows .entry)) (now (journal .entry))) (lent (now (work .exit)) (now (rows .exit)) (now (journal .exit))) r ⌝ }
+        (lent (now (work .entry)) (now (rows .entry)) (now (journal .entry)) (now (drops .entry))) (lent (now (work .exit)) (now (rows .exit)) (now (journal .exit)) (now (drops .exit))) r ⌝ }
 {
-    if work.len() < 8 * count {
+    if work.len() < row::WORK_WIDTH * count {
         return Answer::Refused(Refusal::Room);
     }
     if rows.len() < 4 * modes {
@@ -160,7 +189,10 @@ fn resume_good(
     if journal.len() < 16 + 21 * modes {
         return Answer::Refused(Refusal::Room);
     }
-    resume_copy(modes, rule, count, terms, read, work, rows, journal)
+    if drops.len() < modes {
+        return Answer::Refused(Refusal::Room);
+    }
+    resume_copy(modes, rule, count, terms, read, work, rows, journal, drops)
 }
 
 // The run by this rule that a journal leads to, from its last complete line to the end.
@@ -172,9 +204,10 @@ pub fn resume(
     work: &mut [u16],
     rows: &mut [u16],
     journal: &mut [u8],
+    drops: &mut [u16],
 ) -> Answer
     ensures { λ r. ⌜ Answers (λ given. resumed (rooms-of most-modes given) modes rule (now (terms .entry)) (now (read .entry)))
-        (lent (now (work .entry)) (now (rows .entry)) (now (journal .entry))) (lent (now (work .exit)) (now (rows .exit)) (now (journal .exit))) r ⌝ }
+        (lent (now (work .entry)) (now (rows .entry)) (now (journal .entry)) (now (drops .entry))) (lent (now (work .exit)) (now (rows .exit)) (now (journal .exit)) (now (drops .exit))) r ⌝ }
 {
     if modes < 1 {
         return Answer::Refused(Refusal::Modes);
@@ -196,6 +229,7 @@ pub fn resume(
             work,
             rows,
             journal,
+            drops,
         ),
     }
 }
@@ -208,9 +242,10 @@ pub fn hatt(
     work: &mut [u16],
     rows: &mut [u16],
     journal: &mut [u8],
+    drops: &mut [u16],
 ) -> Answer
     ensures { λ r. ⌜ Answers (λ given. hatt-run (rooms-of most-modes given) modes rule (now (terms .entry)))
-        (lent (now (work .entry)) (now (rows .entry)) (now (journal .entry))) (lent (now (work .exit)) (now (rows .exit)) (now (journal .exit))) r ⌝ }
+        (lent (now (work .entry)) (now (rows .entry)) (now (journal .entry)) (now (drops .entry))) (lent (now (work .exit)) (now (rows .exit)) (now (journal .exit)) (now (drops .exit))) r ⌝ }
 {
-    resume(modes, rule, terms, b"", work, rows, journal)
+    resume(modes, rule, terms, b"", work, rows, journal, drops)
 }

@@ -28,3 +28,4 @@ pub record Finishing (job : Job) (run : Run) (modes count : ℕ) (given : Lent) 
   pub light : count ≤ most-terms
   pub rows-room : 4 * modes ≤ length (given .rows)
   pub journal-room : 16 + 21 * modes ≤ length (given .journal)
+  pub drops-room : modes ≤ length (given .drops)

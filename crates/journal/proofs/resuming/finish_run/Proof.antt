@@ -11,26 +11,36 @@ merges-requires c κs = search needs
 
 finished-requires : tie.Need-finished-requires
 finished-requires c κs =
-    let pre = c .before .before .before .before .before .pre in
+    let pre = c .before .before .before .before .before .before .pre in
     (pre .0, pre .1 .holds)
 
 write-flatpack-requires : tie.Need-write-flatpack-requires
 write-flatpack-requires c κs =
-    let start = c .before .before .before .before .before .before .before .before .before in
+    let start = c .before .before .before .before .before .before .before .before .before .before in
     let job = start .pre .0 in
     let given = start .pre .1 in
     let finished = c .before .before .before .finished in
     let gone = finished .ensures job (given .holds) in
     (job, (_, (gone .holds, at-the-end job (start .args .work .now) _ (start .args .run) (finished .result) (given .holds) gone, omega (arith, given .rows-room, given .sized .modes-are))))
 
-write-new-requires : tie.Need-write-new-requires
-write-new-requires c κs =
-    let start = c .before .before .before .before .before .before .before .before .before .before .before .before .before in
+put-drops-requires : tie.Need-put-drops-requires
+put-drops-requires c κs =
+    let start = c .before .before .before .before .before .before .before .before .before .before .before .before .before .before in
     let job = start .pre .0 in
     let given = start .pre .1 in
     let finished = c .before .before .before .before .before .before .before .finished in
     let gone = finished .ensures job (given .holds) in
-    let from = c .before .before .before .before .before .before .before .before .before .merges .ensures in (
+    let all = at-the-end job (start .args .work .now) _ (start .args .run) (finished .result) (given .holds) gone in
+    (job, (_, (gone .holds, omega (arith, all, given .drops-room, given .sized .modes-are))))
+
+write-new-requires : tie.Need-write-new-requires
+write-new-requires c κs =
+    let start = c .before .before .before .before .before .before .before .before .before .before .before .before .before .before .before .before .before .before in
+    let job = start .pre .0 in
+    let given = start .pre .1 in
+    let finished = c .before .before .before .before .before .before .before .before .before .before .before .finished in
+    let gone = finished .ensures job (given .holds) in
+    let from = c .before .before .before .before .before .before .before .before .before .before .before .before .before .merges .ensures in (
       job,
       (
         _,
@@ -44,8 +54,8 @@ mul-clear-front c = search needs
 
 clear-front-requires : tie.Need-clear-front-requires
 clear-front-requires c κs =
-    let pre = c .before .before .before .before .before .before .before .before .before .before .before .before .before .before .before .before .before .pre in
-    let finished = c .before .before .before .before .before .before .before .before .before .before .before .finished in
+    let pre = c .before .before .before .before .before .before .before .before .before .before .before .before .before .before .before .before .before .before .before .before .before .before .pre in
+    let finished = c .before .before .before .before .before .before .before .before .before .before .before .before .before .before .before .finished in
     let gone = finished .ensures (pre .0) (pre .1 .holds) in
     omega (arith, rows-room (pre .0) _ (finished .result) (gone .holds), pre .1 .sized .count-is)
 
@@ -54,12 +64,13 @@ greedy-weight-requires c κs = search needs
 
 sub-trial-total : tie.Need-sub-trial-total
 sub-trial-total c =
-    let start = c .before .before .before .before .before .before .before .before .before .before .before .before .before .before .before .before .before .before .before .before .before in
+    let start = c .before .before .before .before .before .before .before .before .before .before .before .before .before .before .before .before .before .before .before .before .before .before .before .before .before .before in
     let given = start .pre .1 in
-    omega (arith, c .before .before .before .before .before .before .before .before .before .before .before .before .before .before .before .before .before .merges .ensures, merges-within (start .pre .0) _ (start .args .run) (given .holds), given .sized .modes-are)
+    omega (arith, c .before .before .before .before .before .before .before .before .before .before .before .before .before .before .before .before .before .before .before .before .before .merges .ensures, merges-within (start .pre .0) _ (start .args .run) (given .holds), given .sized .modes-are)
 
 trial-total-requires : tie.Need-trial-total-requires
-trial-total-requires c κs = omega (arith, c .before .before .before .before .before .before .before .before .before .before .before .before .before .before .before .before .before .before .before .before .before .pre .1 .few)
+trial-total-requires c κs =
+    omega (arith, c .before .before .before .before .before .before .before .before .before .before .before .before .before .before .before .before .before .before .before .before .before .before .before .before .before .before .pre .1 .few)
 
 same-length : tie.Need-same-length
 same-length c = search needs
@@ -70,18 +81,22 @@ same-length-2 c = search needs
 same-length-3 : tie.Need-same-length-3
 same-length-3 c = search needs
 
+same-length-4 : tie.Need-same-length-4
+same-length-4 c = search needs
+
 returns : tie.Need-returns
 returns c job bytes given kept-is =
-    let args = c .before .before .before .before .before .before .before .before .before .before .before .before .before .before .before .before .before .before .before .before .before .before .args in
-    let finished = c .before .before .before .before .before .before .before .before .before .before .before .before .before .before .before .before .finished in
+    let args = c .before .before .before .before .before .before .before .before .before .before .before .before .before .before .before .before .before .before .before .before .before .before .before .before .before .before .before .args in
+    let finished = c .before .before .before .before .before .before .before .before .before .before .before .before .before .before .before .before .before .before .before .before .finished in
     let gone = finished .ensures job (given .holds) in
-    let from = c .before .before .before .before .before .before .before .before .before .before .before .before .before .before .before .before .before .before .merges .ensures in
+    let from = c .before .before .before .before .before .before .before .before .before .before .before .before .before .before .before .before .before .before .before .before .before .before .merges .ensures in
     let text = text-fits job (args .work .now) _ (args .run) (finished .result) (given .holds) gone _ _ _ (given .sized) from (args .kept) _
     (omega (arith, given .few, given .sized .modes-are)) (omega (arith, given .light, given .sized .count-is)) (given .journal-room) in
     ends job (args .work .now) _ (args .run) (finished .result) (given .holds) gone (args .modes) (args .count) _ (given .sized) from _ _ (args .kept) _ bytes
-    (args .rows .now) (args .journal .now) _ _ _ kept-is (c .before .greedy-weight .ensures job _ (gone .holds))
-    (c .before .before .before .before .before .before .before .before .before .before .before .before .write-flatpack .ensures job _ (gone .holds))
+    (args .rows .now) (args .journal .now) (args .drops .now) _ _ _ _ kept-is (c .before .greedy-weight .ensures job _ (gone .holds))
+    (c .before .before .before .before .before .before .before .before .before .before .before .before .before .before .before .before .write-flatpack .ensures job _ (gone .holds))
     (c .before .before .before .before .before .before .before .before .write-new .ensures job _ text)
+    (c .before .before .before .before .before .before .before .before .before .before .before .before .put-drops .ensures job _ (gone .holds))
     (c .before .before .before .before .clear-front .ensures) (c .trial-total .ensures)
 
 pub finish-run-spec : {M : Type 1} → statement M
@@ -91,6 +106,7 @@ finish-run-spec =
     merges-requires
     finished-requires
     write-flatpack-requires
+    put-drops-requires
     write-new-requires
     mul-clear-front
     clear-front-requires
@@ -100,4 +116,5 @@ finish-run-spec =
     same-length
     same-length-2
     same-length-3
+    same-length-4
     returns)

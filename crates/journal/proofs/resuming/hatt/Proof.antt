@@ -19,9 +19,12 @@ same-length-2 c = search needs
 same-length-3 : tie.Need-same-length-3
 same-length-3 c = search needs
 
+same-length-4 : tie.Need-same-length-4
+same-length-4 c = search needs
+
 returns : tie.Need-returns
 unfolding hatt-run
-returns c = c .before .before .before .before .before .before .resume .ensures
+returns c = c .before .before .before .before .before .before .before .before .resume .ensures
 
 pub hatt-spec : {M : Type 1} → statement M
 hatt-spec =
@@ -32,4 +35,5 @@ hatt-spec =
     same-length
     same-length-2
     same-length-3
+    same-length-4
     returns)

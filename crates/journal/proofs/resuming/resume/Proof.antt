@@ -13,21 +13,21 @@ use Rattle.journal.proofs.resuming.resume.Tie as tie
 returns : tie.Need-returns
 unfolding resumed modes-good
 returns c =
-    let args = c .before .before .before .before .before .before .args in
-    nothing-altered _ (lent (args .work .now) (args .rows .now) (args .journal .now)) _ (rw (lt-leb _ _ (c .if1 .taken)))
+    let args = c .before .before .before .before .before .before .before .args in
+    nothing-altered _ (lent (args .work .now) (args .rows .now) (args .journal .now) (args .drops .now)) _ (rw (lt-leb _ _ (c .if1 .taken)))
 
 returns-2 : tie.Need-returns-2
 unfolding resumed modes-good
 returns-2 c =
-    let args = c .before .before .before .before .before .before .before .args in
-    nothing-altered _ (lent (args .work .now) (args .rows .now) (args .journal .now)) _
+    let args = c .before .before .before .before .before .before .before .before .args in
+    nothing-altered _ (lent (args .work .now) (args .rows .now) (args .journal .now) (args .drops .now)) _
     (rw (le-leb _ _ (c .before .if1 .left), lt-leb _ _ (c .if2 .taken)))
 
 returns-3 : tie.Need-returns-3
 unfolding resumed modes-good rule-good
 returns-3 c =
-    let args = c .before .before .before .before .before .before .before .before .args in
-    nothing-altered _ (lent (args .work .now) (args .rows .now) (args .journal .now)) _
+    let args = c .before .before .before .before .before .before .before .before .before .args in
+    nothing-altered _ (lent (args .work .now) (args .rows .now) (args .journal .now) (args .drops .now)) _
     (rw (le-leb _ _ (c .before .before .if1 .left), le-leb _ _ (c .before .if2 .left), lt-leb _ _ (c .if3 .taken)))
 
 check-terms-requires : tie.Need-check-terms-requires
@@ -44,19 +44,17 @@ rule-of-requires c κs = search needs
 
 resume-good-requires : tie.Need-resume-good-requires
 resume-good-requires c κs =
-    let tests = c .before .before .before .before .before .before .before .before in
-    (tests .before .before .if1 .left, tests .before .if2 .left, sym (c .before .before .before .before .before .before .before .check-terms .ensures .answer) ∙ c .before .before .before .before .before .count .given .1)
+    (c .before .before .before .before .before .before .before .before .before .before .before .if1 .left, c .before .before .before .before .before .before .before .before .before .before .if2 .left, sym (c .before .before .before .before .before .before .before .before .check-terms .ensures .answer) ∙ c .before .before .before .before .before .before .count .given .1)
 
 returns-4 : tie.Need-returns-4
 unfolding resumed modes-good rule-good with-terms
 returns-4 c =
-    let args = c .before .before .before .before .before .before .before .before .before .before .before .before .args in
-    let tests = c .before .before .before .before in
-    nothing-altered _ (lent (args .work .now) (args .rows .now) (args .journal .now)) _
+    let args = c .before .before .before .before .before .before .before .before .before .before .before .before .before .args in
+    nothing-altered _ (lent (args .work .now) (args .rows .now) (args .journal .now) (args .drops .now)) _
     (rw (
-      le-leb _ _ (tests .before .before .if1 .left),
-      le-leb _ _ (tests .before .if2 .left),
-      le-leb _ _ (tests .if3 .left),
+      le-leb _ _ (c .before .before .before .before .before .before .if1 .left),
+      le-leb _ _ (c .before .before .before .before .before .if2 .left),
+      le-leb _ _ (c .before .before .before .before .if3 .left),
       sym (c .before .before .before .check-terms .ensures .answer) ∙ c .before .refusal .given .1,
     ))
 
@@ -69,21 +67,20 @@ same-length-2 c = search needs
 same-length-3 : tie.Need-same-length-3
 same-length-3 c = search needs
 
+same-length-4 : tie.Need-same-length-4
+same-length-4 c = search needs
+
 returns-5 : tie.Need-returns-5
 unfolding resumed modes-good rule-good
 returns-5 c =
-    let gone = c .before .before .before .before .before .before in
-    let named = gone .before .before .before .before in
-    let counted = named .before .before in
-    let tests = counted .before .before .before in
     rw (
-      le-leb _ _ (tests .before .before .if1 .left),
-      le-leb _ _ (tests .before .if2 .left),
-      le-leb _ _ (tests .if3 .left),
-      sym (counted .before .before .check-terms .ensures .answer) ∙ counted .count .given .1,
-      ← named .rule-of .ensures,
+      le-leb _ _ (c .before .before .before .before .before .before .before .before .before .before .before .before .before .before .before .before .before .before .before .before .if1 .left),
+      le-leb _ _ (c .before .before .before .before .before .before .before .before .before .before .before .before .before .before .before .before .before .before .before .if2 .left),
+      le-leb _ _ (c .before .before .before .before .before .before .before .before .before .before .before .before .before .before .before .before .before .before .if3 .left),
+      sym (c .before .before .before .before .before .before .before .before .before .before .before .before .before .before .before .before .before .check-terms .ensures .answer) ∙ c .before .before .before .before .before .before .before .before .before .before .before .before .before .before .before .count .given .1,
+      ← c .before .before .before .before .before .before .before .before .before .before .before .before .before .rule-of .ensures,
     )
-    (gone .resume-good .ensures)
+    (c .before .before .before .before .before .before .before .before .resume-good .ensures)
 
 pub resume-spec : {M : Type 1} → statement M
 resume-spec =
@@ -101,4 +98,5 @@ resume-spec =
     same-length
     same-length-2
     same-length-3
+    same-length-4
     returns-5)
