@@ -62,7 +62,7 @@ table-fits rooms call count weight codes says =
     let parts = accepted-parts (rooms .modes) (call .modes) codes (right .accepted) in
     record {
       some-modes = parts .some;
-      has-room = leb-true (3 * call .modes) (rooms .table) (both (leb (8 * count) (rooms .work)) (leb (3 * call .modes) (rooms .table)) (known .rooms-are) .1);
+      has-room = leb-true (3 * call .modes) (rooms .table) (both (leb (9 * count) (rooms .work)) (leb (3 * call .modes) (rooms .table)) (known .rooms-are) .1);
       exact = parts .whole;
     }
 

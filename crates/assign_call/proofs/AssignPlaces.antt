@@ -55,7 +55,7 @@ module _ (rooms : Rooms) (small : rooms .modes ≤ 256) (call : Asked) where
   unfolding with-terms with-room done-by assign-place bad-place
   terms-small (Good count) h =
       let task = task-of call count in
-      unless assign-place 65535 (leb (8 * length (task .job .terms)) (rooms .work) && leb (3 * task .job .modes) (rooms .table)) (refused Room)
+      unless assign-place 65535 (leb (9 * length (task .job .terms)) (rooms .work) && leb (3 * task .job .modes) (rooms .table)) (refused Room)
       (done-by task) (omega arith) (λ f. omega arith)
   terms-small (BadTerms refusal) h = omega (arith, h)
 

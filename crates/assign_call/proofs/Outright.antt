@@ -8,8 +8,8 @@ use borrow.Author.Tests.{ne-eqb, le-leb}
 use lib.Dec.{eqb, leb}
 use lib.ListN.{length}
 use Rattle.refusal.specs.declared.Refusal.{Refusal}
-use Rattle.refusal.specs.declared.Refusal.the-variants.{Modes, TermNumbers, TreeLength, Heuristic}
-use Rattle.entities.specs.Limits.{most-terms, row-width}
+use Rattle.refusal.specs.declared.Refusal.the-variants.{TermNumbers, TreeLength, Heuristic}
+use Rattle.entities.specs.Limits.{most-terms, row-width, work-width}
 use Rattle.terms.specs.Rules.{rule-good}
 use Rattle.terms.specs.Good.{modes-good, checked}
 use Rattle.terms.specs.declared.checking.Checked.{Checked}
@@ -42,7 +42,7 @@ unfolding tree-checked
 length-next most modes e =
     rw (e, ne-eqb 0 (3 * modes) (λ f. absurd (omega (arith, f, good-modes most modes e .0))))
 
-module _ (own : Rooms) (enough : row-width * most-terms ≤ own .work) (table-enough : 3 * own .modes ≤ own .table)
+module _ (own : Rooms) (enough : work-width * most-terms ≤ own .work) (table-enough : 3 * own .modes ≤ own .table)
     (modes : ℕ) (tree : List ℕ) (heuristic : ℕ) (terms : List ℕ) (given : LentTable) where
   abbrev table-rooms : Rooms
   table-rooms = table-rooms-in own given
@@ -58,7 +58,7 @@ module _ (own : Rooms) (enough : row-width * most-terms ≤ own .work) (table-en
     assigned-outright (Good count) e =
         rw (
           length-terms row-width count (words terms),
-          le-leb (8 * count) (own .work) (omega (arith, accepted modes (words terms) count e .at-most, enough)),
+          le-leb (9 * count) (own .work) (omega (arith, accepted modes (words terms) count e .at-most, enough)),
           room-in 1 (own .table) (length (given .table)) (length (given .answer)) (3 * modes) (6 * modes) (omega (arith, some)) (omega (arith, few, table-enough)) (omega arith),
         )
     assigned-outright (BadTerms refusal) e = refl

@@ -5,7 +5,7 @@ use Prim.Native.Nat.{ℕ, _*_, _/_, _%_, _≤_}
 use native.Mathlib.Omega.{arith}
 use Rattle.refusal.specs.declared.Refusal.{Refusal}
 use Rattle.refusal.specs.Numbers.{numberOf, placeOf}
-use Rattle.entities.specs.Limits.{most-modes, most-terms, row-width}
+use Rattle.entities.specs.Limits.{most-modes, most-terms, work-width}
 use Rattle.topphatt.specs.Answer.{refused, asked, Rooms}
 use Rattle.call_bytes.specs.code.Handing.{term-numbers}
 use Rattle.call_bytes.proofs.RefusalNumbers.{result-says}
@@ -23,7 +23,7 @@ module _ (most : ℕ) (small : most ≤ most-modes) (modes : ℕ) (tree : List �
       → (1 ≤ assign-result) × (assign-result / 65536 ≡ numberOf refusal) × (assign-result % 65536 ≡ placeOf refusal)
   unfolding assign-result-of assign-handed table-rooms-in
   assign-refusal-says refusal e =
-      let own : Rooms = record { modes = most; work = row-width * most-terms; table = 3 * most } in
+      let own : Rooms = record { modes = most; work = work-width * most-terms; table = 3 * most } in
       let call = asked modes 0 (tree-numbers modes tree) heuristic (term-numbers terms) in
       let handed = sym (assign-outright own (omega arith) (omega arith) modes tree heuristic terms given) ∙ e in
       result-says refusal assign-result (assign-refused-place (table-rooms-in own given) small call refusal handed) (ap assign-result-of e)

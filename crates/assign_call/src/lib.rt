@@ -111,7 +111,7 @@ pub fn assign_bytes(
 {
     let mut codes = [0u16; 768];
     let mut numbers = [0u16; 16392];
-    let mut work = [0u16; 16384];
+    let mut work = [0u16; 18432];
     let mut own = [0u16; 768];
     assign_lent(
         modes as usize,

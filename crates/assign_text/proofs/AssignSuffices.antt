@@ -9,7 +9,7 @@ use lib.Dec.{eqb, ltb, leb}
 use lib.ListN.{length, getD}
 use Rattle.refusal.specs.declared.Refusal.the-variants.{Modes, Room, TreeLength, ChildCode, NotOneTree, WrongPair, Heuristic, Malformed, Rule as NoRule}
 use Rattle.refusal.specs.Numbers.{numberOf}
-use Rattle.entities.specs.Limits.{most-modes, most-terms, row-width}
+use Rattle.entities.specs.Limits.{most-modes, most-terms, work-width}
 use Rattle.fields.specs.Fields.{tabbed}
 use Rattle.terms.specs.declared.checking.Checked.{Checked}
 use Rattle.terms.specs.declared.checking.Checked.the-variants.{Good, Refused as BadTerms}
@@ -76,7 +76,7 @@ module _ (call : Asked) where
       let z : _≡_ {A = ℕ} 0 5 =
       rw (
         length-terms 8 count (call .numbers),
-        le-leb (8 * count) (row-width * most-terms) (omega (arith, short)),
+        le-leb (9 * count) (work-width * most-terms) (omega (arith, short)),
         le-leb (3 * call .modes) (3 * most-modes) (omega arith),
       ) at h in
       omega arith

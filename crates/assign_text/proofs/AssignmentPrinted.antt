@@ -8,7 +8,7 @@ use Rattle.lists.proofs.Written.{part-written}
 use Rattle.lists.proofs.Behind.{Wrote, then-wrote}
 use Rattle.refusal.specs.declared.Refusal.{Refusal}
 use Rattle.refusal.specs.declared.Refusal.the-variants.{Malformed as Badly}
-use Rattle.entities.specs.Limits.{most-modes, most-terms, row-width}
+use Rattle.entities.specs.Limits.{most-modes, most-terms, work-width}
 use Rattle.fields.specs.Texts.{spelt}
 use Rattle.fields.specs.Decimal.{decimal}
 use Rattle.terms.specs.Rules.{rule-number}
@@ -38,7 +38,7 @@ table-length call count weight codes e =
     let known = assign-done (assign-rooms program-rooms) call count weight codes e in
     ap length (known .answer-is) ∙ length-map (call .tree) _
 
-module _ (modes rule heuristic : ℕ) (tree numbers rows : List ℕ) (lends after : Lent) (r : Assigned) (work : length (lends .work) ≡ row-width * most-terms)
+module _ (modes rule heuristic : ℕ) (tree numbers rows : List ℕ) (lends after : Lent) (r : Assigned) (work : length (lends .work) ≡ work-width * most-terms)
     (table : length (lends .table) ≡ 3 * most-modes)
     (assigns : Assigns (λ lent. outcome (rooms-of most-modes lent) (asked modes rule tree heuristic numbers)) lends after r) where
   abbrev meant : Outcome

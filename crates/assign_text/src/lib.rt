@@ -2,7 +2,7 @@
 ghost use mathlib.Core.Path.{_≡_};
 ghost use Prim.Native.Nat.{_*_, _≤_};
 ghost use lib.ListN.{length};
-ghost use Rattle.entities.specs.Limits.{«most-modes», «most-terms», «row-width»};
+ghost use Rattle.entities.specs.Limits.{«most-modes», «most-terms», «row-width», «work-width»};
 ghost use Rattle.tree.specs.Laying.{«modes-in»};
 ghost use Rattle.terms_text.specs.Input.{given, said};
 ghost use Rattle.terms_text.specs.Jobs.{request};
@@ -37,7 +37,7 @@ fn assign_in(
     assigned: &mut [u16],
 ) -> Assigned
     requires { ⌜ RowsFit most-modes (now rows) × (length (now table) ≤ 3 * most-modes) ⌝ }
-    requires { ⌜ (length (now work) ≡ row-width * most-terms) × (length (now assigned) ≡ 3 * most-modes) ⌝ }
+    requires { ⌜ (length (now work) ≡ work-width * most-terms) × (length (now assigned) ≡ 3 * most-modes) ⌝ }
     ensures { λ r. ⌜ found-text r (now (rows .exit)) ≡ meant-text (now (rows .entry)) (now (table .entry)) rule heuristic (given modes (now (numbers .entry))) ⌝ }
 {
     match topphatt::assign(modes, rule, table, heuristic, numbers, work, assigned) {
@@ -62,7 +62,7 @@ fn assign_given(
     requires { ⌜ RowsFit most-modes (now rows) × (length (now table) ≤ 3 * most-modes) ⌝ }
     ensures { λ r. ⌜ found-text r (now (rows .exit)) ≡ meant-text (now (rows .entry)) (now (table .entry)) rule heuristic (given modes (now (numbers .entry))) ⌝ }
 {
-    let mut work = [0u16; 16384];
+    let mut work = [0u16; 18432];
     let mut assigned = [0u16; 768];
     assign_in(
         rows,

@@ -22,6 +22,7 @@ use slots::nodes;
 use tallying::pairs;
 use tallying::tally;
 use tallying::tally::Tally;
+use terms::row;
 use terms::weight;
 
 // The best choice so far: its weight, its node, and the numbers that the node's three slots are to stand as.
@@ -203,7 +204,12 @@ fn best_of_pair<'a>(
     ensures { λ r. ⌜ r ≡ sought (terms-of row-width count (now (rows .entry))) node start (with-z (slots .x) (slots .y) (numbered modes (slots .z) (without pair (now (free .entry))))) ⌝ }
 {
     if !slots::unfixed(modes, slots.z) {
-        return better_of(node, slots, weight::weight(rows, count, slots), start);
+        return better_of(
+            node,
+            slots,
+            weight::weight(rows, row::WIDTH, count, slots),
+            start,
+        );
     }
     let limit = limit_past(start.min_weight, count);
     let mut less = [0u16; 512];

@@ -18,19 +18,19 @@ use Rattle.topphatt.specs.Promises.{numbers-of, returned, Lent, lent, le
 
 -- Whatever is lent, a room that is too small refuses, and else the answer is that of the rounds.
 module _ (rooms : Rooms) (call : Asked) (count : ℕ) where
-  pub room-work : rooms .work < 8 * count → with-room rooms (task-of call count) ≡ refused Room
+  pub room-work : rooms .work < 9 * count → with-room rooms (task-of call count) ≡ refused Room
   unfolding with-room
-  room-work h = rw (length-terms 8 count (call .numbers), lt-leb (8 * count) (rooms .work) h)
+  room-work h = rw (length-terms 8 count (call .numbers), lt-leb (9 * count) (rooms .work) h)
 
-  pub room-table : 8 * count ≤ rooms .work → rooms .table < 3 * call .modes → with-room rooms (task-of call count) ≡ refused Room
+  pub room-table : 9 * count ≤ rooms .work → rooms .table < 3 * call .modes → with-room rooms (task-of call count) ≡ refused Room
   unfolding with-room
   room-table h k =
-      rw (length-terms 8 count (call .numbers), le-leb (8 * count) (rooms .work) h, lt-leb (3 * call .modes) (rooms .table) k)
+      rw (length-terms 8 count (call .numbers), le-leb (9 * count) (rooms .work) h, lt-leb (3 * call .modes) (rooms .table) k)
 
-  pub room-done : 8 * count ≤ rooms .work → 3 * call .modes ≤ rooms .table → with-room rooms (task-of call count) ≡ done-by (task-of call count)
+  pub room-done : 9 * count ≤ rooms .work → 3 * call .modes ≤ rooms .table → with-room rooms (task-of call count) ≡ done-by (task-of call count)
   unfolding with-room
   room-done h k =
-      rw (length-terms 8 count (call .numbers), le-leb (8 * count) (rooms .work) h, le-leb (3 * call .modes) (rooms .table) k)
+      rw (length-terms 8 count (call .numbers), le-leb (9 * count) (rooms .work) h, le-leb (3 * call .modes) (rooms .table) k)
 
 module _ (meant : Lent → Outcome) (before : Lent) where
   assigns : (after : Lent) (r : Assigned) → r ≡ returned (meant before) → after ≡ lent-then (meant before) before → Assigns meant before after r
@@ -52,12 +52,12 @@ module _ (meant : Lent → Outcome) (before : Lent) where
 
 -- The rounds were made in the front of work, which is zeros then, and the table was written.
 pub done-so : (task : Task) (count : ℕ) (work worked table now-work now-table : List ℕ) (r : ℕ) → length (task .job .terms) ≡ count
-    → r ≡ ended task .weight → drop (8 * count) worked ≡ drop (8 * count) work → now-work ≡ written-at 0 (replicate (8 * count) 0) worked
+    → r ≡ ended task .weight → drop (9 * count) worked ≡ drop (9 * count) work → now-work ≡ written-at 0 (replicate (9 * count) 0) worked
     → now-table ≡ written-at 0 (answer-table (task .job .modes) (ended task .assigned) (task .table)) table
     → Assigns (λ given. done-by task) (lent work table) (lent now-work now-table) (Weight r)
 unfolding done-by returned lent-then
 done-so task count work worked table now-work now-table r counted weighed rest cleared written =
-    let zeros : List ℕ = replicate (8 * count) 0 in
-    let front : drop (length zeros) worked ≡ drop (length zeros) work = rw (length-replicate {A = ℕ} (8 * count) 0) rest in
+    let zeros : List ℕ = replicate (9 * count) 0 in
+    let front : drop (length zeros) worked ≡ drop (length zeros) work = rw (length-replicate {A = ℕ} (9 * count) 0) rest in
     assigns (λ given. done-by task) (lent work table) (lent now-work now-table) (Weight r) (ap Weight weighed)
     (rw counted (λ i. record { work = (cleared ∙ written-front zeros worked work front) i; table = written i }))

@@ -25,7 +25,7 @@ module _ (rooms : Rooms) (call : Asked) (count weight : ℕ) (answer : List ℕ)
   pub record AssignDone : Type 0 where
     pub accepted : tree-checked (rooms .modes) (call .modes) (call .tree) ≡ Accepted
     pub terms-are : checked (call .modes) (call .numbers) ≡ Good count
-    pub rooms-are : (leb (8 * count) (rooms .work) && leb (3 * call .modes) (rooms .table)) ≡ true
+    pub rooms-are : (leb (9 * count) (rooms .work) && leb (3 * call .modes) (rooms .table)) ≡ true
     pub weight-is : weight ≡ ended (task-of call count) .weight
     pub answer-is : answer ≡ answer-table (call .modes) (ended (task-of call count) .assigned) (call .tree)
 
@@ -35,9 +35,9 @@ module _ (rooms : Rooms) (call : Asked) (count weight : ℕ) (answer : List ℕ)
   module _ (accepted : tree-checked (rooms .modes) (call .modes) (call .tree) ≡ Accepted) where
     from-room : (n : ℕ) → checked (call .modes) (call .numbers) ≡ Good n → with-room rooms (task n) ≡ done count weight answer → AssignDone
     unfolding with-room done-by
-    from-room n t says = go (leb (8 * n) (rooms .work) && leb (3 * call .modes) (rooms .table)) refl
+    from-room n t says = go (leb (9 * n) (rooms .work) && leb (3 * call .modes) (rooms .table)) refl
       where
-        go : (b : Bool) → (leb (8 * n) (rooms .work) && leb (3 * call .modes) (rooms .table)) ≡ b → AssignDone
+        go : (b : Bool) → (leb (9 * n) (rooms .work) && leb (3 * call .modes) (rooms .table)) ≡ b → AssignDone
         go true r =
             let same : done n (ended (task n) .weight) (answer-table (call .modes) (ended (task n) .assigned) (call .tree)) ≡ done count weight answer =
             rw (length-terms 8 n (call .numbers), r) at says in

@@ -24,8 +24,8 @@ use Rattle.topphatt.specs.code.Going.{task-with, state-of}
 pub stepped : (task : Task) (rows assigned : List ℕ) (progress : Progress) (now-rows now-assigned : List ℕ) (r : Progress) (choice : Choice)
     → choice ≡ choice-in task (state-of rows assigned progress)
     → now-assigned ≡ fixed-by (task .job .modes) (task .table) choice assigned
-    → terms-of 8 (r .count) now-rows ≡ reduction (task .job .rule) (choice .triple) (2 * task .job .modes + 1 + choice .node) (terms-of 8 (progress .count) rows)
-    → r .weight ≡ progress .weight + weight-of (choice .triple) (terms-of 8 (progress .count) rows)
+    → terms-of 9 (r .count) now-rows ≡ reduction (task .job .rule) (choice .triple) (2 * task .job .modes + 1 + choice .node) (terms-of 9 (progress .count) rows)
+    → r .weight ≡ progress .weight + weight-of (choice .triple) (terms-of 9 (progress .count) rows)
     → state-of now-rows now-assigned r ≡ next task (state-of rows assigned progress)
 unfolding state-of next after
 stepped task rows assigned progress now-rows now-assigned r choice right fixing reducing weighing =
@@ -48,8 +48,8 @@ module _ (task : Task) where
     rounds-end h = let none : task .job .modes - at ≡ 0 = omega arith in rw none
 
 pub rounds-start : (modes : ℕ) (rule : Rule) (table : List ℕ) (heuristic count : ℕ) (rows assigned : List ℕ) → assigned ≡ replicate modes modes
-    → rounds (task-with modes rule table heuristic (terms-of 8 count rows)) (modes - 0) (state-of rows assigned (record { round = 0; count = count; weight = 0 }))
-    ≡ ended (task-with modes rule table heuristic (terms-of 8 count rows))
+    → rounds (task-with modes rule table heuristic (terms-of 9 count rows)) (modes - 0) (state-of rows assigned (record { round = 0; count = count; weight = 0 }))
+    ≡ ended (task-with modes rule table heuristic (terms-of 9 count rows))
 unfolding ended before state-of
 rounds-start modes rule table heuristic count rows assigned e = rw (sub-zero, e)
 

@@ -7,7 +7,7 @@ use lib.ListN.{length}
 use Rattle.refusal.specs.declared.Refusal.{Refusal}
 use Rattle.refusal.specs.declared.Refusal.the-variants.{Modes, Room, Heuristic, Rule as NoRule}
 use Rattle.entities.specs.Codes.{child-code}
-use Rattle.entities.specs.Limits.{row-width}
+use Rattle.entities.specs.Limits.{work-width}
 use Rattle.terms.specs.Rules.{rule-good, rule-of}
 use Rattle.terms.specs.Job.{job-of}
 use Rattle.terms.specs.Good.{modes-good, checked}
@@ -56,10 +56,10 @@ unfoldable pub done-by : Task → Outcome
 done-by task =
     done (length (task .job .terms)) (ended task .weight) (answer-table (task .job .modes) (ended task .assigned) (task .table))
 
--- 5: "any buffer below its room": "work 8T numbers; … assignment tables 3n".
+-- 5: "any buffer below its room": "assignment tables 3n"; document 02: "5 now asks for 9T work numbers, of assign too".
 unfoldable pub with-room : Rooms → Task → Outcome
 with-room rooms task =
-    cond (not (leb (row-width * length (task .job .terms)) (rooms .work) && leb (3 * task .job .modes) (rooms .table))) (refused Room) (done-by task)
+    cond (not (leb (work-width * length (task .job .terms)) (rooms .work) && leb (3 * task .job .modes) (rooms .table))) (refused Room) (done-by task)
 
 -- 2, 3, 4 of the terms.
 unfoldable pub with-terms : Rooms → Asked → Checked → Outcome

@@ -5,7 +5,7 @@ use Prim.Native.Nat.{ℕ, _*_}
 use lib.ListN.{length, replicate}
 use Rattle.lists.specs.Written.{written-at}
 use Rattle.refusal.specs.Numbers.{refused-numbers, done-numbers}
-use Rattle.entities.specs.Limits.{row-width}
+use Rattle.entities.specs.Limits.{work-width}
 use Rattle.topphatt.specs.declared.Assigned.{Assigned}
 use Rattle.topphatt.specs.declared.Assigned.the-variants.{Weight, Unassigned}
 use Rattle.topphatt.specs.Answer.{Outcome, done, refused, Rooms}
@@ -32,10 +32,10 @@ lent work table = record { work = work; table = table }
 abbrev pub rooms-of : ℕ → Lent → Rooms
 rooms-of most given = record { modes = most; work = length (given .work); table = length (given .table) }
 
--- "On success work's first 8T numbers are zero; outputs beyond the written front stay." A refusal "alters nothing".
+-- Document 02: "a success zeroes the first 9T". "… outputs beyond the written front stay." A refusal "alters nothing".
 unfoldable pub lent-then : Outcome → Lent → Lent
 lent-then (done count weight codes) given = record {
-  work = written-at 0 (replicate (row-width * count) 0) (given .work);
+  work = written-at 0 (replicate (work-width * count) 0) (given .work);
   table = written-at 0 codes (given .table);
 }
 lent-then (refused refusal) given = given

@@ -4,9 +4,9 @@ ghost use Prim.Native.Nat.{_*_, _≤_, _<_};
 ghost use lib.ListN.{length, replicate};
 ghost use Rattle.lists.specs.Written.{«written-at»};
 ghost use Rattle.entities.specs.Codes.{«child-code»};
-ghost use Rattle.entities.specs.Limits.{«most-modes», «most-terms», «row-width»};
+ghost use Rattle.entities.specs.Limits.{«most-modes», «most-terms», «row-width», «work-width»};
 ghost use Rattle.terms.specs.Rows.{«terms-of»};
-ghost use Rattle.terms.specs.code.Held.{Held};
+ghost use Rattle.terms.specs.code.Held.{Given, Worked};
 ghost use Rattle.terms.specs.Good.{checked};
 ghost use Rattle.tree.specs.Check.{«tree-checked»};
 ghost use Rattle.slots.specs.Slots.{«slot-of», «stands-as»};
@@ -20,6 +20,8 @@ use refusal::Refusal;
 use slots::nodes;
 use terms::checking;
 use terms::checking::Checked;
+use terms::counted;
+use terms::row;
 use terms::rules;
 use terms::rules::Rule;
 use terms::slices;
@@ -68,8 +70,8 @@ fn assign_pairs<'a>(
 ) -> usize
     requires { ⌜ (1 ≤ modes) × (modes ≤ most-modes) × (count ≤ most-terms) × (length (now tree) ≡ 3 * modes) × (now assigned ≡ replicate modes modes) × (3 * modes ≤ length (now table)) ⌝ }
     requires { ⌜ Distances modes (now tree) (now distances) ⌝ }
-    requires { ⌜ Held row-width count (now rows) ⌝ }
-    ensures { λ r. ⌜ Tabled modes count (now (tree .entry)) (ended (task-with modes rule (now (tree .entry)) heuristic (terms-of row-width count (now (rows .entry))))) (now (rows .entry)) (now (table .entry)) (now (rows .exit)) (now (table .exit)) r ⌝ }
+    requires { ⌜ Worked count (now rows) ⌝ }
+    ensures { λ r. ⌜ Tabled modes count (now (tree .entry)) (ended (task-with modes rule (now (tree .entry)) heuristic (terms-of work-width count (now (rows .entry))))) (now (rows .entry)) (now (table .entry)) (now (rows .exit)) (now (table .exit)) r ⌝ }
 {
     let weight = rounds::topphatt(
         modes,
@@ -96,8 +98,8 @@ fn assign_rows(
     table: &mut [u16],
 ) -> usize
     requires { ⌜ (1 ≤ modes) × (modes ≤ most-modes) × (count ≤ most-terms) × (length (now tree) ≡ 3 * modes) × (3 * modes ≤ length (now table)) ⌝ }
-    requires { ⌜ Held row-width count (now rows) ⌝ }
-    ensures { λ r. ⌜ Tabled modes count (now (tree .entry)) (ended (task-with modes rule (now (tree .entry)) heuristic (terms-of row-width count (now (rows .entry))))) (now (rows .entry)) (now (table .entry)) (now (rows .exit)) (now (table .exit)) r ⌝ }
+    requires { ⌜ Worked count (now rows) ⌝ }
+    ensures { λ r. ⌜ Tabled modes count (now (tree .entry)) (ended (task-with modes rule (now (tree .entry)) heuristic (terms-of work-width count (now (rows .entry))))) (now (rows .entry)) (now (table .entry)) (now (rows .exit)) (now (table .exit)) r ⌝ }
 {
     let mut distances = [0usize; 256];
     nodes::fill_distances(modes, tree, &mut distances);
@@ -127,13 +129,13 @@ fn assign_in(
     table: &mut [u16],
 ) -> Assigned
     requires { ⌜ (1 ≤ modes) × (modes ≤ most-modes) × (count ≤ most-terms) × (length (now tree) ≡ 3 * modes) ⌝ }
-    requires { ⌜ (length (now terms) ≡ row-width * count) × Held row-width count (now terms) ⌝ }
-    requires { ⌜ (row-width * count ≤ length (now work)) × (3 * modes ≤ length (now table)) ⌝ }
+    requires { ⌜ Given count (now terms) ⌝ }
+    requires { ⌜ (work-width * count ≤ length (now work)) × (3 * modes ≤ length (now table)) ⌝ }
     ensures { λ r. ⌜ Assigns (λ given. done-by (task-with modes rule (now (tree .entry)) heuristic (terms-of row-width count (now (terms .entry))))) (lent (now (work .entry)) (now (table .entry))) (lent (now (work .exit)) (now (table .exit))) r ⌝ }
 {
-    slices::put_front(terms, work);
+    counted::put_each_once(terms, count, work);
     let weight = assign_rows(modes, rule, tree, heuristic, work, count, table);
-    slices::clear_front(work, 8 * count);
+    slices::clear_front(work, row::WORK_WIDTH * count);
     Assigned::Weight(weight as u64)
 }
 
@@ -149,10 +151,10 @@ fn assign_good(
     table: &mut [u16],
 ) -> Assigned
     requires { ⌜ (1 ≤ modes) × (modes ≤ most-modes) × (count ≤ most-terms) × (length (now tree) ≡ 3 * modes) ⌝ }
-    requires { ⌜ (length (now terms) ≡ row-width * count) × Held row-width count (now terms) ⌝ }
+    requires { ⌜ Given count (now terms) ⌝ }
     ensures { λ r. ⌜ Assigns (λ given. with-room (rooms-of most-modes given) (task-of (asked modes rule (now (tree .entry)) heuristic (now (terms .entry))) count)) (lent (now (work .entry)) (now (table .entry))) (lent (now (work .exit)) (now (table .exit))) r ⌝ }
 {
-    if work.len() < 8 * count {
+    if work.len() < row::WORK_WIDTH * count {
         return Assigned::Unassigned(Refusal::Room);
     }
     if table.len() < 3 * modes {

@@ -1,22 +1,22 @@
 // The rounds: a choice made, its leaves fixed, the rows reduced, until no mode is unassigned.
 ghost use mathlib.Core.Path.{_≡_};
 ghost use Prim.Native.Nat.{_+_, _*_, _≤_, _<_};
-ghost use lib.Dec.{eqb};
 ghost use lib.ListN.{length, replicate};
-ghost use Rattle.entities.specs.Limits.{«most-modes», «most-terms», «row-width»};
+ghost use Rattle.entities.specs.Limits.{«most-modes», «most-terms», «row-width», «work-width»};
 ghost use Rattle.terms.specs.Rows.{«terms-of»};
-ghost use Rattle.terms.specs.code.Held.{Held};
+ghost use Rattle.terms.specs.code.Held.{Held, Worked};
 ghost use Rattle.terms.specs.Weight.{«weight-of»};
 ghost use Rattle.slots.specs.code.Promises.{Distances};
 ghost use Rattle.choice.specs.Choices.{unassigned};
 ghost use Rattle.choice.specs.code.Seeking.{«choice-of»};
 ghost use Rattle.topphatt.specs.Rounds.{fixed};
 ghost use Rattle.topphatt.specs.computed.Rounding.{ended};
-ghost use Rattle.topphatt.specs.code.Going.{«task-with», Chose, Fixed, Going, RoundMade, Ended};
+ghost use Rattle.topphatt.specs.code.Going.{«task-with», Among, Chose, Fixed, Going, RoundMade, Ended};
 use choice::Selection;
 use entities::parents;
 use reduction::live_rows;
 use slots::nodes;
+use terms::row;
 use terms::rules::Rule;
 use terms::weight;
 use tree::table;
@@ -53,18 +53,18 @@ fn fix_all(modes: usize, tree: &[u16], selection: Selection, assigned: &mut [u16
     fix(modes, tree, node, 2, selection.leaf_indices.z, assigned);
 }
 
-// The choice of a round.
+// The choice of a round, sought among the first `count` gathered rows.
 fn choose<'a>(
     modes: usize,
     tree: &'a [u16],
     distances: &'a [usize],
     heuristic: usize,
     rows: &'a [u16],
+    count: usize,
     assigned: &'a [u16],
-    progress: Progress,
 ) -> Selection
-    requires { ⌜ Going most-modes modes (now tree) (now distances) (now rows) (now assigned) progress ⌝ }
-    ensures { λ r. ⌜ Chose modes (now (tree .entry)) heuristic (now (rows .entry)) (now (assigned .entry)) progress r ⌝ }
+    requires { ⌜ Among most-modes modes (now tree) (now distances) (now rows) count (now assigned) ⌝ }
+    ensures { λ r. ⌜ Chose modes (now (tree .entry)) heuristic (now (rows .entry)) count (now (assigned .entry)) r ⌝ }
 {
     let mut free = [0u16; 256];
     let unassigned = choice::fill_unassigned(modes, assigned, &mut free);
@@ -72,7 +72,7 @@ fn choose<'a>(
     let nodes = nodes::fill_active(modes, tree, distances, heuristic, assigned, &mut active);
     choice::select(
         rows,
-        progress.count,
+        count,
         tree,
         assigned,
         &free[..unassigned],
@@ -89,7 +89,7 @@ fn chosen_weight(rows: &[u16], count: usize, selection: Selection) -> usize
 {
     // no weight is above the rows
     if count < selection.min_weight {
-        return weight::weight(rows, count, selection.leaf_indices);
+        return weight::weight(rows, row::WIDTH, count, selection.leaf_indices);
     }
     selection.min_weight
 }
@@ -111,12 +111,7 @@ fn round<'a>(
 {
     let mut live = [0u16; 16384];
     let kept = live_rows::put_live(rows, progress.count, &mut live);
-    let among = Progress {
-        round: progress.round,
-        count: kept,
-        weight: progress.weight,
-    };
-    let selection = choose(modes, tree, distances, heuristic, &live, assigned, among);
+    let selection = choose(modes, tree, distances, heuristic, &live, kept, assigned);
     let weight = chosen_weight(&live, kept, selection);
     fix_all(modes, tree, selection, assigned);
     let parent = parents::parent_number(modes, entities::wide(selection.min_parent));
@@ -141,8 +136,8 @@ pub fn topphatt<'a>(
 ) -> usize
     requires { ⌜ (1 ≤ modes) × (modes ≤ most-modes) × (count ≤ most-terms) × (length (now tree) ≡ 3 * modes) × (now assigned ≡ replicate modes modes) ⌝ }
     requires { ⌜ Distances modes (now tree) (now distances) ⌝ }
-    requires { ⌜ Held row-width count (now rows) ⌝ }
-    ensures { λ r. ⌜ Ended modes count (ended (task-with modes rule (now (tree .entry)) heuristic (terms-of row-width count (now (rows .entry))))) (now (rows .entry)) (now (rows .exit)) (now (assigned .exit)) r ⌝ }
+    requires { ⌜ Worked count (now rows) ⌝ }
+    ensures { λ r. ⌜ Ended modes count (ended (task-with modes rule (now (tree .entry)) heuristic (terms-of work-width count (now (rows .entry))))) (now (rows .entry)) (now (rows .exit)) (now (assigned .exit)) r ⌝ }
 {
     let mut progress = Progress {
         round: 0,

@@ -2,7 +2,7 @@
 use Prim.Native.Nat.{_*_}
 use native.Mathlib.Omega.{arith}
 use borrow.Author.Needs.{needs}
-use Rattle.entities.specs.Limits.{most-modes, most-terms, row-width}
+use Rattle.entities.specs.Limits.{most-modes, most-terms, work-width}
 use Rattle.topphatt.specs.Answer.{Rooms}
 use Rattle.assign_call.specs.Calls.{lent-table}
 use Rattle.assign_call.proofs.AssignAnswered.{assign-so}
@@ -35,7 +35,7 @@ returns : tie.Need-returns
 returns c =
     let args = c .before .before .before .before .before .before .before .before .before .before .before .before .before .before .before .before .before .before .before .args in
     let given = lent-table (args .table .now) (args .answer .now) in
-    let own : Rooms = record { modes = most-modes; work = row-width * most-terms; table = 3 * most-modes } in
+    let own : Rooms = record { modes = most-modes; work = work-width * most-terms; table = 3 * most-modes } in
     assign-so _ _ given _ _
     (assign-outright own (omega arith) (omega arith) (args .modes) (args .tree .now) (args .heuristic) (args .terms .now) given)
     (c .before .before .before .before .before .before .before .before .assign-lent .ensures)

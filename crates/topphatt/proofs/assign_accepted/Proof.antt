@@ -21,7 +21,7 @@ assign-good-requires c κs =
     let start = c .before .before .before .before .before .before .before .before .before .before in
     let counted = sym (c .before .before .before .before .before .check-terms .ensures .answer) ∙ c .before .before .before .count .given .1 in
     let rows = accepted (start .args .modes) (start .args .terms .now) (c .before .before .before .count .given .0 .0) counted in
-    ((start .pre .0, start .pre .1, rows .at-most, start .pre .2), (rows .whole, rows .held))
+    ((start .pre .0, start .pre .1, rows .at-most, start .pre .2), rows .given)
 
 returns : tie.Need-returns
 unfolding with-terms

@@ -21,7 +21,7 @@ free-size c =
     let called = c .fill-unassigned in
     let whole : length (called .last .1 .1 .0) ≡ 256 = called .kept .1 .1 .0 in
     let few = called .ensures .0 in
-    let most = c .before .before .before .before .before .before .pre .few in
+    let most = c .before .before .before .before .before .before .pre .ready .few in
     length-take-le (called .result) (called .last .1 .1 .0) (omega arith)
 
 -- How many nodes there are is how many the front has.
@@ -31,7 +31,7 @@ active-size c =
     let called = c .fill-active in
     let whole : length (called .last .1 .1 .1 .1 .1 .0) ≡ 256 = called .kept .1 .1 .1 .1 .1 .0 in
     let few = called .ensures .0 in
-    let most = c .before .before .before .before .before .before .before .before .before .pre .few in
+    let most = c .before .before .before .before .before .before .before .before .before .pre .ready .few in
     length-take-le (called .result) (called .last .1 .1 .1 .1 .1 .0) (omega arith)
 
 slice-aggregate-fill-unassigned : tie.Need-slice-aggregate-fill-unassigned
@@ -66,7 +66,7 @@ select-requires c κs =
     let pre = start .pre in (
       pre .held,
       (
-        (pre .fits, pre .few, pre .pairs, pre .whole),
+        (pre .fits, pre .ready .few, pre .ready .pairs, pre .ready .whole),
         (
           free .ensures .1,
           rw (nodes .ensures .1) (active-below (start .args .modes) (start .args .tree .now) (start .args .heuristic) (start .args .assigned .now)),
@@ -79,15 +79,15 @@ unfolding choice-of
 returns c =
     let start = c .before .before .before .before .before .before .before .before .before .before .before .before .before in
     let args = start .args in
-    let rows = terms-of 8 (args .progress .count) (args .rows .now) in
-    let size = length-terms 8 (args .progress .count) (args .rows .now) in
+    let rows = terms-of 8 (args .count) (args .rows .now) in
+    let size = length-terms 8 (args .count) (args .rows .now) in
     let nodes = c .before .before .before .before .fill-active in
-    let few : 3 * args .modes + 2 < 65536 = omega (arith, start .pre .few) in
+    let few : 3 * args .modes + 2 < 65536 = omega (arith, start .pre .ready .few) in
     let found = rw (← rw (nodes .ensures .1) at (c .select .ensures)) at
-    (over-chosen rows (args .progress .count) (omega arith) (args .modes) few (args .tree .now) (args .heuristic) (args .assigned .now)) in
+    (over-chosen rows (args .count) (omega arith) (args .modes) few (args .tree .now) (args .heuristic) (args .assigned .now)) in
     record {
       right = found .right;
-      within = rw (ap (λ choice. choice .node) (found .right)) (chosen-below (args .modes) (args .tree .now) (args .heuristic) (args .assigned .now) rows (start .pre .some));
+      within = rw (ap (λ choice. choice .node) (found .right)) (chosen-below (args .modes) (args .tree .now) (args .heuristic) (args .assigned .now) rows (start .pre .ready .some));
       weighs = found .weighs;
     }
 

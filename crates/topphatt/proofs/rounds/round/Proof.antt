@@ -7,6 +7,7 @@ use Rattle.terms.specs.Rows.{terms-of}
 use Rattle.terms.specs.Weight.{weight-of}
 use Rattle.reduction.specs.Reduction.{reduction}
 use Rattle.reduction.proofs.AsTold.{live-weight}
+use Rattle.reduction.proofs.ReducedCounts.{reduced-terms, reduced-worked}
 use Rattle.choice.specs.computed.Choosing.{chosen}
 use Rattle.choice.specs.code.Seeking.{choice-of}
 use Rattle.topphatt.specs.declared.rounds.Progress.{Progress}
@@ -21,7 +22,7 @@ slice-aggregate-put-live c = search needs
 put-live-requires : tie.Need-put-live-requires
 put-live-requires c κs =
     let start = c .before .before .before .before .before .before in
-    (start .pre .0 .held, omega (arith, start .pre .0 .fits))
+    (start .pre .0 .worked .held, omega (arith, start .pre .0 .fits))
 
 slice-aggregate-choose : tie.Need-slice-aggregate-choose
 slice-aggregate-choose c = search needs
@@ -30,16 +31,7 @@ choose-requires : tie.Need-choose-requires
 choose-requires c κs =
     let pre = c .before .before .before .before .before .before .before .before .before .before .pre .0 in
     let there = c .before .before .before .put-live .ensures in
-    record {
-      some = pre .some;
-      few = pre .few;
-      whole = pre .whole;
-      far = pre .far;
-      pairs = pre .pairs;
-      fits = omega (arith, there .at-most, pre .fits);
-      held = there .held;
-      light = pre .light;
-    }
+    record { ready = pre .ready; fits = omega (arith, there .at-most, pre .fits); held = there .held }
 
 slice-aggregate-chosen-weight : tie.Need-slice-aggregate-chosen-weight
 slice-aggregate-chosen-weight c = search needs
@@ -54,26 +46,29 @@ wide-requires : tie.Need-wide-requires
 wide-requires c κs = search needs
 
 parent-number-requires : tie.Need-parent-number-requires
-parent-number-requires c κs = search needs
+parent-number-requires c κs =
+    let few = c .before .before .before .before .before .before .before .before .before .before .before .before .before .before .before .before .before .before .pre .0 .ready .few in
+    let within = c .before .before .before .before .before .before .before .choose .ensures .within in
+    (few, omega (arith, within, c .wide .ensures .0))
 
 reduce-hamiltonian-requires : tie.Need-reduce-hamiltonian-requires
 reduce-hamiltonian-requires c κs =
     let pre = c .before .before .before .before .before .before .before .before .before .before .before .before .before .before .before .before .before .before .before .before .pre .0 in
-    (pre .held, pre .fits)
+    (pre .worked, pre .fits)
 
-add-t28 : tie.Need-add-t28
-add-t28 c =
+add-t27 : tie.Need-add-t27
+add-t27 c =
     let start = c .before .before .before .before .before .before .before .before .before .before .before .before .before .before .before .before .before .before .before .before .before .before .before .before in
-    let few = start .pre .0 .few in
+    let few = start .pre .0 .ready .few in
     let turn = start .pre .1 in
     omega arith
 
-add-t31 : tie.Need-add-t31
-add-t31 c =
+add-t30 : tie.Need-add-t30
+add-t30 c =
     let start = c .before .before .before .before .before .before .before .before .before .before .before .before .before .before .before .before .before .before .before .before .before .before .before .before .before in
     let pre = start .pre .0 in
     let less = c .before .before .before .before .before .before .before .before .before .before .before .before .chosen-weight .ensures .1 in
-    omega (arith, pre .light, pre .fits, pre .few, start .pre .1, less, c .before .before .before .before .before .before .before .before .before .before .before .before .before .before .before .before .before .before .put-live .ensures .at-most)
+    omega (arith, pre .light, pre .fits, pre .ready .few, start .pre .1, less, c .before .before .before .before .before .before .before .before .before .before .before .before .before .before .before .before .before .before .put-live .ensures .at-most)
 
 same-length : tie.Need-same-length
 same-length c = search needs
@@ -95,7 +90,7 @@ returns c =
     let node = c .before .before .before .before .before .before .before .wide .ensures .0 in
     let parent = c .before .before .before .before .before .before .parent-number .ensures in
     let reduced = c .before .before .before .before .reduce-hamiltonian .ensures in
-    let terms = terms-of 8 (args .progress .count) (args .rows .now) in
+    let terms = terms-of 9 (args .progress .count) (args .rows .now) in
     let triple = chose .result .«leaf_indices» in
     let right : choice-of (chose .result) ≡ chosen (args .modes) (args .tree .now) (args .heuristic) (args .assigned .now) terms =
     chose .ensures .right
@@ -110,16 +105,12 @@ returns c =
       right = λ first.
           stepped (task-with (args .modes) (args .rule) (args .tree .now) (args .heuristic) first) (args .rows .now) (args .assigned .now) (args .progress) _ _ then
           (choice-of (chose .result)) right (fixing .right)
-          (reduced .terms ∙ ap (λ p. reduction (args .rule) triple p terms) (parent ∙ ap (λ n. 2 * args .modes + 1 + n) node))
+          (reduced-terms _ _ _ _ _ _ _ reduced ∙ ap (λ p. reduction (args .rule) triple p terms) (parent ∙ ap (λ n. 2 * args .modes + 1 + n) node))
           (ap (λ w. args .progress .weight + w) weighs);
       going = record {
-        some = pre .some;
-        few = pre .few;
-        whole = pre .whole;
-        far = pre .far;
-        pairs = fixing .pairs;
+        ready = record { some = pre .ready .some; few = pre .ready .few; whole = pre .ready .whole; far = pre .ready .far; pairs = fixing .pairs };
         fits = pre .fits;
-        held = reduced .held;
+        worked = reduced-worked _ _ _ _ _ _ _ reduced (pre .worked);
         light = omega (arith, pre .light, light .1, there .at-most, pre .fits);
       };
       rest = reduced .rest;
@@ -139,8 +130,8 @@ round-spec =
     wide-requires
     parent-number-requires
     reduce-hamiltonian-requires
-    add-t28
-    add-t31
+    add-t27
+    add-t30
     same-length
     same-length-2
     returns)

@@ -16,7 +16,7 @@ use Rattle.topphatt.proofs.rounds.topphatt.Tie as tie
 
 -- What is to be done, over the terms that stand in the rows at first.
 abbrev task-at : ℕ → Rule → List ℕ → ℕ → ℕ → List ℕ → Task
-task-at modes rule tree heuristic count rows = task-with modes rule tree heuristic (terms-of 8 count rows)
+task-at modes rule tree heuristic count rows = task-with modes rule tree heuristic (terms-of 9 count rows)
 
 abbrev Inv-loop : tie.InvT-loop
 Inv-loop modes rule tree distances heuristic rows₀ count assigned₀ progress₀ rows assigned progress =
@@ -27,7 +27,7 @@ Inv-loop modes rule tree distances heuristic rows₀ count assigned₀ progress�
     × (rounds (task-at modes rule tree heuristic count rows₀) (modes - progress .round) (state-of rows assigned progress)
     ≡ ended (task-at modes rule tree heuristic count rows₀))
     × (progress .count ≡ count)
-    × (drop (8 * count) rows ≡ drop (8 * count) rows₀)
+    × (drop (9 * count) rows ≡ drop (9 * count) rows₀)
 
 abbrev μ-loop : tie.MeasureT-loop
 μ-loop modes rule tree distances heuristic rows₀ count assigned₀ progress₀ rows assigned progress = modes - progress .round
@@ -37,13 +37,15 @@ loop-holds c =
     let start = c .before .before .before .before in
     let pre = start .pre .0 in (
       record {
-        some = pre .0;
-        few = pre .1;
-        whole = pre .3;
-        far = start .pre .1 .0;
-        pairs = rw (pre .4) (length-replicate _ _);
+        ready = record {
+          some = pre .0;
+          few = pre .1;
+          whole = pre .3;
+          far = start .pre .1 .0;
+          pairs = rw (pre .4) (length-replicate _ _);
+        };
         fits = pre .2;
-        held = start .pre .1 .1;
+        worked = start .pre .1 .1;
         light = omega arith;
       },
       omega arith,
@@ -55,7 +57,7 @@ loop-holds c =
     )
 
 all-assigned-requires : tie.Need-all-assigned-requires Inv-loop μ-loop
-all-assigned-requires c κs = c .before .before .before .loop .inv .0 .few
+all-assigned-requires c κs = c .before .before .before .loop .inv .0 .ready .few
 
 same-length : tie.Need-same-length Inv-loop μ-loop
 same-length c = search needs
@@ -71,7 +73,7 @@ returns c =
     let state = state-of (here .loop .rows) (here .loop .assigned) (here .loop .progress) in
     let task = task-at (args .modes) (args .rule) (args .tree .now) (args .heuristic) (args .count) (args .rows .now) in
     let e = sym (rounds-stop task state (here .loop .progress .round) (c .before .before .before .if1 .taken) (sym (c .before .all-assigned .ensures) ∙ c .if2 .taken)) ∙ here .loop .inv .4 in
-    record { weight-is = ap (λ s. s .weight) e; assigned-is = ap (λ s. s .assigned) e; pairs = here .loop .inv .0 .pairs; rest = here .loop .inv .6 }
+    record { weight-is = ap (λ s. s .weight) e; assigned-is = ap (λ s. s .assigned) e; pairs = here .loop .inv .0 .ready .pairs; rest = here .loop .inv .6 }
 
 round-requires : tie.Need-round-requires Inv-loop μ-loop
 round-requires c κs = (c .before .before .before .before .before .before .before .loop .inv .0, c .before .before .before .before .before .if1 .taken)
@@ -97,7 +99,7 @@ loop-again c =
       omega arith,
       called .kept .1 .1 .1 .1 .1 .0 ∙ here .loop .inv .2,
       called .kept .1 .1 .1 .1 .1 .1 .0 ∙ here .loop .inv .3,
-      rw (went .right (terms-of 8 (args .count) (args .rows .now)), went .on)
+      rw (went .right (terms-of 9 (args .count) (args .rows .now)), went .on)
           (sym (rounds-on task state (here .loop .progress .round) h (rw (state-assigned (here .loop .rows) (here .loop .assigned) (here .loop .progress)) (sym unfinished ∙ c .before .before .before .before .before .before .before .if2 .left))) ∙ here .loop .inv .4),
       went .same-count ∙ here .loop .inv .5,
       rw (here .loop .inv .5) at (went .rest) ∙ here .loop .inv .6,
@@ -117,7 +119,7 @@ returns-2 c =
     let state = state-of (here .loop .rows) (here .loop .assigned) (here .loop .progress) in
     let task = task-at (args .modes) (args .rule) (args .tree .now) (args .heuristic) (args .count) (args .rows .now) in
     let e = sym (rounds-end task state (here .loop .progress .round) (c .if1 .left)) ∙ here .loop .inv .4 in
-    record { weight-is = ap (λ s. s .weight) e; assigned-is = ap (λ s. s .assigned) e; pairs = here .loop .inv .0 .pairs; rest = here .loop .inv .6 }
+    record { weight-is = ap (λ s. s .weight) e; assigned-is = ap (λ s. s .assigned) e; pairs = here .loop .inv .0 .ready .pairs; rest = here .loop .inv .6 }
 
 pub topphatt-spec : {M : Type 1} → statement M
 topphatt-spec =
