@@ -1,5 +1,5 @@
 -- Each answer of the call is one arm of its meaning.
-use mathlib.Core.Path.{_≡_, refl, _∙_, sym}
+use mathlib.Core.Path.{_≡_, refl, _∙_}
 use mathlib.Core.List.{List}
 use Prim.Native.Nat.{ℕ, _*_, _<_, _≤_}
 use borrow.Author.Tests.{eq-eqb, ne-eqb, lt-ltb, le-ltb}
@@ -12,7 +12,7 @@ use Rattle.terms.specs.declared.checking.Checked.the-variants.{Good, Refused as
 use Rattle.best.specs.declared.BestFound.{BestFound}
 use Rattle.best.specs.declared.BestFound.the-variants.{Found, Unfound}
 use Rattle.best.specs.computed.Lightest.{least-weight, how-many}
-use Rattle.best.specs.Call.{terms-in, found-among, best-found, sequence-after, Sought}
+use Rattle.best.specs.Call.{terms-given, found-among, best-found, sequence-after, Sought}
 
 module _ (most modes : ℕ) (numbers before : List ℕ) where
   -- Refused, nothing altered.
@@ -40,7 +40,7 @@ module _ (most modes : ℕ) (numbers before : List ℕ) where
         no-room h = refuses Room (rw (ne-eqb modes 0 some, le-ltb most modes few, good, lt-ltb (length before) (3 * modes) h))
 
         pub finds : 3 * modes ≤ length before → (r : BestFound) (after : List ℕ)
-            → r ≡ Found (least-weight modes (terms-in numbers)) (how-many modes (terms-in numbers))
+            → r ≡ Found (least-weight modes (terms-given numbers)) (how-many modes (terms-given numbers))
             → after ≡ sequence-after r modes numbers before → Sought most modes numbers before r after
         unfolding best-found found-among
         finds h r after e f =

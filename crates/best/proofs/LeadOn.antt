@@ -1,25 +1,25 @@
 -- What is known after the first k sequences, one sequence on, and at the end of all.
-use mathlib.Core.Path.{_≡_, refl, ap, _∙_, sym, fun-ext}
-use mathlib.Core.List.{List, [], _++_}
-use Prim.Native.Nat.{ℕ, _+_, _*_, _/_, _<_, _≤_}
+use mathlib.Core.Path.{_≡_, ap, _∙_, sym, fun-ext}
+use mathlib.Core.List.{List, []}
+use Prim.Native.Nat.{ℕ, _+_, _*_, _<_, _≤_}
 use native.Mathlib.Nat.{zero-add}
 use native.Mathlib.Omega.{arith}
 use lib.Dec.{eqb}
-use lib.ListN.{length, take, drop, take-append-drop}
+use lib.ListN.{length, take, take-append-drop}
 use Rattle.lists.specs.Least.{least-of}
 use Rattle.lists.specs.Members.{keep}
 use Rattle.lists.specs.Written.{written-at}
 use Rattle.entities.specs.Limits.{row-width}
 use Rattle.entities.specs.declared.Triple.{Triple}
 use Rattle.terms.specs.Rows.{terms-of}
-use Rattle.tree_weight.specs.code.Promises.{own-weight, OperatorsOf}
+use Rattle.tree_weight.specs.code.Promises.{OperatorsOf}
 use Rattle.best.specs.declared.search.Lead.{Lead}
 use Rattle.best.specs.declared.BestFound.the-variants.{Found}
 use Rattle.best.specs.Sequences.{sequences}
 use Rattle.best.specs.Best.{sequence-weight}
 use Rattle.best.specs.computed.Lightest.{lightest, least-weight, how-many}
-use Rattle.best.specs.Call.{terms-in, sequence-numbers, sequence-after}
-use Rattle.best.specs.code.Numbered.{history-in, weight-by, lead-first, lead-reached, Led, FrontOnly, NumbersPut, Weighed}
+use Rattle.best.specs.Call.{terms-given, sequence-numbers, sequence-after}
+use Rattle.best.specs.code.Numbered.{weight-by, lead-first, Led, FrontOnly, NumbersPut, Weighed}
 use Rattle.best.proofs.MergesKept.{length-numbers}
 use Rattle.best.proofs.LightestSoFar.{lighter-leads, as-light-counts, heavier-passes, lead-all, reached-all, lead-none, reached-at-most}
 use Rattle.best.proofs.LightestBest.{sequences-there, lightest-best}
@@ -107,10 +107,10 @@ module _ (modes count : ℕ) (rows own : List ℕ) (made : OperatorsOf modes cou
 
 -- The front and what is behind it are the numbers with the sequence written over them.
 pub sequence-written : (modes : ℕ) (rows : List ℕ) (weight reached : ℕ) (before after : List ℕ)
-    → take (3 * modes) after ≡ sequence-numbers (lightest modes (terms-in rows)) → FrontOnly (3 * modes) before after
+    → take (3 * modes) after ≡ sequence-numbers (lightest modes (terms-given rows)) → FrontOnly (3 * modes) before after
     → after ≡ sequence-after (Found weight reached) modes rows before
 unfolding sequence-after written-at
 sequence-written modes rows weight reached before after front rest =
-    let first = lightest modes (terms-in rows) in
-    let long : length (sequence-numbers first) ≡ 3 * modes = length-numbers first ∙ ap (λ n. 3 * n) (lightest-best modes (terms-in rows) .all) in
+    let first = lightest modes (terms-given rows) in
+    let long : length (sequence-numbers first) ≡ 3 * modes = length-numbers first ∙ ap (λ n. 3 * n) (lightest-best modes (terms-given rows) .all) in
     rw (zero-add (length (sequence-numbers first)), long, ← front, ← rest .behind) (sym (take-append-drop (3 * modes) after))

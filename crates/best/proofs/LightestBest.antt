@@ -1,8 +1,8 @@
 -- The first of the lightest sequences is the best there is, and there is one; greedy's tree is never below it.
 use mathlib.Core.Path.{_≡_, refl, ap, _∙_, sym, subst}
 use mathlib.Core.Bool.{Bool, true, false, cond}
-use mathlib.Core.List.{List, [], _∷_, List·Memᴰ}
-use mathlib.Core.Logic.{_⊎_, inl, inr, ⊎-elim}
+use mathlib.Core.List.{List, []}
+use mathlib.Core.Logic.{_⊎_, ⊎-elim}
 use Prim.Native.Nat.{ℕ, _+_, _-_, _*_, _<_, _≤_}
 use native.Mathlib.Omega.{arith}
 use borrow.Author.Tests.{ltb-false, le-ltb, ltb-true}
@@ -12,7 +12,6 @@ use lib.Seq.{drop-drop}
 use Rattle.lists.specs.Least.{lighter, least-of}
 use Rattle.lists.specs.Members.{keep}
 use Rattle.lists.proofs.Least.{lighter-ranks, best-of-first, FirstBest}
-use Rattle.lists.proofs.Tests.{same-or-not}
 use Rattle.refusal.specs.declared.Refusal.{Refusal}
 use Rattle.refusal.specs.declared.Refusal.the-variants.{Modes, Room, TooManyToTry}
 use Rattle.entities.specs.Limits.{row-width}
@@ -29,12 +28,11 @@ use Rattle.finished.proofs.FinishedTrees.{lawful-finishes}
 use Rattle.finished.proofs.CallsFinish.{call-finishes}
 use Rattle.tree_weight.specs.Weight.{tree-weight, weighed-terms, weighed-tree, tree-weighed}
 use Rattle.terms.specs.Rows.{terms-of}
-use Rattle.best.specs.declared.BestFound.{BestFound}
 use Rattle.best.specs.declared.BestFound.the-variants.{Found, Unfound}
-use Rattle.best.specs.Sequences.{Before, Earlier, sequences, sequence-count}
+use Rattle.best.specs.Sequences.{Before, Earlier, sequences}
 use Rattle.best.specs.Best.{sequence-weight, Best, OneBest, GreedyNotBelow}
 use Rattle.best.specs.computed.Lightest.{lightest, least-weight, how-many}
-use Rattle.best.specs.Call.{terms-in, found-among, best-found, FoundBest}
+use Rattle.best.specs.Call.{terms-given, found-among, best-found, FoundBest}
 use Rattle.best.proofs.SequencesRight.{sequences-right}
 use Rattle.best.proofs.SequenceNumbers.{some-sequence, sequences-counted}
 
@@ -125,7 +123,7 @@ one-best modes terms least other-least first other-first reached other-reached o
 -- What a found answer holds: the other answers are refusals.
 module _ (modes : ℕ) (numbers : List ℕ) (room weight reached : ℕ) where
   abbrev Holds : Type 0
-  Holds = (weight ≡ least-weight modes (terms-in numbers)) × (reached ≡ how-many modes (terms-in numbers))
+  Holds = (weight ≡ least-weight modes (terms-given numbers)) × (reached ≡ how-many modes (terms-given numbers))
 
   not-refused : {refusal : Refusal} → Unfound refusal ≡ Found weight reached → Holds
   not-refused e = let z : _≡_ {A = ℕ} 0 1 = cc in absurd (omega arith)
@@ -134,7 +132,7 @@ module _ (modes : ℕ) (numbers : List ℕ) (room weight reached : ℕ) where
   unfolding found-among
   among-holds (Good count) e = go (ltb room (3 * modes)) e
     where
-      go : (b : Bool) → cond b (Unfound Room) (Found (least-weight modes (terms-in numbers)) (how-many modes (terms-in numbers))) ≡ Found weight reached
+      go : (b : Bool) → cond b (Unfound Room) (Found (least-weight modes (terms-given numbers)) (how-many modes (terms-given numbers))) ≡ Found weight reached
           → Holds
       go true e = not-refused e
       go false e = (cc, cc)
@@ -168,7 +166,7 @@ found-few most modes numbers room weight reached e = go (eqb modes 0) refl (ltb 
 pub found-best : FoundBest
 found-best most modes numbers room weight reached says =
     let held = found-holds modes numbers room weight reached most says in
-    rw (held .0, held .1) (lightest-best modes (terms-in numbers))
+    rw (held .0, held .1) (lightest-best modes (terms-given numbers))
 
 -- Rows that are those of n lawful merges.
 merges-not-below : (most modes count : ℕ) (numbers rows : List ℕ) (history : List Triple) → AllMerged modes history → modes ≤ most

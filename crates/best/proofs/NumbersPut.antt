@@ -1,12 +1,12 @@
 -- The numbers of a sequence written over the front of others.
 use mathlib.Core.Path.{_≡_, refl, ap, _∙_, sym}
 use mathlib.Core.List.{List}
-use Prim.Native.Nat.{ℕ, _+_, _*_, _≤_}
+use Prim.Native.Nat.{ℕ, _*_, _≤_}
 use native.Mathlib.Omega.{arith}
 use lib.ListN.{length, take, drop, length-take}
 use Rattle.lists.specs.Written.{written-at}
 use Rattle.lists.proofs.Written.{length-written, drop-written}
-use Rattle.best.specs.code.Numbered.{history-in, FrontOnly, NumbersPut}
+use Rattle.best.specs.code.Numbered.{FrontOnly, NumbersPut}
 use Rattle.best.proofs.MergesKept.{numbers-kept}
 
 pub numbers-put : (modes : ℕ) (merges before after : List ℕ) → 3 * modes ≤ length merges → 3 * modes ≤ length before

@@ -1,11 +1,10 @@
 -- The sequences are all lawful ones, in order: each goes on from where it began, and two differ first where their merges do.
 use mathlib.Core.Path.{_≡_, refl, ap, _∙_, sym}
 use mathlib.Core.List.{List, [], _∷_, List·Memᴰ, List·Memᴰ·head, List·Memᴰ·eq-of-singleton, List·Memᴰ·not-nil}
-use Prim.Native.Nat.{ℕ, zero, suc, _+_, _-_, _<_, _≤_}
+use Prim.Native.Nat.{ℕ, zero, suc, _+_, _-_, _<_}
 use native.Mathlib.Numerals.{add-one}
-use native.Mathlib.Nat.{sub-self}
 use native.Mathlib.Omega.{arith}
-use lib.ListN.{length, drop}
+use lib.ListN.{length}
 use Rattle.lists.specs.Ordered.{Ascending}
 use Rattle.lists.proofs.Membership.{joined, of-joined}
 use Rattle.lists.proofs.Ordered.{joined-ascends}
@@ -14,7 +13,7 @@ use Rattle.history.specs.History.{merge-of, history-before}
 use Rattle.history.specs.Lawful.{Lawful, LawfulHistory}
 use Rattle.history.proofs.HistoryBefore.{before-next, before-first}
 use Rattle.history.proofs.RunsOn.{before-lawful}
-use Rattle.best.specs.Sequences.{Before, Earlier, LawfulSequences, lawful-triples, sequences-from, sequences, SequencesRight}
+use Rattle.best.specs.Sequences.{Before, Earlier, lawful-triples, sequences-from, sequences, SequencesRight}
 use Rattle.best.proofs.LawfulTriples.{lawful-listed, listed-lawful, lawful-ascend}
 
 -- So many merges more, behind those of a history.

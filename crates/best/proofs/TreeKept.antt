@@ -8,7 +8,6 @@ use lib.ListN.{length, getD, take, length-take}
 use lib.Seq.{ext-getD, getD-take}
 use Rattle.lists.proofs.Parts.{read-within}
 use Rattle.entities.specs.Codes.{absent, child-code}
-use Rattle.history.specs.History.{merge-of}
 use Rattle.tree.specs.Table.{child}
 use Rattle.finished.specs.Finished.{AllMerged, tree-of}
 use Rattle.finished.proofs.Merged.{by-edge}

@@ -1,8 +1,8 @@
--- The triples of so many entities by number: the k-th in ascending order has its x, y and z as the digits of k.
+-- The triples of the first `count` entities by number: the k-th in ascending order has its x, y and z as the digits of k.
 use mathlib.Core.Path.{_≡_, refl, ap, _∙_, sym, fun-ext}
-use mathlib.Core.List.{List, [], _∷_, _++_, map, flatMap}
+use mathlib.Core.List.{List, _∷_, map, flatMap}
 use Prim.Native.Nat.{ℕ, zero, suc, _+_, _*_, _/_, _%_, _<_, _≤_}
-use native.Mathlib.Nat.{suc-mul, zero-mul, mul-assoc, zero-add, mul-add-div-right, mul-add-mod-self-right, div-eq-of-lt, mod-eq-of-lt, div-lt-iff-lt-mul}
+use native.Mathlib.Nat.{suc-mul, zero-mul, mul-assoc, mul-add-div-right, mul-add-mod-self-right, div-eq-of-lt, mod-eq-of-lt, div-lt-iff-lt-mul}
 use native.Mathlib.Omega.{arith}
 use Rattle.lists.specs.Ranges.{listed}
 use Rattle.lists.proofs.Listed.{listed-joined, map-listed}

@@ -25,14 +25,14 @@ abbrev pub most-to-try : ℕ
 most-to-try = 4
 
 -- The terms that a call is given.
-abbrev pub terms-in : List ℕ → List (List ℕ)
-terms-in numbers = terms-of row-width (length numbers / row-width) numbers
+abbrev pub terms-given : List ℕ → List (List ℕ)
+terms-given numbers = terms-of row-width (length numbers / row-width) numbers
 
 -- "then 2, 3, 4, and 5 where the sequence's 3n numbers don't fit".
 unfoldable pub found-among : ℕ → List ℕ → ℕ → Checked → BestFound
 found-among modes numbers room (Good count) =
     cond (ltb room (3 * modes)) (Unfound Room)
-    (Found (least-weight modes (terms-in numbers)) (how-many modes (terms-in numbers)))
+    (Found (least-weight modes (terms-given numbers)) (how-many modes (terms-given numbers)))
 found-among modes numbers room (BadTerms refusal) = Unfound refusal
 
 -- The meaning of `best`: "22 for 5 modes or more, in the place of 1's upper end; 0 modes stays 1"; `most` is the 4.
@@ -53,7 +53,7 @@ sequence-numbers (merge ∷ history) = sequence-numbers history ++ (merge .x ∷
 
 -- The lent numbers after the call: the first of the lightest at their front; refused, as they were.
 unfoldable pub sequence-after : BestFound → ℕ → List ℕ → List ℕ → List ℕ
-sequence-after (Found weight reached) modes numbers before = written-at 0 (sequence-numbers (lightest modes (terms-in numbers))) before
+sequence-after (Found weight reached) modes numbers before = written-at 0 (sequence-numbers (lightest modes (terms-given numbers))) before
 sequence-after (Unfound refusal) modes numbers before = before
 
 -- What `best` promises: the answer, its numbers, and every lent number afterwards.
@@ -65,4 +65,4 @@ pub record Sought (most modes : ℕ) (numbers before : List ℕ) (r : BestFound)
 abbrev pub FoundBest : Type 0
 FoundBest =
     (most modes : ℕ) (numbers : List ℕ) (room weight reached : ℕ) → best-found most modes numbers room ≡ Found weight reached
-    → Best modes (terms-in numbers) weight (lightest modes (terms-in numbers)) reached
+    → Best modes (terms-given numbers) weight (lightest modes (terms-given numbers)) reached

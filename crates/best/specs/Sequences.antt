@@ -42,7 +42,7 @@ triples modes history =
 unfoldable pub lawful-triples : ℕ → List Triple → List Triple
 lawful-triples modes history = keep (is-lawful modes history) (triples modes history)
 
--- The sequences that go on so many merges from a history.
+-- The sequences that begin with a history and go on with `steps` lawful merges.
 unfoldable pub sequences-from : ℕ → ℕ → List Triple → List (List Triple)
 sequences-from modes zero history = history ∷ []
 sequences-from modes (suc steps) history =
@@ -65,7 +65,7 @@ StepCount =
     (modes : ℕ) (history : List Triple) → LawfulHistory modes history → (j : ℕ) → length history + j ≡ modes
     → length (lawful-triples modes history) ≡ step-count j
 
--- The sequences of so many merges: at each step as many ways as it has lawful triples.
+-- How many sequences of j merges there are: at each step as many ways as it has lawful triples.
 unfoldable pub sequence-count : ℕ → ℕ
 sequence-count zero = 1
 sequence-count (suc j) = step-count (suc j) * sequence-count j

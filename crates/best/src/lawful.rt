@@ -1,7 +1,5 @@
 // Which triples are lawful after merges that are kept as numbers, x, y, z of each: the merges are few, so openness and z-ends are read off them.
 ghost use mathlib.Core.Path.{_≡_};
-ghost use Prim.Native.Nat.{_≤_};
-ghost use lib.ListN.{length};
 ghost use Rattle.history.specs.History.{«is-open», «z-end»};
 ghost use Rattle.history.specs.Lawful.{«three-open», paired};
 ghost use Rattle.history.specs.computed.Pairs.{«is-lawful»};
@@ -9,7 +7,7 @@ ghost use Rattle.best.specs.code.Numbered.{«history-in», Kept};
 use entities::Triple;
 use entities::parents;
 
-// The entity is open after the first so many merges.
+// The entity is open after the first `steps` merges.
 fn is_open(modes: usize, merges: &[u16], steps: usize, entity: u16) -> bool
     requires { ⌜ Kept modes steps (now merges) ⌝ }
     ensures { λ r. ⌜ r ≡ is-open modes (history-in (now (merges .entry)) steps) entity ⌝ }

@@ -8,7 +8,7 @@ ghost use Rattle.terms.specs.Good.{checked};
 ghost use Rattle.terms.specs.declared.checking.Checked.«the-variants».{Good};
 ghost use Rattle.best.specs.declared.BestFound.«the-variants».{Found};
 ghost use Rattle.best.specs.computed.Lightest.{«least-weight», «how-many»};
-ghost use Rattle.best.specs.Call.{«most-to-try», «terms-in», «sequence-after», Sought};
+ghost use Rattle.best.specs.Call.{«most-to-try», «terms-given», «sequence-after», Sought};
 use refusal::Refusal;
 use terms::checking;
 use terms::checking::Checked;
@@ -28,7 +28,7 @@ fn find(modes: usize, terms: &[u16], count: usize, sequence: &mut [u16]) -> Best
     requires { ⌜ checked modes (now terms) ≡ Good count ⌝ }
     requires { ⌜ (1 ≤ modes) × (modes ≤ most-to-try) ⌝ }
     requires { ⌜ 3 * modes ≤ length (now sequence) ⌝ }
-    ensures { λ r. ⌜ r ≡ Found (least-weight modes (terms-in (now (terms .entry)))) (how-many modes (terms-in (now (terms .entry)))) ⌝ }
+    ensures { λ r. ⌜ r ≡ Found (least-weight modes (terms-given (now (terms .entry)))) (how-many modes (terms-given (now (terms .entry)))) ⌝ }
     ensures { λ r. ⌜ now (sequence .exit) ≡ sequence-after r modes (now (terms .entry)) (now (sequence .entry)) ⌝ }
 {
     let own = tree_weight::own_operators(modes, terms, count);

@@ -1,15 +1,15 @@
 // The sequences by number: behind each triple of a step stand as many, so the number says which triple the step has and what is left to say.
 ghost use mathlib.Core.Path.{_≡_};
-ghost use mathlib.Core.List.{[], _∷_};
+ghost use mathlib.Core.List.{[]};
 ghost use Prim.Native.Nat.{_+_, _*_, _≤_, _<_};
 ghost use lib.ListN.{length, getD};
 ghost use Rattle.best.specs.Call.{«most-to-try»};
-ghost use Rattle.best.specs.Sequences.{«lawful-triples», «sequence-count», sequences};
+ghost use Rattle.best.specs.Sequences.{«lawful-triples», «sequence-count»};
 ghost use Rattle.best.specs.code.Numbered.{«no-merge», «history-in», «triple-at», «sequence-at», Kept, MergePut};
 use crate::lawful;
 use entities::Triple;
 
-// The triple of this number, of so many entities.
+// The triple of this number, of the first `count` entities.
 fn triple_at(count: usize, number: usize) -> Triple
     requires { ⌜ (0 < count) × (number < 65536) ⌝ }
     ensures { λ r. ⌜ r ≡ triple-at count number ⌝ }
@@ -22,7 +22,7 @@ fn triple_at(count: usize, number: usize) -> Triple
     }
 }
 
-// How many triples there are of the entities after so many steps.
+// How many triples there are of the entities after the first `steps` merges.
 fn triple_count(modes: usize, steps: usize) -> usize
     requires { ⌜ (steps ≤ modes) × (modes ≤ most-to-try) ⌝ }
     ensures { λ r. ⌜ (r ≡ (2 * modes + 1 + steps) * ((2 * modes + 1 + steps) * (2 * modes + 1 + steps))) × (r < 65536) ⌝ }
@@ -31,7 +31,7 @@ fn triple_count(modes: usize, steps: usize) -> usize
     count * (count * count)
 }
 
-// The lawful triple of this number, in ascending order, after the first so many merges.
+// The lawful triple of this number, in ascending order, after the first `steps` merges.
 fn nth_lawful(modes: usize, merges: &[u16], steps: usize, number: usize) -> Triple
     requires { ⌜ Kept modes steps (now merges) ⌝ }
     ensures { λ r. ⌜ r ≡ getD (lawful-triples modes (history-in (now (merges .entry)) steps)) number no-merge ⌝ }
@@ -52,7 +52,7 @@ fn nth_lawful(modes: usize, merges: &[u16], steps: usize, number: usize) -> Trip
     Triple { x: 0, y: 0, z: 0 }
 }
 
-// How many sequences go on so many merges.
+// How many sequences the last `steps` merges have.
 pub fn sequence_count(steps: usize) -> usize
     requires { ⌜ steps ≤ most-to-try ⌝ }
     ensures { λ r. ⌜ (r ≡ sequence-count steps) × (0 < r) × (r ≤ 2520) ⌝ }

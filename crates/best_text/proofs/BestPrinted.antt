@@ -28,7 +28,7 @@ use Rattle.text.proofs.RoomSuffices.{refusal-five}
 use Rattle.best.specs.declared.BestFound.{BestFound}
 use Rattle.best.specs.declared.BestFound.the-variants.{Found, Unfound}
 use Rattle.best.specs.computed.Lightest.{lightest}
-use Rattle.best.specs.Call.{terms-in, found-among, best-found, sequence-numbers, sequence-after, Sought}
+use Rattle.best.specs.Call.{terms-given, found-among, best-found, sequence-numbers, sequence-after, Sought}
 use Rattle.best.specs.code.Numbered.{history-in}
 use Rattle.best.proofs.LightestBest.{lightest-best, found-few}
 use Rattle.best.proofs.MergesKept.{sequence-kept}
@@ -66,7 +66,7 @@ best-suffices most terms bytes = go (said terms bytes)
   where
     go : (says : Said) → best-as most (3 * most) says ≡ refusal-text Room → ⊥
     go (given modes numbers) e =
-        found-never (best-found most modes numbers (3 * most)) (lightest modes (terms-in numbers))
+        found-never (best-found most modes numbers (3 * most)) (lightest modes (terms-given numbers))
         (λ refusal f. never-five most modes numbers (3 * most) refusal (omega arith) f) e
     go (malformed line) e = omega (arith, refusal-five _ e)
 
@@ -92,11 +92,11 @@ module _ (most modes : ℕ) (numbers before : List ℕ) (r : BestFound) (after :
     pub modes-few : modes ≤ most
     modes-few = found-few most modes numbers (length before) weight reached found-is
 
-    sequence-held : history-in after modes ≡ lightest modes (terms-in numbers)
+    sequence-held : history-in after modes ≡ lightest modes (terms-given numbers)
     unfolding sequence-after written-at
     sequence-held =
-        let first = lightest modes (terms-in numbers) in
-        let all = lightest-best modes (terms-in numbers) .all in
+        let first = lightest modes (terms-given numbers) in
+        let all = lightest-best modes (terms-given numbers) .all in
         let written = sought .sequence-is ∙ ap (λ found. sequence-after found modes numbers before) e in
         ap (λ l. history-in l modes) written
         ∙ ap (history-in (sequence-numbers first ++ drop (0 + length (sequence-numbers first)) before)) (sym all)

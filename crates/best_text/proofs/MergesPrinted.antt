@@ -32,7 +32,7 @@ merges-more : (numbers : List ℕ) (done : ℕ)
 unfolding history-in merge-lines
 merges-more numbers done = rw (add-one done)
 
--- The lines of so many merges are written.
+-- The lines of the first `done` merges of `count` are written.
 abbrev pub PuttingMerges : ℕ → ℕ → List ℕ → List ℕ → List ℕ → ℕ → ℕ → Type 0
 PuttingMerges start count numbers before after at done = Pieces (λ n. merge-lines (history-in numbers n)) 63 start count before after at done
 

@@ -5,7 +5,6 @@ use mathlib.Core.List.{List, [], _∷_, _++_, map}
 use Prim.Native.Nat.{ℕ, _*_, _≤_}
 use Rattle.refusal.specs.declared.Refusal.the-variants.{Malformed, Room}
 use Rattle.entities.specs.declared.Triple.{Triple}
-use Rattle.entities.specs.Limits.{most-terms}
 use Rattle.fields.specs.Texts.{spelt}
 use Rattle.fields.specs.Decimal.{decimal}
 use Rattle.terms.specs.Job.{Job}
@@ -14,7 +13,7 @@ use Rattle.obeying.specs.Obeying.{completed, merge-by-hand}
 use Rattle.best.specs.declared.BestFound.{BestFound}
 use Rattle.best.specs.declared.BestFound.the-variants.{Found, Unfound}
 use Rattle.best.specs.computed.Lightest.{lightest}
-use Rattle.best.specs.Call.{most-to-try, terms-in, best-found}
+use Rattle.best.specs.Call.{terms-given, best-found}
 use Rattle.terms_text.specs.Input.{Said, given, malformed, said}
 use Rattle.text.specs.Output.{line-of, refusal-text}
 
@@ -37,7 +36,7 @@ found-printed (Unfound refusal) first = refusal-text refusal
 
 -- The best of what a text says: 18 before any other number.
 unfoldable pub best-as : ℕ → ℕ → Said → List ℕ
-best-as most room (given modes numbers) = found-printed (best-found most modes numbers room) (lightest modes (terms-in numbers))
+best-as most room (given modes numbers) = found-printed (best-found most modes numbers room) (lightest modes (terms-given numbers))
 best-as most room (malformed line) = refusal-text (Malformed line)
 
 -- In room for the sequence of the most modes.

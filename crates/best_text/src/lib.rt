@@ -3,7 +3,7 @@ ghost use mathlib.Core.Path.{_≡_};
 ghost use Prim.Native.Nat.{_*_, _≤_};
 ghost use lib.ListN.{length};
 ghost use Rattle.entities.specs.Limits.{«most-terms», «row-width»};
-ghost use Rattle.terms_text.specs.Input.{given, said};
+ghost use Rattle.terms_text.specs.Input.{given};
 ghost use Rattle.text.specs.Running.{«printed-room»};
 ghost use Rattle.text.specs.Output.{Prints};
 ghost use Rattle.text.specs.code.Printing.{Puts};

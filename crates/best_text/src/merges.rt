@@ -20,7 +20,7 @@ fn put_merge(out: &mut [u8], at: usize, merge: Triple) -> usize
     decimal::put_field(out, second, merge.z as u64, 10)
 }
 
-// The lines of so many merges written at this place; the place after them.
+// The lines of the first `modes` merges written at this place; the place after them.
 pub fn put_merges(out: &mut [u8], start: usize, modes: usize, sequence: &[u16]) -> usize
     requires { ⌜ (modes ≤ most-to-try) × (3 * modes ≤ length (now sequence)) × (start + 63 * modes ≤ length (now out)) ⌝ }
     ensures { λ r. ⌜ (r ≡ start + length (merge-lines (history-in (now (sequence .entry)) modes))) × (r ≤ start + 63 * modes) ⌝ }

@@ -18,6 +18,7 @@ use Rattle.terms.specs.Rows.{terms-of}
 use Rattle.reduction.specs.Reduction.{rewriting, dropped, is-there, live, reduction, told-reduction}
 use Rattle.reduction.specs.code.Promises.{Reduced}
 use Rattle.reduction.proofs.AsTold.{as-told}
+use Rattle.reduction.proofs.ReducedCounts.{reduced-terms}
 use Rattle.reduction.proofs.Unchanged.{unchanged}
 use Rattle.tree_weight.specs.Operators.{surviving}
 use Rattle.tree_weight.specs.code.Promises.{SurvivingRows, OperatorRows}
@@ -56,10 +57,10 @@ module _ (bound : ℕ) (fits : bound ≤ absent) where
   unfolding told-reduction
   once terms = as-told Keep nothing absent (map (surviving bound) terms) ∙ ap (firsts alike) (rows-settled terms)
 
-pub operator-rows : (count : ℕ) (rows own after : List ℕ) → SurvivingRows count rows own → Reduced Keep nothing absent count own after
-    → OperatorRows count rows after
-operator-rows count rows own after survive reduced = record {
+pub operator-rows : (count : ℕ) (rows own after : List ℕ) (drops : ℕ) → SurvivingRows count rows own
+    → Reduced Keep nothing absent count own after drops → OperatorRows count rows after
+operator-rows count rows own after drops survive reduced = record {
   held = reduced .held;
   terms = λ bound fits below.
-      ap live (reduced .terms ∙ ap (reduction Keep nothing absent) (survive .terms bound below)) ∙ once bound fits (terms-of 8 count rows);
+      ap live (reduced-terms Keep nothing absent count own after drops reduced ∙ ap (reduction Keep nothing absent) (survive .terms bound below)) ∙ once bound fits (terms-of 8 count rows);
 }

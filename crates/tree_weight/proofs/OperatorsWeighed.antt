@@ -6,7 +6,6 @@ use mathlib.Core.Logic.{⊎-elim}
 use Prim.Native.Nat.{ℕ, _*_, _≤_}
 use native.Mathlib.Omega.{arith}
 use lib.Dec.{ltb}
-use Rattle.lists.specs.Counting.{sum}
 use Rattle.lists.specs.Members.{every, keep, alike, firsts}
 use Rattle.lists.specs.Ranges.{ascends}
 use Rattle.lists.proofs.Alike.{alike-self, alike-same}
@@ -67,10 +66,10 @@ module _ (modes count : ℕ) (rows : List ℕ) (good : GoodRows modes count rows
 
 module _ (modes count : ℕ) (rows own : List ℕ) (few : modes ≤ 256) (made : OperatorRows count rows own)
     (below : every (every (λ index. ltb index (2 * modes))) (terms-of 8 count rows) ≡ true) where
-  pub operators-weigh : (table : List ℕ) → listed-weight modes table (terms-of 8 count own) ≡ tree-weight modes table (terms-of 8 count rows)
+  pub operators-weigh : (table : List ℕ) → listed-weight modes table (terms-of 9 count own) ≡ tree-weight modes table (terms-of 8 count rows)
   unfolding listed-weight tree-weight operators
   operators-weigh table =
-      sym (live-weighs (row-weight modes table) (empty-weighs modes table) (terms-of 8 count own))
+      sym (live-weighs (row-weight modes table) (empty-weighs modes table) (terms-of 9 count own))
       ∙ ap (sum-of (row-weight modes table)) (made .terms (2 * modes) (omega arith) below)
       ∙ firsts-live (row-weight modes table) (empty-weighs modes table) (map (surviving (2 * modes)) (terms-of 8 count rows))
 
@@ -87,7 +86,7 @@ module _ (modes count : ℕ) (rows own : List ℕ) (few : modes ≤ 256) (made :
     few = short;
     held = made .held;
     below =
-        live-all (every (λ index. ltb index (2 * modes))) refl (terms-of 8 count own)
+        live-all (every (λ index. ltb index (2 * modes))) refl (terms-of 9 count own)
         (rw (made .terms (2 * modes) (omega arith) below)
         (every-first (every (λ index. ltb index (2 * modes))) alike [] (live (map (surviving (2 * modes)) (terms-of 8 count rows)))
         (every-kept (every (λ index. ltb index (2 * modes))) is-there (map (surviving (2 * modes)) (terms-of 8 count rows)) (survive-below (terms-of 8 count rows)))));

@@ -52,14 +52,14 @@ pub row-start : (modes : ℕ) (table s : List ℕ) → row-weight modes table s 
 unfolding row-weight
 row-start modes table s = rw (nodes-start modes)
 
--- Along the rows: the weight of those passed and of those ahead is the weight of all.
+-- Along the work rows: the weight of those passed and of those ahead is the weight of all.
 module _ (modes : ℕ) (table : List ℕ) (count place : ℕ) (s : List ℕ) where
   pub tree-step : place < count
-      → listed-weight modes table (terms-of 8 (count - place) (drop (8 * place) s))
-      ≡ row-weight modes table (term (take 8 (drop (8 * place) s))) + listed-weight modes table (terms-of 8 (count - (place + 1)) (drop (8 * (place + 1)) s))
+      → listed-weight modes table (terms-of 9 (count - place) (drop (9 * place) s))
+      ≡ row-weight modes table (term (take 9 (drop (9 * place) s))) + listed-weight modes table (terms-of 9 (count - (place + 1)) (drop (9 * (place + 1)) s))
   unfolding listed-weight sum
-  tree-step h = rw (terms-step 8 count place s h)
+  tree-step h = rw (terms-step 9 count place s h)
 
-  pub tree-end : count ≤ place → listed-weight modes table (terms-of 8 (count - place) (drop (8 * place) s)) ≡ 0
+  pub tree-end : count ≤ place → listed-weight modes table (terms-of 9 (count - place) (drop (9 * place) s)) ≡ 0
   unfolding listed-weight sum
-  tree-end h = rw (terms-end 8 count place s h)
+  tree-end h = rw (terms-end 9 count place s h)

@@ -9,7 +9,7 @@ use native.Mathlib.Omega.{arith}
 use borrow.Author.Tests.{eqb-true, eqb-false, eq-eqb, ne-eqb, lt-ltb, le-leb, leb-true}
 use lib.Dec.{eqb, ltb, leb}
 use lib.ListN.{length, getD, take, drop, set, replicate, length-append, length-drop, length-set}
-use lib.Seq.{take-suc, length-take-le, take-all, take-take, take-at, getD-at, getD-take, getD-drop, drop-set-add}
+use lib.Seq.{take-suc, length-take-le, take-all, take-take, take-at, getD-at, getD-take, getD-drop, getD-set-other, drop-set-add}
 use Rattle.lists.specs.Counting.{same, occurrences}
 use Rattle.lists.specs.Members.{every, keep}
 use Rattle.lists.specs.Ranges.{listed, ascends}
@@ -107,15 +107,17 @@ last-of rest front count v fits e =
 pub record Walking (given row : List ℕ) (count at : ℕ) : Type 0 where
   pub inside : at ≤ length given
   pub fewer : count ≤ at
-  pub whole : length row ≡ 8
+  pub whole : length row ≡ 9
+  pub no-count : getD row 8 0 ≡ 0
   pub left : (bound : ℕ) → every (λ index. ltb index bound) given ≡ true → take count (drop 1 row) ≡ surviving bound (take at given)
 
-pub walk-starts : (given row : List ℕ) → length row ≡ 8 → Walking given row 0 0
+pub walk-starts : (given row : List ℕ) → length row ≡ 9 → getD row 8 0 ≡ 0 → Walking given row 0 0
 unfolding surviving occurrences
-walk-starts given row whole = record {
+walk-starts given row whole no-count = record {
   inside = omega arith;
   fewer = omega arith;
   whole = whole;
+  no-count = no-count;
   left = λ bound below. sym (keep-none-within (λ index. odd (occurrences index [])) 0 bound (λ v low high. refl));
 }
 
@@ -200,6 +202,7 @@ module _ (given row : List ℕ) (count at : ℕ) (few : length given < 8) (up : 
             inside = omega (arith, more);
             fewer = omega (arith, walk .fewer);
             whole = length-set row (count + 1) here ∙ walk .whole;
+            no-count = getD-set-other row (count + 1) 8 here 0 (λ e. absurd (omega (arith, walk .fewer))) ∙ walk .no-count;
             left = λ bound below. stayed bound below other;
           })
 
@@ -214,6 +217,7 @@ module _ (given row : List ℕ) (count at : ℕ) (few : length given < 8) (up : 
             inside = omega (arith, more);
             fewer = omega (arith, walk .fewer);
             whole = walk .whole;
+            no-count = walk .no-count;
             left = λ bound below. cancelled bound below some last-one;
           })
 
@@ -226,15 +230,17 @@ walk-ends given (first ∷ rest) count at few walk over some = record {
   whole = walk .whole;
   within = omega (arith, walk .fewer, walk .inside);
   zeros = λ none. absurd (omega (arith, some, none));
+  no-count = walk .no-count;
   new-term = λ bound below. walk .left bound below ∙ ap (surviving bound) (take-all at given over);
 }
 
 -- Where nothing is left, a row of zeros is that.
-pub walk-ends-empty : (given row : List ℕ) (at : ℕ) → Walking given row 0 at → length given ≤ at → SurvivingRow given (replicate 8 0)
+pub walk-ends-empty : (given row : List ℕ) (at : ℕ) → Walking given row 0 at → length given ≤ at → SurvivingRow given (replicate 9 0)
 unfolding term
 walk-ends-empty given row at walk over = record {
   whole = refl;
   within = omega arith;
   zeros = λ none. refl;
+  no-count = refl;
   new-term = λ bound below. walk .left bound below ∙ ap (surviving bound) (take-all at given over);
 }

@@ -6,7 +6,7 @@ ghost use lib.Dec.{ltb};
 ghost use lib.ListN.{length};
 ghost use Rattle.lists.specs.Members.{every};
 ghost use Rattle.refusal.specs.Numbers.{Tells};
-ghost use Rattle.entities.specs.Limits.{«most-modes», «row-width»};
+ghost use Rattle.entities.specs.Limits.{«most-modes», «row-width», «work-width»};
 ghost use Rattle.terms.specs.Rows.{«terms-of»};
 ghost use Rattle.tree_weight.specs.code.Promises.{Places, GoodRows, RowsBelow, «own-weight», OperatorsOf};
 ghost use Rattle.tree_weight.specs.Weight.{«node-letter», «row-weight», «listed-weight», «tree-weight», «tree-weighed», «weight-numbers»};
@@ -71,24 +71,29 @@ fn row_weight(modes: usize, tree: &[u16], places: &[usize], term: &[u16]) -> u64
     sum
 }
 
-// The weight of the first rows, each counted.
+// The weight of the first work rows, each counted.
 fn rows_weight(modes: usize, tree: &[u16], places: &[usize], terms: &[u16], count: usize) -> u64
     requires { ⌜ Places (now tree) (now places) ⌝ }
     requires { ⌜ (length (now tree) ≡ 3 * modes) × (modes ≤ most-modes) ⌝ }
     requires { ⌜ RowsBelow modes count (now terms) ⌝ }
-    ensures { λ r. ⌜ r ≡ listed-weight modes (now (tree .entry)) (terms-of row-width count (now (terms .entry))) ⌝ }
+    ensures { λ r. ⌜ r ≡ listed-weight modes (now (tree .entry)) (terms-of work-width count (now (terms .entry))) ⌝ }
 {
     let mut sum: u64 = 0;
     let mut place = 0;
     while place < count {
-        sum += row_weight(modes, tree, places, row::term_at(terms, place));
+        sum += row_weight(
+            modes,
+            tree,
+            places,
+            row::term_at(terms, row::WORK_WIDTH, place),
+        );
         place += 1;
     }
     sum
 }
 
-// The operators of so many good rows, in an array of the caller's own: they are found once and weighed in as many trees as the caller has.
-pub fn own_operators(modes: usize, terms: &[u16], count: usize) -> [u16; 16384]
+// The operators of the first `count` rows, all good, in an array of the caller's own: they are found once and weighed in as many trees as the caller has.
+pub fn own_operators(modes: usize, terms: &[u16], count: usize) -> [u16; 18432]
     requires { ⌜ modes ≤ most-modes ⌝ }
     requires { ⌜ GoodRows modes count (now terms) ⌝ }
     ensures { λ r. ⌜ OperatorsOf modes count (now (terms .entry)) r ⌝ }
@@ -107,7 +112,7 @@ pub fn operators_weight(modes: usize, tree: &[u16], own: &[u16], count: usize) -
     rows_weight(modes, tree, &places, own, count)
 }
 
-// The weight of the operators of so many good rows in an accepted tree.
+// The weight of the operators of the first `count` rows, all good, in an accepted tree.
 fn accepted_weight(modes: usize, tree: &[u16], terms: &[u16], count: usize) -> u64
     requires { ⌜ (length (now tree) ≡ 3 * modes) × (modes ≤ most-modes) ⌝ }
     requires { ⌜ GoodRows modes count (now terms) ⌝ }

@@ -4,7 +4,7 @@ ghost use mathlib.Core.Bool.{true};
 ghost use Prim.Native.Nat.{_+_, _*_, _≤_, _<_};
 ghost use lib.ListN.{length};
 ghost use Rattle.lists.specs.Ranges.{ascends};
-ghost use Rattle.entities.specs.Limits.{«most-terms», «row-width»};
+ghost use Rattle.entities.specs.Limits.{«most-terms», «row-width», «work-width»};
 ghost use Rattle.tree_weight.specs.code.Promises.{AscendingRows, IndexPut, SurvivingRow, SurvivingRows, OperatorRows};
 use entities::Triple;
 use entities::codes;
@@ -27,12 +27,12 @@ fn put_index(row: &mut [u16], count: usize, index: u16) -> usize
     count + 1
 }
 
-// The surviving indices of a term, as a row: none descends, so equal ones stand beside each other.
-fn surviving_row(term: &[u16]) -> [u16; 8]
+// The surviving indices of a term, as a work row that counts none: no index descends, so equal ones stand beside each other.
+fn surviving_row(term: &[u16]) -> [u16; 9]
     requires { ⌜ (length (now term) < row-width) × (ascends (now term) ≡ true) ⌝ }
     ensures { λ r. ⌜ SurvivingRow (now (term .entry)) r ⌝ }
 {
-    let mut row = [0u16; 8];
+    let mut row = [0u16; 9];
     let mut count: usize = 0;
     let mut at = 0;
     while at < term.len() {
@@ -41,22 +41,22 @@ fn surviving_row(term: &[u16]) -> [u16; 8]
     }
     // cancelled indices may still stand behind the term; a row of none is zeros
     if count == 0 {
-        return [0u16; 8];
+        return [0u16; 9];
     }
     row[0] = count as u16;
     row
 }
 
-// The surviving indices of each of the first rows, as rows over the front of other numbers.
+// The surviving indices of each of the first rows, as work rows over the front of other numbers.
 fn put_surviving(terms: &[u16], count: usize, own: &mut [u16])
     requires { ⌜ AscendingRows count (now terms) ⌝ }
-    requires { ⌜ row-width * count ≤ length (now own) ⌝ }
+    requires { ⌜ work-width * count ≤ length (now own) ⌝ }
     ensures { λ r. ⌜ SurvivingRows count (now (terms .entry)) (now (own .exit)) ⌝ }
 {
     let mut place = 0;
     while place < count {
-        let row = surviving_row(row::term_at(terms, place));
-        row::put_row(own, place, &row);
+        let row = surviving_row(row::term_at(terms, row::WIDTH, place));
+        row::put_row(own, row::WORK_WIDTH, place, &row);
         place += 1;
     }
 }
@@ -64,7 +64,7 @@ fn put_surviving(terms: &[u16], count: usize, own: &mut [u16])
 // The operators of the first rows, over the front of other numbers. Equal rows become one as in a reduction that keeps every row, here to a number that stands in none.
 fn put_operators(terms: &[u16], count: usize, own: &mut [u16])
     requires { ⌜ AscendingRows count (now terms) ⌝ }
-    requires { ⌜ row-width * count ≤ length (now own) ⌝ }
+    requires { ⌜ work-width * count ≤ length (now own) ⌝ }
     ensures { λ r. ⌜ OperatorRows count (now (terms .entry)) (now (own .exit)) ⌝ }
 {
     put_surviving(terms, count, own);
@@ -77,11 +77,11 @@ fn put_operators(terms: &[u16], count: usize, own: &mut [u16])
 }
 
 // The operators of the first rows, in an array of the caller's own; a row that is no new one is zeros.
-pub fn operators(terms: &[u16], count: usize) -> [u16; 16384]
+pub fn operators(terms: &[u16], count: usize) -> [u16; 18432]
     requires { ⌜ AscendingRows count (now terms) ⌝ }
-    ensures { λ r. ⌜ (length r ≡ row-width * most-terms) × OperatorRows count (now (terms .entry)) r ⌝ }
+    ensures { λ r. ⌜ (length r ≡ work-width * most-terms) × OperatorRows count (now (terms .entry)) r ⌝ }
 {
-    let mut own = [0u16; 16384];
+    let mut own = [0u16; 18432];
     put_operators(terms, count, &mut own);
     own
 }

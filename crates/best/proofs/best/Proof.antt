@@ -1,5 +1,5 @@
 -- Each test in the order of the refusals.
-use mathlib.Core.Path.{_≡_, refl, _∙_, sym}
+use mathlib.Core.Path.{_∙_, sym}
 use native.Mathlib.Omega.{arith}
 use borrow.Author.Needs.{needs}
 use Rattle.best.proofs.BestAnswers.{no-modes, many-modes, bad-terms, no-room, finds}

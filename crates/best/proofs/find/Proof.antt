@@ -20,7 +20,7 @@ own-operators-requires : tie.Need-own-operators-requires
 own-operators-requires c κs =
     let start = c .before .before in
     let rows = accepted (start .args .modes) (start .args .terms .now) (start .args .count) (start .pre .0) in
-    (omega arith, record { few = rows .at-most; held = rows .held; good = rows .good })
+    (omega arith, record { few = rows .at-most; held = rows .given .held; good = rows .good })
 
 slice-aggregate-search : tie.Need-slice-aggregate-search
 slice-aggregate-search c = search needs

@@ -1,7 +1,7 @@
 -- How the code goes through the sequences: the k-th is found from k, step by step, and its merges are kept as numbers, x, y, z of each.
 use mathlib.Core.List.{List, [], _∷_}
 use mathlib.Core.Path.{_≡_}
-use Prim.Native.Nat.{ℕ, zero, suc, _+_, _*_, _/_, _%_, _≤_, _<_}
+use Prim.Native.Nat.{ℕ, zero, suc, _+_, _*_, _/_, _%_, _≤_}
 use lib.Dec.{eqb}
 use lib.ListN.{length, getD, take, drop}
 use Rattle.lists.specs.Least.{least}
@@ -21,16 +21,16 @@ no-merge = record { x = 0; y = 0; z = 0 }
 unfoldable pub merge-in : List ℕ → ℕ → Triple
 merge-in numbers step = record { x = getD numbers (3 * step) 0; y = getD numbers (3 * step + 1) 0; z = getD numbers (3 * step + 2) 0 }
 
--- The first so many merges, newest first.
+-- The first `steps` merges that the numbers say, newest first.
 unfoldable pub history-in : List ℕ → ℕ → List Triple
 history-in numbers zero = []
 history-in numbers (suc step) = merge-in numbers step ∷ history-in numbers step
 
--- The k-th triple of so many entities in ascending order.
+-- The k-th triple of the first `count` entities in ascending order.
 unfoldable pub triple-at : ℕ → ℕ → Triple
 triple-at count k = record { x = k / count / count; y = k / count % count; z = k % count }
 
--- The k-th sequence that goes on so many merges from a history: each step has the same number of ways on behind each of its triples.
+-- The k-th sequence that begins with a history and goes on with `steps` merges: each step has the same number of ways on behind each of its triples.
 unfoldable pub sequence-at : ℕ → ℕ → List Triple → ℕ → List Triple
 sequence-at modes zero history k = history
 sequence-at modes (suc steps) history k =
@@ -54,12 +54,12 @@ pub record Led (modes count : ℕ) (own : List ℕ) (k : ℕ) (lead : Lead) (num
   pub reached-is : lead .reached ≡ lead-reached (weight-by modes count own) [] (sequences modes) k
   pub front-is : take (3 * modes) numbers ≡ sequence-numbers (lead-first (weight-by modes count own) [] (sequences modes) k)
 
--- Behind so many numbers nothing changed.
+-- Behind the first `front` numbers nothing changed.
 pub record FrontOnly (front : ℕ) (before after : List ℕ) : Type 0 where
   pub long : length after ≡ length before
   pub behind : drop front after ≡ drop front before
 
--- The numbers of so many merges put over the front of others.
+-- The numbers of the first `modes` merges put over the front of others.
 pub record NumbersPut (modes : ℕ) (merges before after : List ℕ) : Type 0 where
   pub front : take (3 * modes) after ≡ sequence-numbers (history-in merges modes)
   pub rest : FrontOnly (3 * modes) before after

@@ -1,5 +1,5 @@
 -- The operators of good rows are rows below 2n, and weigh what the tree weight counts.
-use Rattle.tree_weight.specs.code.Promises.{own-weight, OperatorsOf}
+use Rattle.tree_weight.specs.code.Promises.{own-weight}
 use Rattle.tree_weight.proofs.OperatorsWeighed.{good-ascending, good-below, operators-below, operators-weigh}
 use Rattle.tree_weight.proofs.own_operators.Statement.{statement}
 use Rattle.tree_weight.proofs.own_operators.Tie as tie

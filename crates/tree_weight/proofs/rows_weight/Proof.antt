@@ -18,26 +18,26 @@ abbrev Inv-loop : tie.InvT-loop
 Inv-loop modes tree places terms count sum₀ place₀ sum place =
     (place ≤ count)
     × (sum ≤ 256 * place)
-    × (sum + listed-weight modes tree (terms-of 8 (count - place) (drop (8 * place) terms)) ≡ listed-weight modes tree (terms-of 8 count terms))
+    × (sum + listed-weight modes tree (terms-of 9 (count - place) (drop (9 * place) terms)) ≡ listed-weight modes tree (terms-of 9 count terms))
 
 abbrev μ-loop : tie.MeasureT-loop
 μ-loop modes tree places terms count sum₀ place₀ sum place = count - place
 
 loop-holds : tie.Need-loop-holds Inv-loop μ-loop
-loop-holds c = (omega arith, omega arith, zero-add _ ∙ sym (ap (listed-weight _ _) (terms-start 8 _ _)))
+loop-holds c = (omega arith, omega arith, zero-add _ ∙ sym (ap (listed-weight _ _) (terms-start 9 _ _)))
 
 term-at-requires : tie.Need-term-at-requires Inv-loop μ-loop
 term-at-requires c κs =
     let here = c .before in
     let rows = here .before .before .before .before .pre .1 .1 in
-    (omega (arith, rows .held .room), rows .held .within (here .loop .place) (omega arith))
+    (omega (arith, rows .held .room), omega (arith, rows .held .within (here .loop .place) (omega arith)))
 
 row-weight-requires : tie.Need-row-weight-requires Inv-loop μ-loop
 row-weight-requires c κs =
     let here = c .before .before in
     let start = here .before .before .before .before in
     let args = start .args in
-    let below = every-term-at (every (λ index. ltb index (2 * args .modes))) 8 (args .count) (here .loop .place) (args .terms .now) (start .pre .1 .1 .below) (omega arith) in
+    let below = every-term-at (every (λ index. ltb index (2 * args .modes))) 9 (args .count) (here .loop .place) (args .terms .now) (start .pre .1 .1 .below) (omega arith) in
     (start .pre .0, (start .pre .1 .0 .0, rw (c .term-at .ensures) below))
 
 add-sum : tie.Need-add-sum Inv-loop μ-loop

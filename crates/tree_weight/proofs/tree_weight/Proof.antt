@@ -40,7 +40,7 @@ accepted-weight-requires c κs =
     let counted : checked (start .args .modes) terms ≡ Good (c .before .count .given .0 .0) = cc in
     let parts = accepted-parts 256 (start .args .modes) tree told in
     let rows = accepted (start .args .modes) terms (c .before .count .given .0 .0) counted in
-    ((parts .whole, parts .few), record { few = rows .at-most; held = rows .held; good = rows .good })
+    ((parts .whole, parts .few), record { few = rows .at-most; held = rows .given .held; good = rows .good })
 
 returns : tie.Need-returns
 unfolding tree-weighed weighed-tree

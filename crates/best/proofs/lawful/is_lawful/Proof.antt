@@ -1,5 +1,5 @@
 -- Three open entities first, then that they are paired.
-use mathlib.Core.Path.{_≡_, _∙_, sym}
+use mathlib.Core.Path.{_∙_, sym}
 use borrow.Author.Needs.{needs}
 use borrow.Author.Tests.{not-true, not-false}
 use Rattle.history.specs.computed.Pairs.{is-lawful}

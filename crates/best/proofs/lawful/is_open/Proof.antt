@@ -1,5 +1,5 @@
 -- The merges from the newest back: the first that has the entity, as its parent or as one of its three, decides; a leaf that none has is open.
-use mathlib.Core.Path.{_≡_, refl, ap, _∙_, sym}
+use mathlib.Core.Path.{_≡_, refl, _∙_, sym}
 use Prim.Native.Nat.{_+_, _-_, _≤_}
 use native.Mathlib.Omega.{arith}
 use borrow.Author.Needs.{needs}

@@ -1,9 +1,9 @@
 -- The table put is the tree of the merges, so what the operators weigh in it is the sequence's weight.
-use mathlib.Core.Path.{_≡_, ap, _∙_}
+use mathlib.Core.Path.{ap, _∙_}
 use Prim.Native.Nat.{_*_}
 use native.Mathlib.Omega.{arith}
 use borrow.Author.Needs.{needs}
-use lib.ListN.{length, length-take}
+use lib.ListN.{length-take}
 use Rattle.tree_weight.specs.code.Promises.{own-weight}
 use Rattle.best.proofs.TreeKept.{tree-kept}
 use Rattle.best.proofs.search.weigh.Statement.{statement}

@@ -1,5 +1,5 @@
 -- The merges put are the sequence of the list, lawful and all, so they can be weighed.
-use mathlib.Core.Path.{_≡_, ap, _∙_}
+use mathlib.Core.Path.{ap, _∙_}
 use native.Mathlib.Omega.{arith}
 use borrow.Author.Needs.{needs}
 use Rattle.best.specs.code.Numbered.{weight-by}

@@ -1,5 +1,5 @@
--- Those from here on, without so many of them, begin with the triple that is sought.
-use mathlib.Core.Path.{_≡_, refl, ap, _∙_, sym}
+-- The lawful triples from here on, without the first `passes` of them, begin with the triple that is sought.
+use mathlib.Core.Path.{_≡_, ap, _∙_, sym}
 use mathlib.Core.Logic.{⊎-elim}
 use Prim.Native.Nat.{_+_, _-_, _≤_}
 use native.Mathlib.Omega.{arith}

@@ -7,7 +7,7 @@ use native.Mathlib.Numerals.{add-one}
 use native.Mathlib.Nat.{sub-zero}
 use borrow.Author.Needs.{needs}
 use lib.ListN.{length}
-use Rattle.best.specs.code.Numbered.{history-in, sequence-at, Kept}
+use Rattle.best.specs.code.Numbered.{history-in, sequence-at}
 use Rattle.best.proofs.SequenceNumbers.{sequence-step}
 use Rattle.best.proofs.sequence.put_sequence.Statement.{statement}
 use Rattle.best.proofs.sequence.put_sequence.Tie as tie

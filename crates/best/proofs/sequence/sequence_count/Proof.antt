@@ -1,7 +1,6 @@
 -- The product over the steps, worked out for the few that there can be.
 use mathlib.Core.Path.{_≡_, refl}
 use native.Mathlib.Omega.{arith}
-use borrow.Author.Needs.{needs}
 use Rattle.best.specs.Sequences.{step-count, sequence-count}
 use Rattle.best.proofs.sequence.sequence_count.Statement.{statement}
 use Rattle.best.proofs.sequence.sequence_count.Tie as tie

@@ -44,10 +44,9 @@ slice-aggregate-put-row c = search needs
 put-row-requires : tie.Need-put-row-requires Inv-loop μ-loop
 put-row-requires c κs =
     let here = c .before .before .before .before .before in
-    let start = here .before .before .before in (
-      c .before .before .surviving-row .ensures .whole,
-      own-room (start .args .count) (start .args .terms .now) (start .args .own .now) (here .loop .own) (here .loop .place) (here .loop .inv) (omega arith) (start .pre .1),
-    )
+    let start = here .before .before .before in
+    rw (c .before .before .surviving-row .ensures .whole)
+    (own-room (start .args .count) (start .args .terms .now) (start .args .own .now) (here .loop .own) (here .loop .place) (here .loop .inv) (omega arith) (start .pre .1))
 
 add-place : tie.Need-add-place Inv-loop μ-loop
 add-place c = search needs

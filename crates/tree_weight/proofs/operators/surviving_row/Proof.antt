@@ -15,7 +15,7 @@ abbrev μ-loop : tie.MeasureT-loop
 μ-loop term row₀ count₀ at₀ row count at = length term - at
 
 loop-holds : tie.Need-loop-holds Inv-loop μ-loop
-loop-holds c = walk-starts (c .before .args .term .now) _ refl
+loop-holds c = walk-starts (c .before .args .term .now) _ refl refl
 
 slice-aggregate-put-index : tie.Need-slice-aggregate-put-index Inv-loop μ-loop
 slice-aggregate-put-index c = sym (c .before .before .loop .inv .whole)
