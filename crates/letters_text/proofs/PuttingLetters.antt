@@ -1,7 +1,7 @@
 -- The lines of rows written one behind the other.
 use mathlib.Core.Path.{_≡_, refl, ap, _∙_}
 use mathlib.Core.List.{List, [], _∷_, _++_, flatMap, append-assoc, append-nil}
-use Prim.Native.Nat.{ℕ, zero, suc, _+_, _-_, _*_, _<_, _≤_}
+use Prim.Native.Nat.{ℕ, suc, _+_, _-_, _*_, _<_, _≤_}
 use native.Mathlib.Nat.{zero-add, add-zero}
 use native.Mathlib.Omega.{arith}
 use lib.ListN.{length, take, drop}
@@ -41,25 +41,25 @@ module _ (triple : Triple) where
 
   -- The lines of the first rows are written.
   abbrev pub PuttingLetters : ℕ → List ℕ → List ℕ → List ℕ → ℕ → ℕ → Type 0
-  PuttingLetters count rows before after at place = Pieces (λ n. lines-text triple 0 (terms-of 8 n rows)) 8 0 count before after at place
+  PuttingLetters count rows before after at place = Pieces (λ n. lines-text triple 0 (terms-of 9 n rows)) 8 0 count before after at place
 
   module _ (count : ℕ) (rows before : List ℕ) (room : 0 + 8 * count ≤ length before) where
     pub letters-start : PuttingLetters count rows before before 0 0
     unfolding terms-of rows-of letter-lines flatMap
-    letters-start = pieces-start (λ n. lines-text triple 0 (terms-of 8 n rows)) 8 0 count before room refl
+    letters-start = pieces-start (λ n. lines-text triple 0 (terms-of 9 n rows)) 8 0 count before room refl
 
     module _ (after : List ℕ) (at place : ℕ) (p : PuttingLetters count rows before after at place) where
       pub letters-go : (next : List ℕ) (end : ℕ) → place < count
-          → Wrote at (lines-text triple place (term (take 8 (drop (8 * place) rows)) ∷ [])) after next end → end ≤ at + 8 → length next ≡ length after
+          → Wrote at (lines-text triple place (term (take 9 (drop (9 * place) rows)) ∷ [])) after next end → end ≤ at + 8 → length next ≡ length after
           → PuttingLetters count rows before next end (place + 1)
       letters-go next end h w near same =
-          let row = term (take 8 (drop (8 * place) rows)) in
-          let more : lines-text triple 0 (terms-of 8 (place + 1) rows) ≡ lines-text triple 0 (terms-of 8 place rows) ++ lines-text triple place (row ∷ []) =
-          ap (lines-text triple 0) (terms-more 8 place rows)
-          ∙ ap (flatMap (λ line. line)) (lines-joined 0 (terms-of 8 place rows) (row ∷ []))
-          ∙ flatMap-joined (λ line. line) (letter-lines triple 0 (terms-of 8 place rows)) (letter-lines triple (0 + length (terms-of 8 place rows)) (row ∷ []))
-          ∙ ap (λ n. lines-text triple 0 (terms-of 8 place rows) ++ lines-text triple n (row ∷ [])) (zero-add _ ∙ length-terms 8 place rows) in
-          pieces-go (λ n. lines-text triple 0 (terms-of 8 n rows)) 8 0 count before room after at place p next (lines-text triple place (row ∷ [])) end h more w near same
+          let row = term (take 9 (drop (9 * place) rows)) in
+          let more : lines-text triple 0 (terms-of 9 (place + 1) rows) ≡ lines-text triple 0 (terms-of 9 place rows) ++ lines-text triple place (row ∷ []) =
+          ap (lines-text triple 0) (terms-more 9 place rows)
+          ∙ ap (flatMap (λ line. line)) (lines-joined 0 (terms-of 9 place rows) (row ∷ []))
+          ∙ flatMap-joined (λ line. line) (letter-lines triple 0 (terms-of 9 place rows)) (letter-lines triple (0 + length (terms-of 9 place rows)) (row ∷ []))
+          ∙ ap (λ n. lines-text triple 0 (terms-of 9 place rows) ++ lines-text triple n (row ∷ [])) (zero-add _ ∙ length-terms 9 place rows) in
+          pieces-go (λ n. lines-text triple 0 (terms-of 9 n rows)) 8 0 count before room after at place p next (lines-text triple place (row ∷ [])) end h more w near same
 
-      pub letters-end : count ≤ place → Wrote 0 (lines-text triple 0 (terms-of 8 count rows)) before after at
-      letters-end h = pieces-end (λ n. lines-text triple 0 (terms-of 8 n rows)) 8 0 count before room after at place p h
+      pub letters-end : count ≤ place → Wrote 0 (lines-text triple 0 (terms-of 9 count rows)) before after at
+      letters-end h = pieces-end (λ n. lines-text triple 0 (terms-of 9 n rows)) 8 0 count before room after at place p h

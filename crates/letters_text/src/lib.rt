@@ -4,11 +4,10 @@ ghost use mathlib.Core.List.{List};
 ghost use Prim.Native.Nat.{ℕ, _*_, _≤_, _<_};
 ghost use lib.ListN.{length};
 ghost use Rattle.entities.specs.Limits.{«most-modes», «most-terms», «row-width»};
-ghost use Rattle.terms.specs.Rows.{«terms-of»};
 ghost use Rattle.terms.specs.Job.{Job, «job-of»};
 ghost use Rattle.terms.specs.Good.{checked};
 ghost use Rattle.terms.specs.declared.checking.Checked.the-variants.{Good};
-ghost use Rattle.terms.specs.code.Held.{Held};
+ghost use Rattle.terms.specs.code.Held.{Spread};
 ghost use Rattle.merging.specs.code.State.{«history-of»};
 ghost use Rattle.obeying.specs.Obeying.{obeyed};
 ghost use Rattle.terms_text.specs.Jobs.{request};
@@ -30,7 +29,8 @@ use merging::asked;
 use merging::run::Run;
 use obeying::Verdict;
 use refusal::Refusal;
-use terms::checking;
+use terms::counted;
+use terms::row;
 use terms::rules::Rule;
 use terms_text::jobs;
 use terms_text::jobs::JobRead;
@@ -41,22 +41,22 @@ mod replay;
 mod row_lines;
 mod steps;
 
-// The lines of a step of a finished run printed over the front, from the job's terms.
+// The lines of a step of a finished run printed over the front, from the work rows of the job's terms.
 fn put_step(
     run: Run,
     modes: usize,
     count: usize,
-    terms: &mut [u16],
+    rows: &mut [u16],
     step: usize,
     out: &mut [u8],
 ) -> usize
-    requires { ⌜ ((job : Job) × ((own : List ℕ) × (Finished job own run modes count (now terms) × (step < modes)))) ⌝ }
+    requires { ⌜ ((job : Job) × ((own : List ℕ) × (Finished job own run modes count (now rows) × (step < modes)))) ⌝ }
     requires { ⌜ length (now out) ≡ printed-room ⌝ }
-    ensures { λ r. ⌜ ((job : Job) (own : List ℕ) → Finished job own run modes count (now (terms .entry)) → Puts (letters-printed (shows (step-lines job (history-of run) step))) (now (out .entry)) (now (out .exit)) r) ⌝ }
+    ensures { λ r. ⌜ ((job : Job) (own : List ℕ) → Finished job own run modes count (now (rows .entry)) → Puts (letters-printed (shows (step-lines job (history-of run) step))) (now (out .entry)) (now (out .exit)) r) ⌝ }
 {
     let triple = asked::merge_of(run, step);
-    replay::rows_before(run, modes, count, terms, step);
-    row_lines::put_letters(terms, count, triple, out)
+    replay::rows_before(run, modes, count, rows, step);
+    row_lines::put_letters(rows, count, triple, out)
 }
 
 // The lines of the step that a word asks for, or how many steps there are.
@@ -64,50 +64,50 @@ fn put_asked(
     run: Run,
     modes: usize,
     count: usize,
-    terms: &mut [u16],
+    rows: &mut [u16],
     word: &[u8],
     out: &mut [u8],
 ) -> usize
-    requires { ⌜ ((job : Job) × ((own : List ℕ) × Finished job own run modes count (now terms))) ⌝ }
+    requires { ⌜ ((job : Job) × ((own : List ℕ) × Finished job own run modes count (now rows))) ⌝ }
     requires { ⌜ length (now out) ≡ printed-room ⌝ }
-    ensures { λ r. ⌜ ((job : Job) (own : List ℕ) → Finished job own run modes count (now (terms .entry)) → Puts (letters-printed (lettered-at job (history-of run) (step-asked (job .modes) (now (word .entry))))) (now (out .entry)) (now (out .exit)) r) ⌝ }
+    ensures { λ r. ⌜ ((job : Job) (own : List ℕ) → Finished job own run modes count (now (rows .entry)) → Puts (letters-printed (lettered-at job (history-of run) (step-asked (job .modes) (now (word .entry))))) (now (out .entry)) (now (out .exit)) r) ⌝ }
 {
     match steps::asked_step(word, modes) {
-        Asked::Step(step) => put_step(run, modes, count, terms, step, out),
+        Asked::Step(step) => put_step(run, modes, count, rows, step, out),
         Asked::NoStep => output::put_value(out, 0, b"steps\t", modes as u64),
     }
 }
 
-// A journal obeyed on rows that are the terms', the run finished there, and the answer printed over the front.
+// A journal obeyed on the work rows of the terms, the run finished there, and the answer printed over the front from such rows again.
 fn letters_own(
     modes: usize,
     rule: Rule,
     count: usize,
     own: &mut [u16],
-    terms: &mut [u16],
+    again: &mut [u16],
     read: &[u8],
     word: &[u8],
     out: &mut [u8],
 ) -> usize
-    requires { ⌜ (1 ≤ modes) × (modes ≤ most-modes) × (count ≤ most-terms) × Held row-width count (now own) × Held row-width count (now terms) ⌝ }
-    requires { ⌜ terms-of row-width count (now own) ≡ terms-of row-width count (now terms) ⌝ }
+    requires { ⌜ (1 ≤ modes) × (modes ≤ most-modes) × (count ≤ most-terms) ⌝ }
+    requires { ⌜ ((numbers : List ℕ) × (Spread count numbers (now own) × Spread count numbers (now again))) ⌝ }
     requires { ⌜ length (now out) ≡ printed-room ⌝ }
-    ensures { λ r. ⌜ Puts (letters-printed (lettered-after (job-of modes rule count (now (terms .entry))) (now (word .entry)) (obeyed (job-of modes rule count (now (terms .entry))) (now (read .entry))))) (now (out .entry)) (now (out .exit)) r ⌝ }
+    ensures { λ r. ⌜ ((numbers : List ℕ) → Spread count numbers (now (own .entry)) → Spread count numbers (now (again .entry)) → Puts (letters-printed (lettered-after (job-of modes rule count numbers) (now (word .entry)) (obeyed (job-of modes rule count numbers) (now (read .entry))))) (now (out .entry)) (now (out .exit)) r) ⌝ }
 {
     let found = obeying::obey(modes, rule, count, own, read);
     let verdict = found.verdict;
     match verdict {
         Verdict::Refused(why) => output::put_refusal(out, why),
-        Verdict::Fine => put_asked(found.run.finished(own), modes, count, terms, word, out),
+        Verdict::Fine => put_asked(found.run.finished(own), modes, count, again, word, out),
     }
 }
 
-// The same on a copy of good terms.
+// The same of good terms: their work rows twice, since the journal's run ends in the first.
 fn letters_job(
     modes: usize,
     rule: Rule,
     count: usize,
-    terms: &mut [u16],
+    terms: &[u16],
     read: &[u8],
     word: &[u8],
     out: &mut [u8],
@@ -116,8 +116,9 @@ fn letters_job(
     requires { ⌜ length (now out) ≡ printed-room ⌝ }
     ensures { λ r. ⌜ Puts (letters-printed (lettered-after (job-of modes rule count (now (terms .entry))) (now (word .entry)) (obeyed (job-of modes rule count (now (terms .entry))) (now (read .entry))))) (now (out .entry)) (now (out .exit)) r ⌝ }
 {
-    let mut own = checking::own_copy(terms);
-    letters_own(modes, rule, count, &mut own, terms, read, word, out)
+    let mut own = counted::own_rows(terms, count);
+    let mut again = counted::own_rows(terms, count);
+    letters_own(modes, rule, count, &mut own, &mut again, read, word, out)
 }
 
 // The same for a text's terms, in lent room for their numbers.
@@ -135,8 +136,8 @@ fn print_letters(
     match jobs::read_job(input, numbers) {
         JobRead::Refused(why) => output::put_refusal(out, why),
         JobRead::Is(modes, count) => {
-            let end = 8 * count;
-            letters_job(modes, rule, count, &mut numbers[..end], read, word, out)
+            let end = row::WIDTH * count;
+            letters_job(modes, rule, count, &numbers[..end], read, word, out)
         }
     }
 }

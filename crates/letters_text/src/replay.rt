@@ -1,4 +1,4 @@
-// The rows before a step: the terms, reduced by the merges that came before it.
+// The rows before a step: the work rows of the terms, reduced by the merges that came before it.
 ghost use mathlib.Core.List.{List};
 ghost use Prim.Native.Nat.{ℕ, _≤_};
 ghost use Rattle.terms.specs.Job.{Job};
@@ -9,7 +9,7 @@ use entities::parents;
 use merging::asked;
 use merging::run::Run;
 
-// The job's terms become its rows before a step of the run.
+// The work rows of the job's terms become its rows before a step of the run.
 pub fn rows_before(run: Run, modes: usize, count: usize, rows: &mut [u16], step: usize)
     requires { ⌜ ((job : Job) × ((own : List ℕ) × (Finished job own run modes count (now rows) × (step ≤ modes)))) ⌝ }
     ensures { λ r. ⌜ ((job : Job) (own : List ℕ) → Finished job own run modes count (now (rows .entry)) → RowsAre job (history-before (history-of run) step) (now (rows .exit))) ⌝ }

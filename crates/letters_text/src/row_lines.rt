@@ -4,7 +4,7 @@ ghost use mathlib.Core.List.{[], _∷_, flatMap};
 ghost use Prim.Native.Nat.{_+_, _≤_, _<_};
 ghost use lib.ListN.{length};
 ghost use Rattle.lists.specs.Written.{«written-at»};
-ghost use Rattle.entities.specs.Limits.{«most-terms», «row-width»};
+ghost use Rattle.entities.specs.Limits.{«most-terms», «work-width»};
 ghost use Rattle.terms.specs.Rows.{«terms-of»};
 ghost use Rattle.terms.specs.code.Held.{Held};
 ghost use Rattle.text.specs.Running.{«printed-room»};
@@ -40,16 +40,22 @@ fn put_row(out: &mut [u8], at: usize, place: usize, term: &[u16], triple: Triple
     put_letter(out, at, place, weight::qubit_term_weight(term, triple))
 }
 
-// The lines of the first `count` rows written over the front; how many bytes that is.
+// The lines of the first `count` work rows written over the front; how many bytes that is.
 pub fn put_letters(rows: &[u16], count: usize, triple: Triple, out: &mut [u8]) -> usize
-    requires { ⌜ Held row-width count (now rows) × (count ≤ most-terms) ⌝ }
+    requires { ⌜ Held work-width count (now rows) × (count ≤ most-terms) ⌝ }
     requires { ⌜ length (now out) ≡ printed-room ⌝ }
-    ensures { λ r. ⌜ Puts (flatMap (λ line. line) (letter-lines triple 0 (terms-of row-width count (now (rows .entry))))) (now (out .entry)) (now (out .exit)) r ⌝ }
+    ensures { λ r. ⌜ Puts (flatMap (λ line. line) (letter-lines triple 0 (terms-of work-width count (now (rows .entry))))) (now (out .entry)) (now (out .exit)) r ⌝ }
 {
     let mut at = 0;
     let mut place = 0;
     while place < count {
-        at = put_row(out, at, place, row::term_at(rows, place), triple);
+        at = put_row(
+            out,
+            at,
+            place,
+            row::term_at(rows, row::WORK_WIDTH, place),
+            triple,
+        );
         place += 1;
     }
     at

@@ -83,7 +83,7 @@ module _ (asks : Request) (merges journal : List ℕ) (modes count : ℕ) (numbe
       let by-hand = hand-obedient job merges (known .history) (known .obeys) in
       let light : length (job .terms) ≤ most-terms = omega (arith, length-terms 8 count numbers, terms .at-most) in
       let obeys = journal-obeyed job (omega (arith, good .1)) (omega (arith, light)) (known .history) (by-hand .lawful) (by-hand .within) in
-      let room = rooms-fit (program-rooms .run) modes count (omega (arith, terms .at-most)) (omega (arith, good .1)) (omega (arith, good .1)) in
+      let room = rooms-fit (program-rooms .run) modes count (omega (arith, terms .at-most)) (omega (arith, good .1)) (omega (arith, good .1)) (omega (arith, good .1)) in
       record {
         job = job;
         job-is = rw (says, counts);

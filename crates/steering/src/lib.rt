@@ -1,10 +1,11 @@
 // What people need to write journals by hand and to mend them: merges made into a journal, and what a refused line lacks.
 ghost use mathlib.Core.Path.{_≡_};
-ghost use Prim.Native.Nat.{_*_, _≤_};
+ghost use mathlib.Core.List.{List};
+ghost use Prim.Native.Nat.{ℕ, _*_, _≤_};
 ghost use lib.ListN.{length};
 ghost use Rattle.entities.specs.Limits.{«most-modes», «most-terms», «row-width»};
 ghost use Rattle.terms.specs.Job.{Job, «job-of»};
-ghost use Rattle.terms.specs.code.Held.{Held};
+ghost use Rattle.terms.specs.code.Held.{Spread};
 ghost use Rattle.merging.specs.code.State.{«history-of»};
 ghost use Rattle.merging.specs.code.Runs.{Holds};
 ghost use Rattle.obeying.specs.Obeying.{went, «obeyed-by-hand»};
@@ -20,6 +21,8 @@ use merging::asked;
 use merging::run::Run;
 use obeying::Verdict;
 use refusal::Refusal;
+use terms::counted;
+use terms::row;
 use terms::rules::Rule;
 use terms_text::jobs;
 use terms_text::jobs::JobRead;
@@ -47,7 +50,7 @@ fn put_journal(
     new_lines::write_new(run, modes, count, 0, 0, out)
 }
 
-// Merges by hand obeyed on the rows of good terms, and their journal or the refusal printed over the front.
+// Merges by hand obeyed on the work rows of good terms, and their journal or the refusal printed over the front.
 fn steer_job(
     modes: usize,
     rule: Rule,
@@ -56,9 +59,10 @@ fn steer_job(
     merges: &[u8],
     out: &mut [u8],
 ) -> usize
-    requires { ⌜ (1 ≤ modes) × (modes ≤ most-modes) × (count ≤ most-terms) × Held row-width count (now rows) ⌝ }
+    requires { ⌜ (1 ≤ modes) × (modes ≤ most-modes) × (count ≤ most-terms) ⌝ }
+    requires { ⌜ ((numbers : List ℕ) × Spread count numbers (now rows)) ⌝ }
     requires { ⌜ length (now out) ≡ printed-room ⌝ }
-    ensures { λ r. ⌜ Puts (steer-printed (steered-as (job-of modes rule count (now (rows .entry))) (now (merges .entry)) (obeyed-by-hand (job-of modes rule count (now (rows .entry))) (now (merges .entry))))) (now (out .entry)) (now (out .exit)) r ⌝ }
+    ensures { λ r. ⌜ ((numbers : List ℕ) → Spread count numbers (now (rows .entry)) → Puts (steer-printed (steered-as (job-of modes rule count numbers) (now (merges .entry)) (obeyed-by-hand (job-of modes rule count numbers) (now (merges .entry))))) (now (out .entry)) (now (out .exit)) r) ⌝ }
 {
     let found = obeying::obey_by_hand(modes, rule, count, rows, merges);
     let verdict = found.verdict;
@@ -82,8 +86,9 @@ fn print_steered(
     match jobs::read_job(input, numbers) {
         JobRead::Refused(why) => output::put_refusal(out, why),
         JobRead::Is(modes, count) => {
-            let end = 8 * count;
-            steer_job(modes, rule, count, &mut numbers[..end], merges, out)
+            let end = row::WIDTH * count;
+            let mut own = counted::own_rows(&numbers[..end], count);
+            steer_job(modes, rule, count, &mut own, merges, out)
         }
     }
 }

@@ -5,7 +5,7 @@ ghost use Prim.Native.Nat.{ℕ, _*_, _≤_};
 ghost use lib.ListN.{length};
 ghost use Rattle.entities.specs.Limits.{«most-modes», «most-terms», «row-width»};
 ghost use Rattle.terms.specs.Job.{Job, «job-of»};
-ghost use Rattle.terms.specs.code.Held.{Held};
+ghost use Rattle.terms.specs.code.Held.{Spread};
 ghost use Rattle.merging.specs.code.State.{«history-of»};
 ghost use Rattle.merging.specs.code.Runs.{Holds};
 ghost use Rattle.obeying.specs.Obeying.{refused, obeyed};
@@ -22,6 +22,8 @@ use obeying::Verdict;
 use obeying::merge_line;
 use obeying::merge_line::Merge;
 use refusal::Refusal;
+use terms::counted;
+use terms::row;
 use terms::rules::Rule;
 use terms_text::jobs;
 use terms_text::jobs::JobRead;
@@ -77,7 +79,7 @@ fn put_refused(run: Run, rows: &[u16], why: Refusal, read: &[u8], out: &mut [u8]
     }
 }
 
-// A journal obeyed on the rows of good terms, and what its refused line lacks.
+// A journal obeyed on the work rows of good terms, and what its refused line lacks.
 fn reason_job(
     modes: usize,
     rule: Rule,
@@ -86,9 +88,10 @@ fn reason_job(
     read: &[u8],
     out: &mut [u8],
 ) -> usize
-    requires { ⌜ (1 ≤ modes) × (modes ≤ most-modes) × (count ≤ most-terms) × Held row-width count (now rows) ⌝ }
+    requires { ⌜ (1 ≤ modes) × (modes ≤ most-modes) × (count ≤ most-terms) ⌝ }
+    requires { ⌜ ((numbers : List ℕ) × Spread count numbers (now rows)) ⌝ }
     requires { ⌜ length (now out) ≡ printed-room ⌝ }
-    ensures { λ r. ⌜ Puts (reason-in (job-of modes rule count (now (rows .entry))) (now (read .entry)) (obeyed (job-of modes rule count (now (rows .entry))) (now (read .entry)))) (now (out .entry)) (now (out .exit)) r ⌝ }
+    ensures { λ r. ⌜ ((numbers : List ℕ) → Spread count numbers (now (rows .entry)) → Puts (reason-in (job-of modes rule count numbers) (now (read .entry)) (obeyed (job-of modes rule count numbers) (now (read .entry)))) (now (out .entry)) (now (out .exit)) r) ⌝ }
 {
     let found = obeying::obey(modes, rule, count, rows, read);
     let verdict = found.verdict;
@@ -106,8 +109,9 @@ fn print_reason(rule: Rule, input: &[u8], read: &[u8], numbers: &mut [u16], out:
     match jobs::read_job(input, numbers) {
         JobRead::Refused(why) => 0,
         JobRead::Is(modes, count) => {
-            let end = 8 * count;
-            reason_job(modes, rule, count, &mut numbers[..end], read, out)
+            let end = row::WIDTH * count;
+            let mut own = counted::own_rows(&numbers[..end], count);
+            reason_job(modes, rule, count, &mut own, read, out)
         }
     }
 }

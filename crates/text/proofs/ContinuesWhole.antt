@@ -40,6 +40,7 @@ module _ (asks : Request) (read : List ℕ) (part : Ending) (says : ran program-
             resumes = rw f (again .resumes);
             same-rows = again .same-rows;
             same-weight = again .same-weight;
+            same-drops = again .same-drops;
             same-journal = again .same-journal;
           }
       go (malformed line) f e = let z : _≡_ {A = ℕ} 0 1 = cc in absurd (omega arith)

@@ -85,7 +85,7 @@ module _ (modes rule : ℕ) (numbers read : List ℕ) where
   terms-never few (Good count) e h =
       let job = job-of modes (rule-of rule) count numbers in
       let short = accepted modes numbers count e .at-most in
-      let fits = rooms-fit (program-rooms .run) modes count (omega (arith, short)) (omega arith) (omega arith) in
+      let fits = rooms-fit (program-rooms .run) modes count (omega (arith, short)) (omega arith) (omega arith) (omega arith) in
       let decides = ap number-in (with-room (program-rooms .run) modes (rule-of rule) numbers read count fits) in
       journal-never job (obeyed job read) refl (sym decides ∙ h)
   terms-never few (Refused why) e h = omega (arith, h, terms-refusal modes numbers why e)

@@ -18,14 +18,14 @@ use Rattle.journal.proofs.RowsFit.{rows-fit}
 use Rattle.text.specs.declared.running.Run.{Run}
 use Rattle.text.specs.declared.running.Ran.{Ran}
 use Rattle.text.specs.declared.running.Ran.the-variants.{Done, Refused}
-use Rattle.text.specs.code.Runs.{Lent, lent, RanDone, RanRefused, Runs}
+use Rattle.text.specs.code.Runs.{Lent, lent, RanDone, RanRefused, Runs, drops-then}
 use Rattle.text.specs.Running.{program-rooms}
 use Rattle.text.specs.Output.{done-text, printed}
 use Rattle.text.proofs.PrintedLines.{front-over}
 
--- What a call is lent but for its work.
-abbrev pub but-work : CallLent → Lent
-but-work given = lent (given .rows) (given .journal)
+-- What a call is lent for rows and journal.
+abbrev pub written-of : CallLent → Lent
+written-of given = lent (given .rows) (given .journal)
 
 module _ (modes rule : ℕ) (numbers read : List ℕ) (given after : CallLent) (r : Answer) (rooms : rooms-of most-modes given ≡ program-rooms .run)
     (answers : Answers (λ lent. resumed (rooms-of most-modes lent) modes rule numbers read) given after r) where
@@ -39,13 +39,22 @@ module _ (modes rule : ℕ) (numbers read : List ℕ) (given after : CallLent) (
   same-left = rw (← rooms) (answers .leaves)
 
   refused-as : (means : Outcome) (refusal : Refusal) → Unanswered refusal ≡ returned means → after ≡ lent-then means given
-      → RanRefused means (but-work given) (but-work after) refusal
+      → RanRefused means (written-of given) (written-of after) refusal
   unfolding returned lent-then
   refused-as (done end) refusal e f = let z : _≡_ {A = ℕ} 0 1 = cc in absurd (omega arith)
-  refused-as (refuses other) refusal e f = record { is = ap refuses (cc); leaves = ap but-work f }
+  refused-as (refuses other) refusal e f = record { is = ap refuses (cc); leaves = ap written-of f }
+
+  drops-as : (means : Outcome) → after ≡ lent-then means given → after .drops ≡ drops-then means (given .drops)
+  unfolding lent-then drops-then
+  drops-as (done end) f = ap (λ l. l .drops) f
+  drops-as (refuses refusal) f = ap (λ l. l .drops) f
+
+  -- What the call left in the table.
+  pub drops-left : after .drops ≡ drops-then meant (given .drops)
+  drops-left = drops-as meant same-left
 
   -- The call refused.
-  pub refused-runs : (refusal : Refusal) → r ≡ Unanswered refusal → RanRefused meant (but-work given) (but-work after) refusal
+  pub refused-runs : (refusal : Refusal) → r ≡ Unanswered refusal → RanRefused meant (written-of given) (written-of after) refusal
   refused-runs refusal e = refused-as meant refusal (sym e ∙ same-answer) same-left
 
   -- The call ran to the end; its new lines have room, as a slice keeps its length.
@@ -54,7 +63,7 @@ module _ (modes rule : ℕ) (numbers read : List ℕ) (given after : CallLent) (
     as-run = record { modes = modes; weight = found .weight; trials = found .trials; new = found .new }
 
     done-as : (means : Outcome) → meant ≡ means → Answered found ≡ returned means → after ≡ lent-then means given
-        → RanDone most-modes means (but-work given) (but-work after) as-run
+        → RanDone most-modes means (written-of given) (written-of after) as-run
     unfolding returned lent-then written-at
     done-as (refuses refusal) m e f = let z : _≡_ {A = ℕ} 0 1 = cc in absurd (omega arith)
     done-as (done end) m e f =
@@ -68,13 +77,14 @@ module _ (modes rule : ℕ) (numbers read : List ℕ) (given after : CallLent) (
           trials = cc;
           few = fit .few;
           exact = fit .exact;
+          steps = fit .steps;
           rows = ap (λ l. l .rows) f;
           new = new;
           fits = omega (arith, stays, ap length journal, length-append (end .new) (drop (0 + length (end .new)) (given .journal)));
           journal = journal;
         }
 
-    pub done-runs : r ≡ Answered found → RanDone most-modes meant (but-work given) (but-work after) as-run
+    pub done-runs : r ≡ Answered found → RanDone most-modes meant (written-of given) (written-of after) as-run
     done-runs e = done-as meant refl (sym e ∙ same-answer) same-left
 
 -- Lent the front of a list for its new lines, a run writes over all of it.
@@ -89,6 +99,7 @@ runs-over most means rows rows-after out part room (Done run) h known =
       trials = known .trials;
       few = known .few;
       exact = known .exact;
+      steps = known .steps;
       rows = known .rows;
       new = known .new;
       fits = omega (arith, known .fits, size);

@@ -93,6 +93,7 @@ pub record ResumesFrom (asks : Request) (journal : List ℕ) (part : Ending) (cu
   pub resumes : ran program-rooms asks (take cut journal) ≡ done again
   pub same-rows : again .rows ≡ part .rows
   pub same-weight : again .weight ≡ part .weight
+  pub same-drops : again .drops ≡ part .drops
   pub same-journal : journal-of (take cut journal) again ≡ journal
 
 -- Continuing makes a journal whole: what is kept of it and what is printed are the run's journal, which may be cut after any byte that isn't before the end of what was kept.

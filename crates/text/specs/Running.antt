@@ -2,7 +2,7 @@
 use mathlib.Core.List.{List}
 use Prim.Native.Nat.{ℕ, _+_, _*_}
 use Rattle.refusal.specs.declared.Refusal.the-variants.{Malformed}
-use Rattle.entities.specs.Limits.{most-modes, most-terms, row-width}
+use Rattle.entities.specs.Limits.{most-modes, most-terms, work-width}
 use Rattle.terms.specs.declared.rules.Rule.{Rule}
 use Rattle.terms.specs.Rules.{rule-number}
 use Rattle.journal.specs.Resuming.{Outcome, refuses, resumed, Rooms as RunRooms}
@@ -14,10 +14,21 @@ pub record Rooms : Type 0 where
   pub terms : ℕ
   pub run : RunRooms
 
--- "Modes n: 1 to 256. … Terms T: 0 to 2048"; "Room: work 8T numbers; rows 4n; … journal bytes 16 + 21n."
+-- "Modes n: 1 to 256. … Terms T: 0 to 2048"; "Room: … rows 4n; … journal bytes 16 + 21n." Document 02: "9T work numbers", "a lent table of n
+-- numbers".
 abbrev pub program-rooms : Rooms
 program-rooms =
-    record { terms = most-terms; run = record { modes = most-modes; work = row-width * most-terms; rows = 4 * most-modes; journal = 16 + 21 * most-modes } }
+    record {
+      terms = most-terms;
+      run =
+          record {
+            modes = most-modes;
+            work = work-width * most-terms;
+            rows = 4 * most-modes;
+            journal = 16 + 21 * most-modes;
+            drops = most-modes;
+          };
+    }
 
 -- The bytes that a program has room to print: more than the longest answer has.
 abbrev pub printed-room : ℕ

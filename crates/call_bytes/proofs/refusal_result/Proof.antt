@@ -1,4 +1,4 @@
--- Eighteen numbers and a place below 65536 fit.
+-- Numbers up to 22 and a place below 65536 fit.
 use native.Mathlib.Omega.{arith}
 use borrow.Author.Needs.{needs}
 use Rattle.call_bytes.proofs.RefusalNumbers.{number-small}

@@ -7,7 +7,7 @@ use Rattle.letters_text.proofs.letters_own.Statement.{statement}
 use Rattle.letters_text.proofs.letters_own.Tie as tie
 
 obey-requires : tie.Need-obey-requires
-obey-requires c κs = search needs
+obey-requires c κs = let start = c .before .before .before .before .before .before in (start .pre .0, (start .pre .1 .0 .0, start .pre .1 .0 .1 .0))
 
 enum-known-verdict : tie.Need-enum-known-verdict
 enum-known-verdict c = search needs
@@ -19,16 +19,20 @@ enum-told : tie.Need-enum-told
 enum-told c = search needs
 
 finished-requires : tie.Need-finished-requires
-finished-requires c κs = search needs
+finished-requires c κs =
+    let start = c .before .before .before .before .before .before .before .before .before .before .before .before in
+    let obeys = c .before .before .before .before .before .obey .ensures (start .pre .1 .0 .0) (start .pre .1 .0 .1 .0) in
+    (_, obeys .went .holds)
 
 put-asked-requires : tie.Need-put-asked-requires
 put-asked-requires c κs =
     let start = c .before .before .before .before .before .before .before .before .before .before .before .before .before .before .before .before .before in
     let args = start .args in
-    let obeys = c .before .before .before .before .before .before .before .before .before .before .obey .ensures in
+    let numbers = start .pre .1 .0 .0 in
+    let obeys = c .before .before .before .before .before .before .before .before .before .before .obey .ensures numbers (start .pre .1 .0 .1 .0) in
     let finished = c .before .before .before .before .finished .ensures _ (obeys .went .holds) in
-    let job = job-of (args .modes) (args .rule) (args .count) (args .own .now) in
-    ((job, (_, run-finished (args .modes) (args .rule) (args .count) (args .own .now) (args .terms .now) _ _ _ _ (obeys .went .holds) finished (start .pre .0 .4) (start .pre .1 .0))), start .pre .1 .1)
+    let job = job-of (args .modes) (args .rule) (args .count) numbers in
+    ((job, (_, run-finished (args .modes) (args .rule) (args .count) numbers (args .again .now) _ _ _ _ (obeys .went .holds) finished (start .pre .1 .0 .1 .1))), start .pre .1 .1)
 
 same-length : tie.Need-same-length
 same-length c = search needs
@@ -38,12 +42,11 @@ same-length-2 c = search needs
 
 returns : tie.Need-returns
 unfolding letters-printed
-returns c =
-    let start = c .before .before .before .before .before .before .before .before .before .before .before .before .before .before .before .before in
-    let args = start .args in
-    let job = job-of (args .modes) (args .rule) (args .count) (args .own .now) in
+returns c numbers spread again =
+    let args = c .before .before .before .before .before .before .before .before .before .before .before .before .before .before .before .before .args in
+    let job = job-of (args .modes) (args .rule) (args .count) numbers in
     let obey = c .before .before .before .before .before .before .before .before .before .obey in
-    rw (← start .pre .1 .0, refused-lettered job (args .word .now) _ _ _ (obey .ensures .comes-to) _ (c .before .before .before .before .before .verdict .given .1)) (c .before .before .put-refusal .ensures)
+    rw (refused-lettered job (args .word .now) _ _ _ (obey .ensures numbers spread .comes-to) _ (c .before .before .before .before .before .verdict .given .1)) (c .before .before .put-refusal .ensures)
 
 same-length-3 : tie.Need-same-length-3
 same-length-3 c = search needs
@@ -55,15 +58,14 @@ same-length-5 : tie.Need-same-length-5
 same-length-5 c = search needs
 
 returns-2 : tie.Need-returns-2
-returns-2 c =
-    let start = c .before .before .before .before .before .before .before .before .before .before .before .before .before .before .before .before .before .before .before .before .before .before in
-    let args = start .args in
-    let job = job-of (args .modes) (args .rule) (args .count) (args .own .now) in
-    let obey = c .before .before .before .before .before .before .before .before .before .before .before .before .before .before .before .obey in
-    let holds = obey .ensures .went .holds in
+returns-2 c numbers spread again =
+    let args = c .before .before .before .before .before .before .before .before .before .before .before .before .before .before .before .before .before .before .before .before .before .before .args in
+    let job = job-of (args .modes) (args .rule) (args .count) numbers in
+    let told = c .before .before .before .before .before .before .before .before .before .before .before .before .before .before .before .obey .ensures numbers spread in
+    let holds = told .went .holds in
     let ended = c .before .before .before .before .before .before .before .before .before .finished .ensures job holds in
-    let finished = run-finished (args .modes) (args .rule) (args .count) (args .own .now) (args .terms .now) _ _ _ _ holds ended (start .pre .0 .4) (start .pre .1 .0) in
-    rw (← start .pre .1 .0, fine-lettered job (args .word .now) _ _ _ (obey .ensures .comes-to) (c .before .before .before .before .before .before .before .before .before .before .before .enum-told .given .1), ← ended .merges) (c .before .before .before .before .put-asked .ensures job _ finished)
+    let finished = run-finished (args .modes) (args .rule) (args .count) numbers (args .again .now) _ _ _ _ holds ended again in
+    rw (fine-lettered job (args .word .now) _ _ _ (told .comes-to) (c .before .before .before .before .before .before .before .before .before .before .before .enum-told .given .1), ← ended .merges) (c .before .before .before .before .put-asked .ensures job _ finished)
 
 pub letters-own-spec : {M : Type 1} → statement M
 letters-own-spec =

@@ -21,14 +21,15 @@ enum-known-modes c = search needs
 
 mul-end : tie.Need-mul-end
 mul-end c =
-    let start = c .before .before .before .before .before .before .before .before .before .before .before .before in
-    omega (arith, (c .before .before .before .before .before .read-job .ensures (c .before .before .before .before .before .before .before .before .before .before .before .before .args .rule) .is-job _ _ (c .before .modes .given .1)) .0, c .before .before .before .before .before .read-job .kept, start .pre .0)
+    omega (arith, (c .before .before .before .before .before .read-job .ensures (c .before .before .before .before .before .before .before .before .before .before .before .before .args .rule) .is-job _ _ (c .before .modes .given .1)) .0, c .before .before .before .before .before .read-job .kept, c .before .before .before .before .before .before .before .before .before .before .before .before .pre .0)
 
-slice-relend-prefix-letters-job : tie.Need-slice-relend-prefix-letters-job
-slice-relend-prefix-letters-job c = (c .before .before .before .before .before .read-job .ensures (c .before .before .before .before .before .before .before .before .before .before .before .before .args .rule) .is-job _ _ (c .before .modes .given .1)) .0
+slice-reshare-prefix-letters-job : tie.Need-slice-reshare-prefix-letters-job
+slice-reshare-prefix-letters-job c =
+    (c .before .before .before .before .before .read-job .ensures (c .before .before .before .before .before .before .before .before .before .before .before .before .args .rule) .is-job _ _ (c .before .modes .given .1)) .0
 
 slice-aggregate-letters-job : tie.Need-slice-aggregate-letters-job
-slice-aggregate-letters-job c = sym (length-take-le _ _ ((c .before .before .before .before .before .before .read-job .ensures (c .before .before .before .before .before .before .before .before .before .before .before .before .before .args .rule) .is-job _ _ (c .before .before .modes .given .1)) .0))
+slice-aggregate-letters-job c =
+    sym (length-take-le _ _ ((c .before .before .before .before .before .before .read-job .ensures (c .before .before .before .before .before .before .before .before .before .before .before .before .before .args .rule) .is-job _ _ (c .before .before .modes .given .1)) .0))
 
 letters-job-requires : tie.Need-letters-job-requires
 letters-job-requires c κs =
@@ -55,7 +56,7 @@ same-length-4 c = search needs
 returns-2 : tie.Need-returns-2
 unfolding letters-text lettered lettered-by
 returns-2 c =
-    rw ((c .before .before .before .before .before .before .before .before .before .before .before .before .read-job .ensures (c .before .before .before .before .before .before .before .before .before .before .before .before .before .before .before .before .before .before .before .args .rule) .is-job _ _ (c .before .before .before .before .before .before .before .before .modes .given .1)) .2) (c .before .before .before .before .letters-job .ensures)
+    rw ((c .before .before .before .before .before .before .before .before .before .before .read-job .ensures (c .before .before .before .before .before .before .before .before .before .before .before .before .before .before .before .before .before .args .rule) .is-job _ _ (c .before .before .before .before .before .before .modes .given .1)) .2) (c .before .before .letters-job .ensures)
 
 pub print-letters-spec : {M : Type 1} → statement M
 print-letters-spec =
@@ -66,7 +67,7 @@ print-letters-spec =
     put-refusal-requires
     enum-known-modes
     mul-end
-    slice-relend-prefix-letters-job
+    slice-reshare-prefix-letters-job
     slice-aggregate-letters-job
     letters-job-requires
     same-length

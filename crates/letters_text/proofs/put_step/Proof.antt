@@ -2,6 +2,7 @@
 use native.Mathlib.Omega.{arith}
 use borrow.Author.Needs.{needs}
 use Rattle.letters_text.specs.Lettering.{step-lines, letters-printed}
+use Rattle.letters_text.proofs.RowsReplayed.{terms-replayed}
 use Rattle.letters_text.proofs.put_step.Statement.{statement}
 use Rattle.letters_text.proofs.put_step.Tie as tie
 
@@ -35,7 +36,7 @@ unfolding letters-printed step-lines
 returns c job own finished =
     let start = c .before .before .before .before .before .before .before .before .before .before .before .before in
     let rows = c .before .before .before .before .before .before .before .rows-before .ensures job own finished in
-    rw (← c .before .before .before .before .before .before .before .before .before .merge-of .ensures, ← rows .terms-are, finished .count-is) (c .before .before .put-letters .ensures)
+    rw (← c .before .before .before .before .before .before .before .before .before .merge-of .ensures, ← terms-replayed job _ _ rows, finished .count-is) (c .before .before .put-letters .ensures)
 
 pub put-step-spec : {M : Type 1} → statement M
 put-step-spec =

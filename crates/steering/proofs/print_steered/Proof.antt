@@ -22,20 +22,30 @@ enum-known-modes c = search needs
 
 mul-end : tie.Need-mul-end
 mul-end c =
-    let start = c .before .before .before .before .before .before .before .before .before .before .before in
-    omega (arith, (c .before .before .before .before .before .read-job .ensures (c .before .before .before .before .before .before .before .before .before .before .before .args .rule) .is-job _ _ (c .before .modes .given .1)) .0, c .before .before .before .before .before .read-job .kept, start .pre .0)
+    omega (arith, (c .before .before .before .before .before .read-job .ensures (c .before .before .before .before .before .before .before .before .before .before .before .args .rule) .is-job _ _ (c .before .modes .given .1)) .0, c .before .before .before .before .before .read-job .kept, c .before .before .before .before .before .before .before .before .before .before .before .pre .0)
 
-slice-relend-prefix-steer-job : tie.Need-slice-relend-prefix-steer-job
-slice-relend-prefix-steer-job c = (c .before .before .before .before .before .read-job .ensures (c .before .before .before .before .before .before .before .before .before .before .before .args .rule) .is-job _ _ (c .before .modes .given .1)) .0
+slice-reshare-prefix-own-rows : tie.Need-slice-reshare-prefix-own-rows
+slice-reshare-prefix-own-rows c =
+    (c .before .before .before .before .before .read-job .ensures (c .before .before .before .before .before .before .before .before .before .before .before .args .rule) .is-job _ _ (c .before .modes .given .1)) .0
+
+slice-aggregate-own-rows : tie.Need-slice-aggregate-own-rows
+slice-aggregate-own-rows c =
+    sym (length-take-le _ _ ((c .before .before .before .before .before .before .read-job .ensures (c .before .before .before .before .before .before .before .before .before .before .before .before .args .rule) .is-job _ _ (c .before .before .modes .given .1)) .0))
+
+own-rows-requires : tie.Need-own-rows-requires
+own-rows-requires c κs =
+    let fits = (c .before .before .before .before .before .before .read-job .ensures (c .before .before .before .before .before .before .before .before .before .before .before .before .args .rule) .is-job _ _ (c .before .before .modes .given .1)) .1 in
+    let terms = accepted _ _ _ (fits .good) in
+    (terms .given, terms .at-most)
 
 slice-aggregate-steer-job : tie.Need-slice-aggregate-steer-job
-slice-aggregate-steer-job c = sym (length-take-le _ _ ((c .before .before .before .before .before .before .read-job .ensures (c .before .before .before .before .before .before .before .before .before .before .before .before .args .rule) .is-job _ _ (c .before .before .modes .given .1)) .0))
+slice-aggregate-steer-job c = search needs
 
 steer-job-requires : tie.Need-steer-job-requires
 steer-job-requires c κs =
-    let fits = (c .before .before .before .before .before .before .before .read-job .ensures (c .before .before .before .before .before .before .before .before .before .before .before .before .before .args .rule) .is-job _ _ (c .before .before .before .modes .given .1)) .1 in
+    let fits = (c .before .before .before .before .before .before .before .before .before .read-job .ensures (c .before .before .before .before .before .before .before .before .before .before .before .before .before .before .before .args .rule) .is-job _ _ (c .before .before .before .before .before .modes .given .1)) .1 in
     let terms = accepted _ _ _ (fits .good) in
-    ((fits .some, fits .few, terms .at-most, terms .held), c .before .before .before .before .before .before .before .before .before .before .before .before .before .pre .1)
+    ((fits .some, fits .few, terms .at-most), ((_, c .before .before .own-rows .ensures .1), c .before .before .before .before .before .before .before .before .before .before .before .before .before .before .before .pre .1))
 
 same-length : tie.Need-same-length
 same-length c = search needs
@@ -57,7 +67,7 @@ same-length-4 c = search needs
 returns-2 : tie.Need-returns-2
 unfolding steer-text steered steered-by
 returns-2 c =
-    rw ((c .before .before .before .before .before .before .before .before .before .before .before .before .read-job .ensures (c .before .before .before .before .before .before .before .before .before .before .before .before .before .before .before .before .before .before .args .rule) .is-job _ _ (c .before .before .before .before .before .before .before .before .modes .given .1)) .2) (c .before .before .before .before .steer-job .ensures)
+    rw ((c .before .before .before .before .before .before .before .before .before .before .before .before .before .read-job .ensures (c .before .before .before .before .before .before .before .before .before .before .before .before .before .before .before .before .before .before .before .args .rule) .is-job _ _ (c .before .before .before .before .before .before .before .before .before .modes .given .1)) .2) (c .before .before .before .steer-job .ensures _ (c .before .before .before .before .before .before .own-rows .ensures .1))
 
 pub print-steered-spec : {M : Type 1} → statement M
 print-steered-spec =
@@ -68,7 +78,9 @@ print-steered-spec =
     put-refusal-requires
     enum-known-modes
     mul-end
-    slice-relend-prefix-steer-job
+    slice-reshare-prefix-own-rows
+    slice-aggregate-own-rows
+    own-rows-requires
     slice-aggregate-steer-job
     steer-job-requires
     same-length

@@ -12,11 +12,11 @@ use Rattle.steering.proofs.JournalSteered.{refused-steered, fine-steere
 use Rattle.steering.proofs.steer_job.Statement.{statement}
 use Rattle.steering.proofs.steer_job.Tie as tie
 
-sized : (modes : ℕ) (rule : Rule) (count : ℕ) (rows : List ℕ) → Sized (job-of modes rule count rows) modes count
-sized modes rule count rows = record { modes-are = refl; count-is = length-terms 8 count rows }
+sized : (modes : ℕ) (rule : Rule) (count : ℕ) (numbers : List ℕ) → Sized (job-of modes rule count numbers) modes count
+sized modes rule count numbers = record { modes-are = refl; count-is = length-terms 8 count numbers }
 
 obey-by-hand-requires : tie.Need-obey-by-hand-requires
-obey-by-hand-requires c κs = search needs
+obey-by-hand-requires c κs = let start = c .before .before .before .before in (start .pre .0, start .pre .1 .0)
 
 enum-known-verdict : tie.Need-enum-known-verdict
 enum-known-verdict c = search needs
@@ -31,8 +31,9 @@ put-journal-requires : tie.Need-put-journal-requires
 put-journal-requires c κs =
     let start = c .before .before .before .before .before .before .before .before .before .before .before in
     let args = start .args in
-    let obeys = c .before .before .before .before .before .before .obey-by-hand .ensures in
-    ((job-of (args .modes) (args .rule) (args .count) (args .rows .now), (obeys .went .holds, sized (args .modes) (args .rule) (args .count) (args .rows .now))), start .pre .1)
+    let numbers = start .pre .1 .0 .0 in
+    let obeys = c .before .before .before .before .before .before .obey-by-hand .ensures numbers (start .pre .1 .0 .1) in
+    ((job-of (args .modes) (args .rule) (args .count) numbers, (obeys .went .holds, sized (args .modes) (args .rule) (args .count) numbers)), start .pre .1 .1)
 
 same-length : tie.Need-same-length
 same-length c = search needs
@@ -42,11 +43,11 @@ same-length-2 c = search needs
 
 returns : tie.Need-returns
 unfolding steer-printed
-returns c =
+returns c numbers spread =
     let args = c .before .before .before .before .before .before .before .before .before .before .before .before .before .before .args in
-    let job = job-of (args .modes) (args .rule) (args .count) (args .rows .now) in
+    let job = job-of (args .modes) (args .rule) (args .count) numbers in
     let obey = c .before .before .before .before .before .before .before .before .before .obey-by-hand in
-    rw (refused-steered job (args .merges .now) (obey .result .verdict) (obey .result .run) _ (obey .ensures .comes-to) _ (c .before .before .before .before .before .verdict .given .1))
+    rw (refused-steered job (args .merges .now) (obey .result .verdict) (obey .result .run) _ (obey .ensures numbers spread .comes-to) _ (c .before .before .before .before .before .verdict .given .1))
     (c .before .before .put-refusal .ensures)
 
 same-length-3 : tie.Need-same-length-3
@@ -56,12 +57,13 @@ same-length-4 : tie.Need-same-length-4
 same-length-4 c = search needs
 
 returns-2 : tie.Need-returns-2
-returns-2 c =
+returns-2 c numbers spread =
     let args = c .before .before .before .before .before .before .before .before .before .before .before .before .before .before .args in
-    let job = job-of (args .modes) (args .rule) (args .count) (args .rows .now) in
+    let job = job-of (args .modes) (args .rule) (args .count) numbers in
     let obey = c .before .before .before .before .before .before .before .before .before .obey-by-hand in
-    rw (fine-steered job (args .merges .now) (obey .result .verdict) (obey .result .run) _ (obey .ensures .comes-to) (c .before .before .before .before .before .enum-told .given .1))
-    (c .before .before .put-journal .ensures job (obey .ensures .went .holds) (sized (args .modes) (args .rule) (args .count) (args .rows .now)))
+    let told = obey .ensures numbers spread in
+    rw (fine-steered job (args .merges .now) (obey .result .verdict) (obey .result .run) _ (told .comes-to) (c .before .before .before .before .before .enum-told .given .1))
+    (c .before .before .put-journal .ensures job (told .went .holds) (sized (args .modes) (args .rule) (args .count) numbers))
 
 pub steer-job-spec : {M : Type 1} → statement M
 steer-job-spec =

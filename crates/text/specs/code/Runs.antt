@@ -26,10 +26,16 @@ pub record RanDone (most : ℕ) (means : Outcome) (before after : Lent) (run : R
   pub trials : run .trials ≡ ending .trials
   pub few : run .modes ≤ most
   pub exact : length (ending .rows) ≡ 4 * run .modes
+  pub steps : length (ending .drops) ≡ run .modes
   pub rows : after .rows ≡ written-at 0 (ending .rows) (before .rows)
   pub new : run .new ≡ length (ending .new)
   pub fits : run .new ≤ length (before .journal)
   pub journal : after .journal ≡ written-at 0 (ending .new) (before .journal)
+
+-- A table of drops after a run: those of its steps over the front, or nothing altered.
+unfoldable pub drops-then : Outcome → List ℕ → List ℕ
+drops-then (done ending) given = written-at 0 (ending .drops) given
+drops-then (refuses refusal) given = given
 
 -- A run that is refused: nothing of what is lent is altered.
 pub record RanRefused (means : Outcome) (before after : Lent) (refusal : Refusal) : Type 0 where

@@ -10,7 +10,7 @@ use Rattle.terms.specs.Job.{Job}
 use Rattle.history.specs.History.{history-before}
 use Rattle.merging.specs.code.State.{history-of}
 use Rattle.letters_text.specs.code.Replaying.{RowsAre, Finished}
-use Rattle.letters_text.proofs.RowsReplayed.{replay-starts, replay-goes}
+use Rattle.letters_text.proofs.RowsReplayed.{replay-starts, replay-goes, worked-replayed}
 use Rattle.letters_text.proofs.replay.rows_before.Statement.{statement}
 use Rattle.letters_text.proofs.replay.rows_before.Tie as tie
 
@@ -24,7 +24,7 @@ abbrev μ-loop : tie.MeasureT-loop
 μ-loop run modes count rows₀ step at₀ rows at = step - at
 
 loop-holds : tie.Need-loop-holds Inv-loop μ-loop
-loop-holds c = (omega arith, refl, λ job own finished. replay-starts job (history-of (c .before .args .run)) _ (finished .terms-are))
+loop-holds c = (omega arith, refl, λ job own finished. replay-starts job (history-of (c .before .args .run)) _ (finished .rows-are))
 
 parent-number-requires : tie.Need-parent-number-requires Inv-loop μ-loop
 parent-number-requires c κs =
@@ -45,8 +45,10 @@ merge-of-requires c κs =
 reduce-hamiltonian-requires : tie.Need-reduce-hamiltonian-requires Inv-loop μ-loop
 reduce-hamiltonian-requires c κs =
     let start = c .before .before .before .before .before .before .before in
+    let job = start .pre .0 in
     let finished = start .pre .1 .1 .0 in
-    (rw (finished .count-is) at (c .before .before .before .before .before .loop .inv .2 (start .pre .0) (start .pre .1 .0) finished .held), rw (finished .count-is) at (finished .holds .light))
+    let rows = c .before .before .before .before .before .loop .inv .2 job (start .pre .1 .0) finished in
+    (rw (finished .count-is) at (worked-replayed job _ _ rows (finished .holds .light)), rw (finished .count-is) at (finished .holds .light))
 
 add-at : tie.Need-add-at Inv-loop μ-loop
 add-at c = search needs
@@ -65,7 +67,7 @@ loop-again c =
       c .before .before .reduce-hamiltonian .kept .0 ∙ here .loop .inv .1,
       λ job own finished.
           let made : here .loop .at < length history = omega (arith, finished .all, finished .modes-are, start .pre .1 .1 .1, left) in
-          replay-goes job history (here .loop .at) _ _ _ _ _ made (c .before .before .before .before .before .rule-of .ensures job own (finished .holds)) (c .before .before .before .merge-of .ensures)
+          replay-goes job history (here .loop .at) _ _ _ _ _ _ made (c .before .before .before .before .before .rule-of .ensures job own (finished .holds)) (c .before .before .before .merge-of .ensures)
           (c .before .before .before .before .before .before .parent-number .ensures ∙ ap (λ n. parent-number n (here .loop .at)) (sym (finished .modes-are))) (here .loop .inv .2 job own finished)
           (rw (← finished .count-is) at (c .before .before .reduce-hamiltonian .ensures)),
     )

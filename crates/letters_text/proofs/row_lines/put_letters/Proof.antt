@@ -2,7 +2,6 @@
 use Prim.Native.Nat.{_-_}
 use native.Mathlib.Omega.{arith}
 use borrow.Author.Needs.{needs}
-use lib.ListN.{length}
 use Rattle.lists.proofs.Behind.{Wrote}
 use Rattle.text.proofs.PrintedLines.{wrote-puts}
 use Rattle.letters_text.proofs.PuttingLetters.{PuttingLetters, letters-start, letters-go, letters-end}
@@ -24,7 +23,8 @@ term-at-requires : tie.Need-term-at-requires Inv-loop μ-loop
 term-at-requires c κs =
     let start = c .before .before .before .before .before in
     let here = c .before .before in
-    (omega arith, start .pre .0 .0 .within (here .loop .place) (omega arith))
+    let held = start .pre .0 .0 in
+    (omega (arith, held .room), omega (arith, held .within (here .loop .place) (omega arith)))
 
 put-row-requires : tie.Need-put-row-requires Inv-loop μ-loop
 put-row-requires c κs =

@@ -20,20 +20,30 @@ enum-known-modes c = search needs
 
 mul-end : tie.Need-mul-end
 mul-end c =
-    let start = c .before .before .before .before .before .before .before .before .before .before .before in
-    omega (arith, (c .before .before .before .before .before .read-job .ensures (c .before .before .before .before .before .before .before .before .before .before .before .args .rule) .is-job _ _ (c .before .modes .given .1)) .0, c .before .before .before .before .before .read-job .kept, start .pre .0)
+    omega (arith, (c .before .before .before .before .before .read-job .ensures (c .before .before .before .before .before .before .before .before .before .before .before .args .rule) .is-job _ _ (c .before .modes .given .1)) .0, c .before .before .before .before .before .read-job .kept, c .before .before .before .before .before .before .before .before .before .before .before .pre .0)
 
-slice-relend-prefix-reason-job : tie.Need-slice-relend-prefix-reason-job
-slice-relend-prefix-reason-job c = (c .before .before .before .before .before .read-job .ensures (c .before .before .before .before .before .before .before .before .before .before .before .args .rule) .is-job _ _ (c .before .modes .given .1)) .0
+slice-reshare-prefix-own-rows : tie.Need-slice-reshare-prefix-own-rows
+slice-reshare-prefix-own-rows c =
+    (c .before .before .before .before .before .read-job .ensures (c .before .before .before .before .before .before .before .before .before .before .before .args .rule) .is-job _ _ (c .before .modes .given .1)) .0
+
+slice-aggregate-own-rows : tie.Need-slice-aggregate-own-rows
+slice-aggregate-own-rows c =
+    sym (length-take-le _ _ ((c .before .before .before .before .before .before .read-job .ensures (c .before .before .before .before .before .before .before .before .before .before .before .before .args .rule) .is-job _ _ (c .before .before .modes .given .1)) .0))
+
+own-rows-requires : tie.Need-own-rows-requires
+own-rows-requires c κs =
+    let fits = (c .before .before .before .before .before .before .read-job .ensures (c .before .before .before .before .before .before .before .before .before .before .before .before .args .rule) .is-job _ _ (c .before .before .modes .given .1)) .1 in
+    let terms = accepted _ _ _ (fits .good) in
+    (terms .given, terms .at-most)
 
 slice-aggregate-reason-job : tie.Need-slice-aggregate-reason-job
-slice-aggregate-reason-job c = sym (length-take-le _ _ ((c .before .before .before .before .before .before .read-job .ensures (c .before .before .before .before .before .before .before .before .before .before .before .before .args .rule) .is-job _ _ (c .before .before .modes .given .1)) .0))
+slice-aggregate-reason-job c = search needs
 
 reason-job-requires : tie.Need-reason-job-requires
 reason-job-requires c κs =
-    let fits = (c .before .before .before .before .before .before .before .read-job .ensures (c .before .before .before .before .before .before .before .before .before .before .before .before .before .args .rule) .is-job _ _ (c .before .before .before .modes .given .1)) .1 in
+    let fits = (c .before .before .before .before .before .before .before .before .before .read-job .ensures (c .before .before .before .before .before .before .before .before .before .before .before .before .before .before .before .args .rule) .is-job _ _ (c .before .before .before .before .before .modes .given .1)) .1 in
     let terms = accepted _ _ _ (fits .good) in
-    ((fits .some, fits .few, terms .at-most, terms .held), c .before .before .before .before .before .before .before .before .before .before .before .before .before .pre .1)
+    ((fits .some, fits .few, terms .at-most), ((_, c .before .before .own-rows .ensures .1), c .before .before .before .before .before .before .before .before .before .before .before .before .before .before .before .pre .1))
 
 same-length : tie.Need-same-length
 same-length c = search needs
@@ -52,7 +62,7 @@ same-length-3 c = search needs
 returns-2 : tie.Need-returns-2
 unfolding reason-text reason-by
 returns-2 c =
-    rw ((c .before .before .before .before .before .before .before .before .before .before .before .before .read-job .ensures (c .before .before .before .before .before .before .before .before .before .before .before .before .before .before .before .before .before .before .args .rule) .is-job _ _ (c .before .before .before .before .before .before .before .before .modes .given .1)) .2) (c .before .before .before .before .reason-job .ensures)
+    rw ((c .before .before .before .before .before .before .before .before .before .before .before .before .before .read-job .ensures (c .before .before .before .before .before .before .before .before .before .before .before .before .before .before .before .before .before .before .before .args .rule) .is-job _ _ (c .before .before .before .before .before .before .before .before .before .modes .given .1)) .2) (c .before .before .before .reason-job .ensures _ (c .before .before .before .before .before .before .own-rows .ensures .1))
 
 pub print-reason-spec : {M : Type 1} → statement M
 print-reason-spec =
@@ -62,7 +72,9 @@ print-reason-spec =
     enum-known-why
     enum-known-modes
     mul-end
-    slice-relend-prefix-reason-job
+    slice-reshare-prefix-own-rows
+    slice-aggregate-own-rows
+    own-rows-requires
     slice-aggregate-reason-job
     reason-job-requires
     same-length
