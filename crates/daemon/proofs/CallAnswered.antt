@@ -44,14 +44,14 @@ unfolding returned
 done-meant (done part) numbers r e f = record { part = part; is = refl; weight = cc; trials = cc; kept = cc; new = cc }
 done-meant (refuses refusal) numbers r e f = let z : _≡_ {A = ℕ} 0 1 = cc in absurd (omega arith)
 
--- What is known once resuming has answered, in work and rows of the call's own.
-module _ (modes : ℕ) (terms read work own rows journal answer now-work now-own now-journal : List ℕ) (r : Answer)
-    (answers : Answers (λ given. resumed (rooms-of 256 given) modes 0 terms read) (run-lent work own journal) (run-lent now-work now-own now-journal) r) where
+-- What is known once resuming has answered, in work, rows and drops of the call's own.
+module _ (modes : ℕ) (terms read work own drops rows journal answer now-work now-own now-journal now-drops : List ℕ) (r : Answer)
+    (answers : Answers (λ given. resumed (rooms-of 256 given) modes 0 terms read) (run-lent work own journal drops) (run-lent now-work now-own now-journal now-drops) r) where
   abbrev rooms : Rooms
-  rooms = rooms-of 256 (run-lent work own journal)
+  rooms = rooms-of 256 (run-lent work own journal drops)
 
   abbrev meant : Lent → Outcome
-  meant given = resumed (rooms-of 256 (run-lent work own (given .journal))) modes 0 terms read
+  meant given = resumed (rooms-of 256 (run-lent work own (given .journal) drops)) modes 0 terms read
 
   pub why-refused : (why : Refusal) → r ≡ Refused why → resumed rooms modes 0 terms read ≡ refuses why
   why-refused why e = refused-meant (resumed rooms modes 0 terms read) why r (answers .answer) e
@@ -101,13 +101,13 @@ pub called-so : (meant same : Lent → Outcome) (before after : Lent) (r : ℕ) 
 called-so meant same before after r e called = record { result = rw e (called .result); leaves = rw e (called .leaves) }
 
 -- The parts that the call lends to resuming mean what it was given.
-pub lent-means : (modes : ℕ) (terms read numbers work own : List ℕ) (count room : ℕ) (given : Lent) → TermsRead terms numbers count
+pub lent-means : (modes : ℕ) (terms read numbers work own drops : List ℕ) (count room : ℕ) (given : Lent) → TermsRead terms numbers count
     → room ≡ room-of 4 (length own) (length (given .rows)) (length (given .answer))
-    → resume-handed (record { modes = 256; work = length work; rows = length own }) modes terms read given
-    ≡ resumed (rooms-of 256 (run-lent work (take room own) (given .journal))) modes 0 (take count numbers) read
+    → resume-handed (record { modes = 256; work = length work; rows = length own; drops = length drops }) modes terms read given
+    ≡ resumed (rooms-of 256 (run-lent work (take room own) (given .journal) drops)) modes 0 (take count numbers) read
 unfolding resume-handed rooms-in
-lent-means modes terms read numbers work own count room given reads e =
+lent-means modes terms read numbers work own drops count room given reads e =
     let fits = room-fits 4 (length own) (length (given .rows)) (length (given .answer)) in
     let l : length (take room own) ≡ room-of 4 (length own) (length (given .rows)) (length (given .answer)) =
     length-take-le room own (omega (arith, e, fits .in-own)) ∙ e in
-    rw (← l) (sym (resumed-same (take count numbers) (term-numbers terms) (reads .stands) (rooms-of 256 (run-lent work (take room own) (given .journal))) modes read))
+    rw (← l) (sym (resumed-same (take count numbers) (term-numbers terms) (reads .stands) (rooms-of 256 (run-lent work (take room own) (given .journal) drops)) modes read))

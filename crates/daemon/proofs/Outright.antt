@@ -7,7 +7,7 @@ use native.Mathlib.Omega.{arith}
 use borrow.Author.Tests.{le-leb}
 use lib.Dec.{eqb, leb}
 use lib.ListN.{length}
-use Rattle.entities.specs.Limits.{most-terms, row-width}
+use Rattle.entities.specs.Limits.{most-terms, work-width}
 use Rattle.terms.specs.declared.rules.Rule.the-variants.{Published}
 use Rattle.terms.specs.Rules.{rule-good, rule-of}
 use Rattle.terms.specs.Good.{modes-good, checked}
@@ -22,8 +22,8 @@ use Rattle.call_bytes.proofs.TermsSame.{not-eights}
 use Rattle.daemon.specs.Calls.{Lent, roomy, with-terms, resume-called}
 use Rattle.daemon.specs.code.Handing.{Own, rooms-in, resume-handed}
 
-module _ (own : Own) (enough : row-width * most-terms ≤ own .work) (rows-enough : 4 * own .modes ≤ own .rows)
-    (modes : ℕ) (terms read : List ℕ) (given : Lent) where
+module _ (own : Own) (enough : work-width * most-terms ≤ own .work) (rows-enough : 4 * own .modes ≤ own .rows)
+    (drops-enough : own .modes ≤ own .drops) (modes : ℕ) (terms read : List ℕ) (given : Lent) where
   abbrev rooms : Rooms
   rooms = rooms-in own given
 
@@ -33,10 +33,10 @@ module _ (own : Own) (enough : row-width * most-terms ≤ own .work) (rows-enoug
   same-room count few some fits =
       let bytes = length (given .rows) in
       let answer = length (given .answer) in
-      rw (le-leb (8 * count) (own .work) (omega (arith, few, enough)), room-in 4 (own .rows) bytes answer (4 * modes) (8 * modes) (omega (arith, some)) (omega (arith, fits, rows-enough)) (omega arith))
+      rw (le-leb (9 * count) (own .work) (omega (arith, few, enough)), le-leb modes (own .drops) (omega (arith, fits, drops-enough)), room-in 4 (own .rows) bytes answer (4 * modes) (8 * modes) (omega (arith, some)) (omega (arith, fits, rows-enough)) (omega arith))
       (go (leb (8 * modes) bytes) (leb 32 answer) (leb (16 + 21 * modes) (length (given .journal))))
     where
-      go : (a b c : Bool) → ((a && b) && c) ≡ (a && (c && b))
+      go : (a b c : Bool) → ((a && b) && (c && true)) ≡ (a && (c && b))
       go true true true = refl
       go true true false = refl
       go true false true = refl

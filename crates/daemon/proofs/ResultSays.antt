@@ -6,7 +6,7 @@ use native.Mathlib.Omega.{arith}
 use Rattle.refusal.specs.declared.Refusal.{Refusal}
 use Rattle.refusal.specs.Numbers.{numberOf, placeOf}
 use Rattle.journal.specs.Resuming.{Ending, done, refuses}
-use Rattle.entities.specs.Limits.{most-modes, most-terms, row-width}
+use Rattle.entities.specs.Limits.{most-modes, most-terms, work-width}
 use Rattle.call_bytes.specs.code.Handing.{term-numbers}
 use Rattle.call_bytes.proofs.RefusalNumbers.{result-says}
 use Rattle.daemon.specs.Calls.{Lent, resume-called}
@@ -27,6 +27,6 @@ module _ (most : ℕ) (small : most ≤ most-modes) (modes : ℕ) (terms read : 
       → (1 ≤ result) × (result / 65536 ≡ numberOf refusal) × (result % 65536 ≡ placeOf refusal)
   unfolding result-of resume-handed rooms-in
   refusal-says refusal e =
-      let own : Own = record { modes = most; work = row-width * most-terms; rows = 4 * most } in
-      let handed = sym (resume-outright own (omega arith) (omega arith) modes terms read given) ∙ e in
+      let own : Own = record { modes = most; work = work-width * most-terms; rows = 4 * most; drops = most } in
+      let handed = sym (resume-outright own (omega arith) (omega arith) (omega arith) modes terms read given) ∙ e in
       result-says refusal result (refused-place modes 0 (term-numbers terms) (rooms-in own given) small read refusal handed) (ap result-of e)

@@ -20,15 +20,16 @@ fn resume_numbers(
     read: &[u8],
     work: &mut [u16],
     own: &mut [u16],
+    drops: &mut [u16],
     rows: &mut [u8],
     journal: &mut [u8],
     answer: &mut [u8],
 ) -> u64
     requires { ⌜ (2 * length (now own) ≤ length (now rows)) × (1 ≤ length (now own) → 32 ≤ length (now answer)) ⌝ }
-    ensures { λ r. ⌜ Called (λ given. resumed (rooms-of most-modes (run-lent (now (work .entry)) (now (own .entry)) (given .journal))) modes 0 (now (terms .entry)) (now (read .entry)))
+    ensures { λ r. ⌜ Called (λ given. resumed (rooms-of most-modes (run-lent (now (work .entry)) (now (own .entry)) (given .journal) (now (drops .entry)))) modes 0 (now (terms .entry)) (now (read .entry)))
         (lent (now (rows .entry)) (now (journal .entry)) (now (answer .entry))) (lent (now (rows .exit)) (now (journal .exit)) (now (answer .exit))) r ⌝ }
 {
-    match resuming::resume(modes, 0, terms, read, work, own, journal) {
+    match resuming::resume(modes, 0, terms, read, work, own, journal, drops) {
         Answer::Refused(why) => call_bytes::refusal_result(why),
         Answer::Done(numbers) => {
             answering::put_done(modes, own, numbers, rows, answer);
@@ -45,12 +46,13 @@ fn resume_lent(
     numbers: &mut [u16],
     work: &mut [u16],
     own: &mut [u16],
+    drops: &mut [u16],
     rows: &mut [u8],
     journal: &mut [u8],
     answer: &mut [u8],
 ) -> u64
     requires { ⌜ length (now numbers) ≡ row-width * (most-terms + 1) ⌝ }
-    ensures { λ r. ⌜ Called (resume-handed (own-of most-modes (now (work .entry)) (now (own .entry))) modes (now (terms .entry)) (now (read .entry)))
+    ensures { λ r. ⌜ Called (resume-handed (own-of most-modes (now (work .entry)) (now (own .entry)) (now (drops .entry))) modes (now (terms .entry)) (now (read .entry)))
         (lent (now (rows .entry)) (now (journal .entry)) (now (answer .entry))) (lent (now (rows .exit)) (now (journal .exit)) (now (answer .exit))) r ⌝ }
 {
     let count = term_bytes::read_terms(terms, numbers);
@@ -61,13 +63,14 @@ fn resume_lent(
         read,
         work,
         &mut own[..room],
+        drops,
         rows,
         journal,
         answer,
     )
 }
 
-// The call's own arrays: the terms' numbers, the work and the rows.
+// The call's own arrays: the terms' numbers, the work, the rows and the drops, which no caller in C is told.
 pub fn resume_bytes(
     modes: u64,
     terms: &[u8],
@@ -80,8 +83,9 @@ pub fn resume_bytes(
         (lent (now (rows .entry)) (now (journal .entry)) (now (answer .entry))) (lent (now (rows .exit)) (now (journal .exit)) (now (answer .exit))) r ⌝ }
 {
     let mut numbers = [0u16; 16392];
-    let mut work = [0u16; 16384];
+    let mut work = [0u16; 18432];
     let mut own = [0u16; 1024];
+    let mut drops = [0u16; 256];
     resume_lent(
         modes as usize,
         terms,
@@ -89,6 +93,7 @@ pub fn resume_bytes(
         &mut numbers,
         &mut work,
         &mut own,
+        &mut drops,
         rows,
         journal,
         answer,

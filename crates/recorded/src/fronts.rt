@@ -1,4 +1,5 @@
 // What a call left in a lent slice: the front that it wrote, and all behind it untouched.
+use terms::row;
 use terms::slices;
 
 // What stands in a lent slice before a call: no index, label, code or zero is this number.
@@ -28,6 +29,15 @@ pub fn cleared(numbers: &[u16], end: usize) -> bool {
         return false;
     }
     slices::all_are(&numbers[end..], UNTOUCHED)
+}
+
+// The work numbers of a call on these terms, nine a term, are zero, and nothing behind them was touched.
+pub fn work_cleared(work: &[u16], terms: &[u16]) -> bool {
+    let count = terms.len() / row::WIDTH;
+    if work.len() / row::WORK_WIDTH < count {
+        return false;
+    }
+    cleared(work, row::WORK_WIDTH * count)
 }
 
 // No byte from this place on was touched.

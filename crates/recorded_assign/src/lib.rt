@@ -77,7 +77,7 @@ fn same_answer(
     weight: u64,
     rows: &[u16],
 ) -> bool {
-    let mut work = [fronts::UNTOUCHED; 16392];
+    let mut work = [fronts::UNTOUCHED; 18441];
     let mut table = [fronts::UNTOUCHED; 780];
     same_written(
         modes,
@@ -112,7 +112,7 @@ fn same_written(
     if !same_table(rows, table) {
         return false;
     }
-    fronts::cleared(work, terms.len())
+    fronts::work_cleared(work, terms)
 }
 
 // The rows, labelled in order, are the front of the table, and nothing behind it was touched.

@@ -1,4 +1,4 @@
-// A recorded HATT case asked anew: the weight and the rows must be those that ferrmion's Rust gave.
+// A recorded HATT case asked anew: the weight and the rows must be those that ferrmion's Rust gave. It counts no drops; ours must be of every term.
 use fields::numbers::Field;
 use journal::resuming;
 use journal::resuming::Answer;
@@ -6,6 +6,8 @@ use recorded::answer;
 use recorded::answer::Recorded;
 use recorded::fronts;
 use recorded::lines;
+use terms::row;
+use terms::slices;
 
 // The case is read whole and the library answers the same.
 pub fn agrees(case: &[u8]) -> bool {
@@ -40,9 +42,10 @@ fn agrees_in(case: &[u8], terms: &mut [u16], rows: &mut [u16]) -> bool {
 
 // The library's answer to these terms is this weight and these rows.
 fn same_answer(modes: usize, terms: &[u16], weight: u64, rows: &[u16]) -> bool {
-    let mut work = [fronts::UNTOUCHED; 16392];
+    let mut work = [fronts::UNTOUCHED; 18441];
     let mut written = [fronts::UNTOUCHED; 1028];
     let mut journal = [fronts::UNTOUCHED_BYTE; 5400];
+    let mut drops = [fronts::UNTOUCHED; 260];
     same_written(
         modes,
         terms,
@@ -51,6 +54,7 @@ fn same_answer(modes: usize, terms: &[u16], weight: u64, rows: &[u16]) -> bool {
         &mut work,
         &mut written,
         &mut journal,
+        &mut drops,
     )
 }
 
@@ -63,8 +67,9 @@ fn same_written(
     work: &mut [u16],
     written: &mut [u16],
     journal: &mut [u8],
+    drops: &mut [u16],
 ) -> bool {
-    let answer = resuming::hatt(modes, 0, terms, work, written, journal);
+    let answer = resuming::hatt(modes, 0, terms, work, written, journal, drops);
     let Answer::Done(numbers) = answer else {
         return false;
     };
@@ -74,8 +79,32 @@ fn same_written(
     if !fronts::holds(written, rows) {
         return false;
     }
-    if !fronts::cleared(work, terms.len()) {
+    if !fronts::work_cleared(work, terms) {
+        return false;
+    }
+    if !all_dropped(drops, modes, terms.len() / row::WIDTH) {
         return false;
     }
     fronts::bytes_untouched(journal, numbers.new)
+}
+
+// The drops of the first `modes` steps add up to the terms, for the published rule leaves none, and nothing behind them was touched.
+fn all_dropped(drops: &[u16], modes: usize, terms: usize) -> bool {
+    if drops.len() < modes {
+        return false;
+    }
+    let mut left = terms;
+    let mut step = 0;
+    while step < modes {
+        let dropped = entities::wide(drops[step]);
+        if left < dropped {
+            return false;
+        }
+        left -= dropped;
+        step += 1;
+    }
+    if left != 0 {
+        return false;
+    }
+    slices::all_are(&drops[modes..], fronts::UNTOUCHED)
 }

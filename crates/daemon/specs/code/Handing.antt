@@ -9,14 +9,15 @@ use Rattle.journal.specs.Resuming.{Outcome, Rooms, resumed}
 use Rattle.call_bytes.specs.code.Handing.{term-numbers, room-of}
 use Rattle.daemon.specs.Calls.{Lent}
 
--- What a call has of its own: the most modes, and the room of its work and rows.
+-- What a call has of its own: the most modes, and the room of its work, rows and drops.
 pub record Own : Type 0 where
   pub modes : ℕ
   pub work : ℕ
   pub rows : ℕ
+  pub drops : ℕ
 
-abbrev pub own-of : ℕ → List ℕ → List ℕ → Own
-own-of most work rows = record { modes = most; work = length work; rows = length rows }
+abbrev pub own-of : ℕ → List ℕ → List ℕ → List ℕ → Own
+own-of most work rows drops = record { modes = most; work = length work; rows = length rows; drops = length drops }
 
 -- The rooms of a run in what the call has and is lent.
 unfoldable pub rooms-in : Own → Lent → Rooms
@@ -25,6 +26,7 @@ rooms-in own given = record {
   work = own .work;
   rows = room-of 4 (own .rows) (length (given .rows)) (length (given .answer));
   journal = length (given .journal);
+  drops = own .drops;
 }
 
 -- Resuming, handed on.

@@ -27,7 +27,7 @@ slice-aggregate-resume-numbers c =
 
 slice-relend-prefix-resume-numbers : tie.Need-slice-relend-prefix-resume-numbers
 slice-relend-prefix-resume-numbers c =
-    let args = c .before .before .before .before .before .before .before .before .before .before .before .before .before .before .before .args in
+    let args = c .before .before .before .before .before .before .before .before .before .before .before .before .before .before .before .before .args in
     let own = args .own .now in
     let room = c .before .before .room-for in
     let fits = room-fits 4 (length own) (length (args .rows .now)) (length (args .answer .now)) in
@@ -36,7 +36,7 @@ slice-relend-prefix-resume-numbers c =
 
 slice-aggregate-resume-numbers-2 : tie.Need-slice-aggregate-resume-numbers-2
 slice-aggregate-resume-numbers-2 c =
-    let args = c .before .before .before .before .before .before .before .before .before .before .before .before .before .before .before .before .args in
+    let args = c .before .before .before .before .before .before .before .before .before .before .before .before .before .before .before .before .before .args in
     let own = args .own .now in
     let room = c .before .before .before .room-for in
     let fits = room-fits 4 (length own) (length (args .rows .now)) (length (args .answer .now)) in
@@ -44,9 +44,9 @@ slice-aggregate-resume-numbers-2 c =
 
 resume-numbers-requires : tie.Need-resume-numbers-requires
 resume-numbers-requires c κs =
-    let args = c .before .before .before .before .before .before .before .before .before .before .before .before .before .before .before .before .before .before .before .args in
+    let args = c .before .before .before .before .before .before .before .before .before .before .before .before .before .before .before .before .before .before .before .before .before .args in
     let own = args .own .now in
-    let room = c .before .before .before .before .before .before .room-for in
+    let room = c .before .before .before .before .before .before .before .room-for in
     let fits = room-fits 4 (length own) (length (args .rows .now)) (length (args .answer .now)) in
     let l = length-take-le (room .result) own (omega (arith, room .ensures, fits .in-own)) in
     (omega (arith, l, room .ensures, fits .in-bytes), λ some. fits .answered (omega (arith, l, room .ensures, some)))
@@ -69,16 +69,19 @@ same-length-5 c = search needs
 same-length-6 : tie.Need-same-length-6
 same-length-6 c = search needs
 
+same-length-7 : tie.Need-same-length-7
+same-length-7 c = search needs
+
 returns : tie.Need-returns
 returns c =
-    let args = c .before .before .before .before .before .before .before .before .before .before .before .before .before .before .before .before .before .before .before .before .before .before .before .before .before .before .before .before .before .before .args in
+    let args = c .before .before .before .before .before .before .before .before .before .before .before .before .before .before .before .before .before .before .before .before .before .before .before .before .before .before .before .before .before .before .before .before .before .before .args in
     let own = args .own .now in
-    let room = c .before .before .before .before .before .before .before .before .before .before .before .before .before .before .before .before .before .room-for in
-    let read-terms = c .before .before .before .before .before .before .before .before .before .before .before .before .before .before .before .before .before .before .before .before .read-terms in
+    let room = c .before .before .before .before .before .before .before .before .before .before .before .before .before .before .before .before .before .before .before .before .room-for in
+    let read-terms = c .before .before .before .before .before .before .before .before .before .before .before .before .before .before .before .before .before .before .before .before .before .before .before .read-terms in
     let given = lent (args .rows .now) (args .journal .now) (args .answer .now) in
     called-so _ _ given _ _
-    (lent-means (args .modes) (args .terms .now) (args .read .now) _ (args .work .now) own (read-terms .result) (room .result) given (read-terms .ensures) (room .ensures))
-    (c .before .before .before .before .before .before .before .before .before .before .resume-numbers .ensures)
+    (lent-means (args .modes) (args .terms .now) (args .read .now) _ (args .work .now) own (args .drops .now) (read-terms .result) (room .result) given (read-terms .ensures) (room .ensures))
+    (c .before .before .before .before .before .before .before .before .before .before .before .before .resume-numbers .ensures)
 
 pub resume-lent-spec : {M : Type 1} → statement M
 resume-lent-spec =
@@ -97,4 +100,5 @@ resume-lent-spec =
     same-length-4
     same-length-5
     same-length-6
+    same-length-7
     returns)
