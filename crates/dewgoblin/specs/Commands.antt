@@ -15,6 +15,7 @@ use Rattle.best_text.specs.Printing.{best-text}
 use Rattle.steering.specs.Steering.{steer-text}
 use Rattle.steering.specs.Reasons.{reason-text}
 use Rattle.letters_text.specs.Lettering.{letters-text}
+use Rattle.drops_text.specs.Dropping.{drops-text}
 use Rattle.tree_text.specs.Answers.{check-text, weigh-text}
 use Rattle.assign_text.specs.Assigning.{assign-text}
 use Rattle.strings_text.specs.Printing.{hatt-strings-text, tree-strings-text}
@@ -30,7 +31,8 @@ journal-command name asks file =
     cond (alike name (spelt "resume")) (resume-text program-rooms asks file)
     (cond (alike name (spelt "steer")) (steer-text program-rooms asks file)
     (cond (alike name (spelt "reason")) (reason-text program-rooms asks file)
-    (continue-text program-rooms asks file)))
+    (cond (alike name (spelt "drops")) (drops-text program-rooms asks file)
+    (continue-text program-rooms asks file))))
 
 -- Those whose file is a tree. `assign` has one more word, the heuristic's, and so has `letters`, whose file is a journal: the step's.
 unfoldable pub command-text : List ℕ → List ℕ → Request → List ℕ → List ℕ

@@ -51,6 +51,9 @@ fn journal_answer(name: &[u8], rule: Rule, input: &[u8], file: &[u8]) -> Printed
     if parts::same_bytes(name, b"reason") {
         return reasons::reason_answer(rule, input, file);
     }
+    if parts::same_bytes(name, b"drops") {
+        return drops_text::drops_answer(rule, input, file);
+    }
     journals::continue_answer(rule, input, file)
 }
 

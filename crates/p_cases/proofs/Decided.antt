@@ -43,8 +43,8 @@ shown place there =
     }
 
 -- A call's rows begin with those that it wrote, whatever stood there.
-front : (outcome : Outcome) (given : Lent) (i : ℕ) → i < length (lent-then outcome (lent [] [] []) .rows)
-    → getD (lent-then outcome given .rows) i 0 ≡ getD (lent-then outcome (lent [] [] []) .rows) i 0
+front : (outcome : Outcome) (given : Lent) (i : ℕ) → i < length (lent-then outcome (lent [] [] [] []) .rows)
+    → getD (lent-then outcome given .rows) i 0 ≡ getD (lent-then outcome (lent [] [] [] []) .rows) i 0
 unfolding lent-then written-at
 front (done ending) given i h =
     let part = ending .rows in
@@ -54,7 +54,7 @@ front (refuses refusal) given i h = absurd (omega arith)
 
 -- The second number of the first row, after a call whose rows were seen.
 second : (outcome : Outcome) (before after : Lent) (seen : List ℕ) → after ≡ lent-then outcome before
-    → lent-then outcome (lent [] [] []) .rows ≡ seen → 1 < length seen → getD (after .rows) 1 0 ≡ getD seen 1 0
+    → lent-then outcome (lent [] [] [] []) .rows ≡ seen → 1 < length seen → getD (after .rows) 1 0 ≡ getD seen 1 0
 second outcome before after seen e f h =
     ap (λ l. getD (l .rows) 1 0) e ∙ front outcome before 1 (rw f h) ∙ ap (λ l. getD l 1 0) f
 

@@ -2,11 +2,11 @@
 use mathlib.Core.Path.{_≡_}
 use mathlib.Core.Bool.{Bool, true, _&&_}
 use mathlib.Core.List.{List, [], _∷_, _++_}
-use Prim.Native.Nat.{ℕ, _*_}
+use Prim.Native.Nat.{ℕ, _*_, _/_}
 use lib.ListN.{length, replicate}
 use Rattle.lists.specs.Members.{every, alike}
 use Rattle.entities.specs.Codes.{absent}
-use Rattle.entities.specs.Limits.{most-modes}
+use Rattle.entities.specs.Limits.{most-modes, row-width, work-width}
 use Rattle.fields.specs.Texts.{spelt}
 use Rattle.terms.specs.declared.rules.Rule.{Rule}
 use Rattle.terms.specs.declared.rules.Rule.the-variants.{Published, Keep}
@@ -24,6 +24,7 @@ use Rattle.text.specs.Output.{answer-text}
 use Rattle.steering.specs.Steering.{steer-text}
 use Rattle.steering.specs.Reasons.{reason-text}
 use Rattle.letters_text.specs.Lettering.{letters-text}
+use Rattle.drops_text.specs.Dropping.{drops-text}
 use Rattle.tree_text.specs.Answers.{weigh-text}
 use Rattle.assign_text.specs.Assigning.{assign-text}
 use Rattle.newick_line.specs.NewickLine.{newick-answer-text}
@@ -81,10 +82,14 @@ tree3 = 2 ∷ 3 ∷ 4 ∷ 0 ∷ 5 ∷ absent ∷ []
 abbrev pub nodes3 : List ℕ
 nodes3 = spelt "node\t1\t0\t5\t-\nnode\t0\t2\t3\t4\n"
 
--- What resuming by a rule means; the rooms for work and rows are as 01 asks for.
+-- The work that is asked for: "9T work numbers".
+abbrev pub work-room : List ℕ → ℕ
+work-room terms = work-width * (length terms / row-width)
+
+-- What resuming by a rule means; the rooms for work, rows and drops are as 01 and 02 ask for.
 unfoldable pub meant-by : Rule → ℕ → List ℕ → List ℕ → ℕ → Outcome
 meant-by rule modes terms journal room =
-    resumed (record { modes = most-modes; work = length terms; rows = 4 * modes; journal = room }) modes (rule-number rule) terms journal
+    resumed (record { modes = most-modes; work = work-room terms; rows = 4 * modes; journal = room; drops = modes }) modes (rule-number rule) terms journal
 
 -- The same by the published rule.
 abbrev pub meant : ℕ → List ℕ → List ℕ → ℕ → Outcome
@@ -93,7 +98,7 @@ meant modes terms journal room = meant-by Published modes terms journal room
 -- What resuming shows: refusal, place, weight, trials, kept and new bytes.
 unfoldable pub resuming : Outcome → Seen
 resuming outcome =
-    let left = lent-then outcome (lent [] [] []) in
+    let left = lent-then outcome (lent [] [] [] []) in
     record { numbers = numbers-of (returned outcome); rows = left .rows; lines = left .journal }
 
 -- Nothing but numbers.
@@ -107,7 +112,7 @@ weighing modes tree terms = told (weight-numbers (tree-weighed most-modes modes 
 -- What assigning shows under `min_weight` and the published rule: refusal, place, weight.
 unfoldable pub assigning : ℕ → List ℕ → List ℕ → Seen
 assigning modes tree terms =
-    let came = outcome (record { modes = most-modes; work = length terms; table = length tree }) (asked modes (rule-number Published) tree 0 terms) in
+    let came = outcome (record { modes = most-modes; work = work-room terms; table = length tree }) (asked modes (rule-number Published) tree 0 terms) in
     record { numbers = assign-numbers (assigned came); rows = assign-left came (assign-lent [] []) .table; lines = [] }
 
 -- Nothing but lines.
@@ -172,6 +177,8 @@ cases =
     ∷ shows (printed (reason-text program-rooms (request Published input3) (spelt "hatt\t1\t2\t3\n0\t0\t1\t4\t1\n"))) [] [] (spelt "weight\t2\n")
     -- P3's first step, of 0, 1 and 2, as `letters` tells it: all three stand in the third term, so it has none
     ∷ shows (printed (letters-text program-rooms (request Published input3) [] (spelt "0"))) [] [] (spelt "0\tZ\n1\tZ\n2\t-\n")
+    -- P3's drops as `drops` prints them: its first merge leaves only the parent of the first term, its second of the other two
+    ∷ shows (printed (drops-text program-rooms (request Published input3) [])) [] [] (spelt "0\t1\n1\t2\n")
     -- P3's tree as `weigh` reads and prints it, and P8 as `assign` does
     ∷ shows (printed (weigh-text program-rooms nodes3 input3)) [] [] (spelt "weight\t4\n")
     ∷ shows (printed (assign-text program-rooms nodes3 (spelt "min_weight") (request Published (spelt "modes\t2\nterm\t1\n")))) [] []

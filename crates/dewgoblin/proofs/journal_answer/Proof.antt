@@ -55,16 +55,37 @@ returns-3 c =
     )
     (c .reason-answer .ensures)
 
-continue-answer-requires : tie.Need-continue-answer-requires
-continue-answer-requires c κs = search needs
+slice-aggregate-same-bytes-4 : tie.Need-slice-aggregate-same-bytes-4
+slice-aggregate-same-bytes-4 c = search needs
+
+same-bytes-requires-4 : tie.Need-same-bytes-requires-4
+same-bytes-requires-4 c κs = search needs
+
+drops-answer-requires : tie.Need-drops-answer-requires
+drops-answer-requires c κs = search needs
 
 returns-4 : tie.Need-returns-4
 unfolding journal-command
 returns-4 c =
     rw (
-      sym (c .before .before .before .before .before .before .before .before .same-bytes .ensures) ∙ c .before .before .before .before .before .before .before .if1 .left,
-      sym (c .before .before .before .before .before .same-bytes2 .ensures) ∙ c .before .before .before .before .if2 .left,
-      sym (c .before .before .same-bytes3 .ensures) ∙ c .before .if3 .left,
+      sym (c .before .before .before .before .before .before .before .before .before .before .before .same-bytes .ensures) ∙ c .before .before .before .before .before .before .before .before .before .before .if1 .left,
+      sym (c .before .before .before .before .before .before .before .before .same-bytes2 .ensures) ∙ c .before .before .before .before .before .before .before .if2 .left,
+      sym (c .before .before .before .before .before .same-bytes3 .ensures) ∙ c .before .before .before .before .if3 .left,
+      sym (c .before .before .same-bytes4 .ensures) ∙ c .before .if4 .taken,
+    )
+    (c .drops-answer .ensures)
+
+continue-answer-requires : tie.Need-continue-answer-requires
+continue-answer-requires c κs = search needs
+
+returns-5 : tie.Need-returns-5
+unfolding journal-command
+returns-5 c =
+    rw (
+      sym (c .before .before .before .before .before .before .before .before .before .before .before .same-bytes .ensures) ∙ c .before .before .before .before .before .before .before .before .before .before .if1 .left,
+      sym (c .before .before .before .before .before .before .before .before .same-bytes2 .ensures) ∙ c .before .before .before .before .before .before .before .if2 .left,
+      sym (c .before .before .before .before .before .same-bytes3 .ensures) ∙ c .before .before .before .before .if3 .left,
+      sym (c .before .before .same-bytes4 .ensures) ∙ c .before .if4 .left,
     )
     (c .continue-answer .ensures)
 
@@ -84,5 +105,9 @@ journal-answer-spec =
     same-bytes-requires-3
     reason-answer-requires
     returns-3
+    slice-aggregate-same-bytes-4
+    same-bytes-requires-4
+    drops-answer-requires
+    returns-4
     continue-answer-requires
-    returns-4)
+    returns-5)

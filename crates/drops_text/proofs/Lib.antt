@@ -1,0 +1,3 @@
+-- The laws of drops by step.
+pub mod DropLines
+pub mod DropsPrinted

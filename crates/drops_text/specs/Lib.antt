@@ -1,0 +1,2 @@
+-- What `drops` prints: how many terms each step dropped.
+pub mod Dropping
