@@ -1,7 +1,8 @@
-// What the tests call from Rust: the calls `resume`, `assign`, the Newick calls and `write_strings`, one merge of rows, and what the tree calls answer.
+// What the tests call from Rust: the calls `resume`, `assign`, `best`, the Newick calls and `write_strings`, one merge of rows, and what the tree calls answer.
 ghost use Prim.Native.Nat.{_≤_};
-ghost use Rattle.entities.specs.Limits.{«most-terms», «row-width»};
-ghost use Rattle.terms.specs.code.Held.{Held};
+ghost use Rattle.entities.specs.Limits.{«most-terms»};
+ghost use Rattle.terms.specs.code.Held.{Given, Worked};
+use best::BestFound;
 use entities::Triple;
 use journal::resuming;
 use journal::resuming::Answer;
@@ -11,6 +12,8 @@ use newick::reading::NewickRead;
 use newick::writing;
 use terms::checking;
 use terms::checking::Checked;
+use terms::counted;
+use terms::row;
 use terms::rules;
 use terms::rules::Rule;
 use terms::weight;
@@ -19,11 +22,12 @@ use tree::TreeChecked;
 use tree::TreeWritten;
 use tree_weight::TreeWeighed;
 
-// The triple weighed in the rows, and the rows reduced to its parent by the rule of this number where they stand; the refusal of the rows as terms follows, and the weight.
+// The terms put as work rows over the lent rows, each standing for itself; the triple weighed in them, and they reduced to its parent by the rule of this number. The refusal of the terms follows, the weight, and how many terms were dropped.
 #[no_mangle]
 pub extern "C" fn test_merge(
     modes: usize,
     rule: usize,
+    terms: &[u16],
     rows: &mut [u16],
     x: u16,
     y: u16,
@@ -31,17 +35,45 @@ pub extern "C" fn test_merge(
     parent: u16,
     answer: &mut [u64],
 ) {
-    match checking::check_terms(modes, rows) {
+    match checking::check_terms(modes, terms) {
         Checked::Good(count) => {
             let triple = Triple { x: x, y: y, z: z };
-            put_merge(rows, count, rules::rule_of(rule), triple, parent, answer)
+            put_merge(
+                terms,
+                count,
+                rows,
+                rules::rule_of(rule),
+                triple,
+                parent,
+                answer,
+            )
         }
         Checked::Refused(refusal) => put(answer, refusal::number(refusal) as u64, 0, 0),
     }
 }
 
-// The same, of so many rows.
+// The same, of the first `count` terms, all good; nothing where there is no room for their rows.
 fn put_merge(
+    terms: &[u16],
+    count: usize,
+    rows: &mut [u16],
+    rule: Rule,
+    triple: Triple,
+    parent: u16,
+    answer: &mut [u64],
+)
+    requires { ⌜ Given count (now terms) ⌝ }
+    requires { ⌜ count ≤ most-terms ⌝ }
+{
+    if rows.len() < row::WORK_WIDTH * count {
+        return;
+    }
+    counted::put_each_once(terms, count, rows);
+    merge_rows(rows, count, rule, triple, parent, answer);
+}
+
+// The same, of the first `count` work rows.
+fn merge_rows(
     rows: &mut [u16],
     count: usize,
     rule: Rule,
@@ -49,12 +81,12 @@ fn put_merge(
     parent: u16,
     answer: &mut [u64],
 )
-    requires { ⌜ Held row-width count (now rows) ⌝ }
+    requires { ⌜ Worked count (now rows) ⌝ }
     requires { ⌜ count ≤ most-terms ⌝ }
 {
-    let weighed = weight::weight(rows, count, triple);
-    reduction::reduce_hamiltonian(rows, count, rule, parent, triple);
-    put(answer, 0, weighed as u64, 0);
+    let weighed = weight::weight(rows, row::WORK_WIDTH, count, triple);
+    let dropped = reduction::reduce_hamiltonian(rows, count, rule, parent, triple);
+    put(answer, 0, weighed as u64, dropped as u64);
 }
 
 // The call `resume` as it is; its six numbers follow: refusal, place, weight, trials, kept and new bytes.
@@ -68,8 +100,9 @@ pub extern "C" fn test_resume(
     rows: &mut [u16],
     journal: &mut [u8],
     answer: &mut [u64],
+    drops: &mut [u16],
 ) {
-    match resuming::resume(modes, rule, terms, read, work, rows, journal) {
+    match resuming::resume(modes, rule, terms, read, work, rows, journal, drops) {
         Answer::Done(numbers) => put_six(answer, 0, 0, numbers),
         Answer::Refused(refusal) => {
             put_six(
@@ -144,6 +177,23 @@ pub extern "C" fn test_tree_weight(modes: usize, tree: &[u16], terms: &[u16], an
     }
 }
 
+// The call `best` as it is; its refusal's number and place follow, the least weight and how many sequences reach it.
+#[no_mangle]
+pub extern "C" fn test_best(modes: usize, terms: &[u16], sequence: &mut [u16], answer: &mut [u64]) {
+    match best::best(modes, terms, sequence) {
+        BestFound::Found(weight, reached) => put_four(answer, 0, 0, weight, reached as u64),
+        BestFound::Unfound(refusal) => {
+            put_four(
+                answer,
+                refusal::number(refusal) as u64,
+                refusal::place(refusal) as u64,
+                0,
+                0,
+            )
+        }
+    }
+}
+
 // The call `write_newick` as it is; its refusal's number and place follow, and the bytes written.
 #[no_mangle]
 pub extern "C" fn test_write_newick(
@@ -205,6 +255,17 @@ fn put(answer: &mut [u64], first: u64, second: u64, third: u64) {
     answer[0] = first;
     answer[1] = second;
     answer[2] = third;
+}
+
+// Four numbers, where there is room for them.
+fn put_four(answer: &mut [u64], first: u64, second: u64, third: u64, fourth: u64) {
+    if answer.len() != 4 {
+        return;
+    }
+    answer[0] = first;
+    answer[1] = second;
+    answer[2] = third;
+    answer[3] = fourth;
 }
 
 // Six numbers, where there is room for them.

@@ -2,6 +2,7 @@
 
 use compare::cases::{any_tree, flat, terms, Random, Shape};
 use compare::proved;
+use plain::terms::work_room;
 use std::hint::black_box;
 
 /// Runs of each; the median of them counts.
@@ -62,20 +63,37 @@ fn hatt(kind: &str, modes: usize, count: usize, shape: Shape) {
     let terms = terms(&mut Random::new(1), modes, count, shape);
     let numbers = flat(&terms);
     let lent = || {
-        let (work, rows) = (vec![0; numbers.len()], vec![0; 4 * modes]);
-        (work, rows, vec![0; 16 + 21 * modes])
+        let (work, rows) = (vec![0; work_room(&numbers)], vec![0; 4 * modes]);
+        (work, rows, vec![0; 16 + 21 * modes], vec![0; modes])
     };
     compare(
         &format!("HATT, {modes} modes, {count} terms, {kind}"),
         if modes > SHORT_MODES { 1 } else { RUNS },
         || {
-            let (mut work, mut rows, mut journal) = lent();
-            proved::resume(modes, 0, &numbers, &[], &mut work, &mut rows, &mut journal)[2]
+            let (mut work, mut rows, mut journal, mut drops) = lent();
+            proved::resume(
+                modes,
+                0,
+                &numbers,
+                &[],
+                &mut work,
+                &mut rows,
+                &mut journal,
+                &mut drops,
+            )[2]
         },
         || oracle::hatt(modes, &terms).1 as u64,
         || {
-            let (mut work, mut rows, mut journal) = lent();
-            let done = plain::hatt(modes, 0, &numbers, &mut work, &mut rows, &mut journal);
+            let (mut work, mut rows, mut journal, mut drops) = lent();
+            let done = plain::hatt(
+                modes,
+                0,
+                &numbers,
+                &mut work,
+                &mut rows,
+                &mut journal,
+                &mut drops,
+            );
             done.expect("the terms are good").weight
         },
     );
@@ -87,7 +105,7 @@ fn assign(kind: &str, modes: usize, count: usize, shape: Shape) {
     let terms = terms(&mut random, modes, count, shape);
     let tree = any_tree(&mut random, modes);
     let numbers = flat(&terms);
-    let lent = || (vec![0; numbers.len()], vec![0; 3 * modes]);
+    let lent = || (vec![0; work_room(&numbers)], vec![0; 3 * modes]);
     compare(
         &format!("assign, {modes} modes, {count} terms, {kind}"),
         RUNS,

@@ -9,4 +9,4 @@ pub mod proved;
 
 pub use kinds::Kinds;
 pub use marks::{BYTE_MARK, MARK};
-pub use numbers::{numbers, six_numbers};
+pub use numbers::{four_numbers, numbers, six_numbers};

@@ -1,5 +1,6 @@
 //! The plain program's answers in the form of the proved calls'.
 
+use plain::best::Best;
 use plain::{Done, Refusal};
 
 /// Refusal, place and what was answered, zeros where there is none.
@@ -8,6 +9,13 @@ pub fn numbers(answer: Result<u64, Refusal>) -> [u64; 3] {
         Ok(number) => [0, 0, number],
         Err(Refusal { number, place }) => [u64::from(number), place as u64, 0],
     }
+}
+
+/// Refusal, place, least weight and how many sequences reach it.
+pub fn four_numbers(answer: Result<Best, Refusal>) -> [u64; 4] {
+    let reached = answer.as_ref().map_or(0, |found| found.reached as u64);
+    let [number, place, least] = numbers(answer.map(|found| found.least));
+    [number, place, least, reached]
 }
 
 /// Refusal, place, weight, trials, kept and new bytes.

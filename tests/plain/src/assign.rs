@@ -2,7 +2,8 @@
 
 use crate::merging::ABSENT;
 use crate::refusal::{check_modes, check_rooms, demand, Refusal};
-use crate::terms::{read_terms, reduce_hamiltonian, weigh, Row, Rule};
+use crate::terms::{each_once, read_terms, reduce_hamiltonian, weigh, work_room};
+use crate::terms::{Row, Rule, WorkRow};
 use crate::tree::{read_tree, Child, Tree};
 use std::cmp::Reverse;
 
@@ -26,8 +27,8 @@ pub fn assign(
     let given = read_tree(modes, tree)?;
     demand(heuristic <= Z_FIRST, 17, 0)?;
     let rows = read_terms(modes, terms)?;
-    // "Room: work 8T numbers; ... assignment tables 3n".
-    check_rooms(&[(work.len(), terms.len()), (table.len(), 3 * modes)])?;
+    // "Room: ... assignment tables 3n", and of 02 work.
+    check_rooms(&[(work.len(), work_room(terms)), (table.len(), 3 * modes)])?;
 
     let mut rounds = Rounds::new(modes, rule, &given, rows);
     let mut weight = 0;
@@ -35,7 +36,7 @@ pub fn assign(
     while !rounds.unassigned.is_empty() {
         weight += rounds.round(heuristic);
     }
-    work[..terms.len()].fill(0);
+    work[..work_room(terms)].fill(0);
     table[..3 * modes].copy_from_slice(&rounds.codes());
     Ok(weight)
 }
@@ -61,7 +62,7 @@ struct Choice {
 struct Rounds {
     modes: usize,
     rule: Rule,
-    rows: Vec<Row>,
+    rows: Vec<WorkRow>,
     /// The slots of each node: X, Y, Z.
     slots: Vec<[Slot; 3]>,
     /// For each node whose Z child is a leaf of the given tree: the node and edge of its partner.
@@ -79,7 +80,7 @@ impl Rounds {
         Rounds {
             modes,
             rule,
-            rows,
+            rows: each_once(rows),
             slots: (0..modes).map(slots_of).collect(),
             partners: partners(modes, tree),
             distances: distances(modes, tree),
@@ -95,7 +96,8 @@ impl Rounds {
         self.remaining.retain(|&node| node != best.node);
         // "The rows are reduced to 2n+1+node."
         let rows = std::mem::take(&mut self.rows);
-        self.rows = reduce_hamiltonian(rows, self.rule, self.number_of(best.node), best.triple);
+        let parent = self.number_of(best.node);
+        self.rows = reduce_hamiltonian(rows, self.rule, parent, best.triple).0;
         // "Then nodes whose every slot is a fixed leaf, a child or (Z) empty leave the round list
         // without a reduction."
         let slots = &self.slots;

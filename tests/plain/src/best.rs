@@ -16,11 +16,29 @@ pub struct Best {
     pub first: Vec<[u16; 3]>,
 }
 
-/// "22 for 5 modes or more, in the place of 1's upper end; 0 modes stays 1; then 2, 3, 4".
+/// The best of terms that are good, without a lent sequence.
 pub fn best(modes: usize, terms: &[u16]) -> Result<Best, Refusal> {
+    check(modes, terms)?;
+    find(modes, terms)
+}
+
+/// The call: the first of the best stands at the front of the lent numbers; "and 5 where the sequence's 3n numbers don't fit".
+pub fn best_into(modes: usize, terms: &[u16], sequence: &mut [u16]) -> Result<Best, Refusal> {
+    check(modes, terms)?;
+    demand(3 * modes <= sequence.len(), 5, 0)?;
+    let found = find(modes, terms)?;
+    sequence[..3 * modes].copy_from_slice(found.first.as_flattened());
+    Ok(found)
+}
+
+/// "22 for 5 modes or more, in the place of 1's upper end; 0 modes stays 1; then 2, 3, 4".
+fn check(modes: usize, terms: &[u16]) -> Result<(), Refusal> {
     demand(modes > 0, 1, 0)?;
     demand(modes <= MOST_TO_TRY, 22, 0)?;
-    read_terms(modes, terms)?;
+    read_terms(modes, terms).map(|_| ())
+}
+
+fn find(modes: usize, terms: &[u16]) -> Result<Best, Refusal> {
     let mut best: Option<Best> = None;
     for first in sequences(modes) {
         let least = tree_weight(modes, &table(modes, &first), terms)?;
@@ -84,5 +102,9 @@ pub fn table(modes: usize, merges: &[[u16; 3]]) -> Vec<u16> {
         leaf if leaf < 2 * n => leaf + n,
         node => node - 2 * n - 1,
     };
-    merges.iter().flatten().map(|&entity| code(entity)).collect()
+    merges
+        .iter()
+        .flatten()
+        .map(|&entity| code(entity))
+        .collect()
 }

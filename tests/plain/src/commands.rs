@@ -8,7 +8,7 @@ use crate::letters::letter_lines;
 use crate::merging::{Merge, Merging, ABSENT};
 use crate::refusal::{check_modes, demand, Refusal, MOST_MODES};
 use crate::strings::strings;
-use crate::terms::{read_terms, Row, Rule};
+use crate::terms::{read_terms, work_room, Row, Rule};
 use crate::text::{node_lines, print_answer, print_refusal, read_input};
 use crate::tree::{check_tree, tree_weight};
 
@@ -21,6 +21,7 @@ pub fn command(name: &str, word: &str, rule: Rule, file: &[u8], input: &[u8]) ->
         "continue" => go_on(rule, input, file).map(|run| run.new),
         "steer" => steer(rule, input, file),
         "letters" => letters(rule, input, file, word),
+        "drops" => go_on(rule, input, file).map(|run| run.drops),
         "assign" => assign_tree(rule, input, file, word),
         "weigh" => weigh_tree(input, file),
         "best" => best_of_terms(input),
@@ -45,18 +46,20 @@ fn best_of_terms(input: &[u8]) -> Result<String, Refusal> {
     ))
 }
 
-/// A run that went on from a journal: what `resume` prints of it, its `node` lines alone, and the new lines.
+/// A run that went on from a journal: what `resume` prints of it, its `node` lines alone, the new lines, and a line for each step with what it dropped.
 struct Run {
     tree: String,
     nodes: Vec<u8>,
     new: String,
+    drops: String,
 }
 
 fn go_on(rule: Rule, input: &[u8], read: &[u8]) -> Result<Run, Refusal> {
     let (modes, terms) = read_input(input)?;
-    let mut work = vec![0; terms.len()];
+    let mut work = vec![0; work_room(&terms)];
     let mut rows = vec![0; 4 * modes];
     let mut journal = vec![0; 16 + 21 * modes];
+    let mut drops = vec![0; modes];
     let done = resume(
         modes,
         rule as usize,
@@ -65,12 +68,17 @@ fn go_on(rule: Rule, input: &[u8], read: &[u8]) -> Result<Run, Refusal> {
         &mut work,
         &mut rows,
         &mut journal,
+        &mut drops,
     )?;
     journal.truncate(done.new);
+    let steps = drops.iter().enumerate();
     Ok(Run {
         tree: print_answer(done, &rows),
         nodes: node_lines(&rows).into_bytes(),
         new: String::from_utf8(journal).expect("a journal is text"),
+        drops: steps
+            .map(|(step, count)| format!("{step}\t{count}\n"))
+            .collect(),
     })
 }
 
@@ -163,7 +171,7 @@ fn assign_tree(rule: Rule, input: &[u8], tree: &[u8], heuristic: &str) -> Result
     // "17 for another heuristic name"
     let number = names.iter().position(|&name| name == heuristic);
     let number = number.unwrap_or(names.len());
-    let mut work = vec![0; terms.len()];
+    let mut work = vec![0; work_room(&terms)];
     let mut table = vec![0; 3 * modes];
     let given = lay_out(&nodes);
     let weight = assign(

@@ -2,7 +2,7 @@
 
 use crate::merging::{Merge, Merging};
 use crate::refusal::{check_modes, check_rooms, demand, Refusal};
-use crate::terms::{read_terms, Row, Rule, ROW_NUMBERS};
+use crate::terms::{read_terms, work_room, Row, Rule, ROW_NUMBERS};
 
 pub const TAB: u8 = 9;
 pub const LINE_FEED: u8 = 10;
@@ -24,11 +24,12 @@ pub fn hatt(
     work: &mut [u16],
     rows: &mut [u16],
     journal: &mut [u8],
+    drops: &mut [u16],
 ) -> Result<Done, Refusal> {
-    resume(modes, rule, terms, &[], work, rows, journal)
+    resume(modes, rule, terms, &[], work, rows, journal, drops)
 }
 
-/// Obeys the complete lines of `read`, goes on by greedy steps, and writes rows and new lines.
+/// Obeys the complete lines of `read`, goes on by greedy steps, and writes rows, new lines and the drops of each step.
 pub fn resume(
     modes: usize,
     rule: usize,
@@ -37,15 +38,17 @@ pub fn resume(
     work: &mut [u16],
     rows: &mut [u16],
     journal: &mut [u8],
+    drops: &mut [u16],
 ) -> Result<Done, Refusal> {
     check_modes(modes)?;
     let rule = Rule::read(rule)?;
     let given = read_terms(modes, terms)?;
-    // "Room: work 8T numbers; rows 4n; ... journal bytes 16 + 21n."
+    // "Room: ... rows 4n; ... journal bytes 16 + 21n", and of 02 work and "a lent table of n numbers".
     check_rooms(&[
-        (work.len(), terms.len()),
+        (work.len(), work_room(terms)),
         (rows.len(), 4 * modes),
         (journal.len(), 16 + 21 * modes),
+        (drops.len(), modes),
     ])?;
     let kept = kept_part(read);
     let mut merging = obey(modes, rule, given, kept)?;
@@ -56,9 +59,10 @@ pub fn resume(
         write_header(&mut new, rule, modes, terms.len() / ROW_NUMBERS);
     }
     let trials = run(&mut merging, &mut new);
-    work[..terms.len()].fill(0);
+    work[..work_room(terms)].fill(0);
     rows[..4 * modes].copy_from_slice(&merging.flatpack().concat());
     journal[..new.len()].copy_from_slice(&new);
+    drops[..modes].copy_from_slice(merging.drops());
     Ok(Done {
         weight: merging.greedy_weight(),
         trials,

@@ -17,7 +17,7 @@ pub mod text;
 pub mod tree;
 
 pub use assign::assign;
-pub use best::best;
+pub use best::{best, best_into};
 pub use commands::command;
 pub use journal::{find_line, hatt, resume, Done};
 pub use newick::{read_newick, write_newick};

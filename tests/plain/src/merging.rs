@@ -1,6 +1,6 @@
 //! Merging: the lawful pairs of a state, the choice of a step, the merge itself, and the rows of the finished tree.
 
-use crate::terms::{reduce_hamiltonian, weigh, Row, Rule};
+use crate::terms::{each_once, reduce_hamiltonian, weigh, Row, Rule, WorkRow};
 use std::collections::VecDeque;
 
 /// "65535 for the one absent child".
@@ -17,12 +17,13 @@ pub struct Merge {
 pub struct Merging {
     modes: usize,
     rule: Rule,
-    rows: Vec<Row>,
+    rows: Vec<WorkRow>,
     /// The open entities, ascending.
     open: Vec<u16>,
     /// The z-end of every entity made so far, by its number.
     z_ends: Vec<u16>,
     merges: Vec<Merge>,
+    drops: Vec<u16>,
 }
 
 impl Merging {
@@ -32,15 +33,21 @@ impl Merging {
         Merging {
             modes,
             rule,
-            rows,
+            rows: each_once(rows),
             open: leaves.clone(),
             z_ends: leaves,
             merges: Vec::new(),
+            drops: Vec::new(),
         }
     }
 
     pub fn merges(&self) -> &[Merge] {
         &self.merges
+    }
+
+    /// 02: "for each step, the sum of the counts of the rows dropped there".
+    pub fn drops(&self) -> &[u16] {
+        &self.drops
     }
 
     pub fn is_finished(&self) -> bool {
@@ -129,7 +136,9 @@ impl Merging {
         self.open.retain(|entity| !merge.triple.contains(entity));
         self.open.push(parent);
         let rows = std::mem::take(&mut self.rows);
-        self.rows = reduce_hamiltonian(rows, self.rule, parent, merge.triple);
+        let (left, dropped) = reduce_hamiltonian(rows, self.rule, parent, merge.triple);
+        self.rows = left;
+        self.drops.push(dropped);
         self.merges.push(merge);
     }
 

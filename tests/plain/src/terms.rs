@@ -1,7 +1,7 @@
 //! Terms: the check of given rows (refusals 2, 3 and 4), the weight of a triple in rows, and reduction.
 
 use crate::refusal::{demand, Refusal};
-use std::collections::HashSet;
+use std::collections::HashMap;
 
 /// The indices of one term, without the length before them and the zeros behind them.
 pub type Row = Vec<u16>;
@@ -14,6 +14,24 @@ pub const MAX_MAJORANAS: usize = 7;
 
 /// "in rows of eight u16: a length 1 to 7, that many indices, then zeros".
 pub const ROW_NUMBERS: usize = MAX_MAJORANAS + 1;
+
+/// 02: "5 now asks for 9T work numbers, of assign too".
+pub fn work_room(terms: &[u16]) -> usize {
+    (ROW_NUMBERS + 1) * (terms.len() / ROW_NUMBERS)
+}
+
+/// A row that is worked on, and 02's "count of input rows merged into it".
+#[derive(Clone, Debug, PartialEq, Eq)]
+pub struct WorkRow {
+    pub row: Row,
+    pub count: u16,
+}
+
+/// Input rows as work rows: each stands for itself.
+pub fn each_once(rows: Vec<Row>) -> Vec<WorkRow> {
+    let once = |row| WorkRow { row, count: 1 };
+    rows.into_iter().map(once).collect()
+}
 
 /// Reads the flat numbers as rows, or refuses by 2, 3 or 4.
 pub fn read_terms(modes: usize, terms: &[u16]) -> Result<Vec<Row>, Refusal> {
@@ -54,8 +72,9 @@ pub fn qubit_term_weight(row: &[u16], triple: [u16; 3]) -> u64 {
 }
 
 /// "Its weight is the sum over rows."
-pub fn weigh(rows: &[Row], triple: [u16; 3]) -> u64 {
-    rows.iter().map(|row| qubit_term_weight(row, triple)).sum()
+pub fn weigh(rows: &[WorkRow], triple: [u16; 3]) -> u64 {
+    let weight = |work: &WorkRow| qubit_term_weight(&work.row, triple);
+    rows.iter().map(weight).sum()
 }
 
 /// "Under the published rule a row left with only the parent is dropped …. a second rule … keeps such rows".
@@ -88,16 +107,30 @@ impl Rule {
 
 /// "each of the three numbers becomes the parent, multiplicity kept, the row sorted; rows with all
 /// numbers equal to the parent (a single one too) are dropped", if the rule drops them; "then equal
-/// rows become one".
+/// rows become one". The rows that are left, and "the sum of the counts of the rows dropped".
 ///
-/// Of equal rows the first stays where it is: a later request counts on that order.
-pub fn reduce_hamiltonian(rows: Vec<Row>, rule: Rule, parent: u16, triple: [u16; 3]) -> Vec<Row> {
-    let mut seen = HashSet::new();
-    rows.into_iter()
-        .map(|row| replace(row, parent, triple))
-        .filter(|row| !rule.drops(row, parent))
-        .filter(|row| seen.insert(row.clone()))
-        .collect()
+/// Of equal rows the first stays where it is, and stands for all that they stood for.
+pub fn reduce_hamiltonian(
+    rows: Vec<WorkRow>,
+    rule: Rule,
+    parent: u16,
+    triple: [u16; 3],
+) -> (Vec<WorkRow>, u16) {
+    let mut left: Vec<WorkRow> = Vec::new();
+    let mut dropped = 0;
+    let mut places: HashMap<Row, usize> = HashMap::new();
+    for WorkRow { row, count } in rows {
+        let row = replace(row, parent, triple);
+        if rule.drops(&row, parent) {
+            dropped += count;
+        } else if let Some(&first) = places.get(&row) {
+            left[first].count += count;
+        } else {
+            places.insert(row.clone(), left.len());
+            left.push(WorkRow { row, count });
+        }
+    }
+    (left, dropped)
 }
 
 /// One row with the parent in the place of each of the three, sorted.

@@ -3,7 +3,7 @@
 use crate::journal::{fields, hatt, read_numbers, Done, LINE_FEED};
 use crate::merging::ABSENT;
 use crate::refusal::{demand, Refusal};
-use crate::terms::{MAX_MAJORANAS, MOST_TERMS, ROW_NUMBERS};
+use crate::terms::{work_room, MAX_MAJORANAS, MOST_TERMS, ROW_NUMBERS};
 
 /// What the program `hatt` prints for this standard input.
 pub fn program(input: &[u8]) -> Vec<u8> {
@@ -22,10 +22,19 @@ pub fn print_refusal(Refusal { number, place }: Refusal) -> String {
 fn answer(input: &[u8]) -> Result<(Done, Vec<u16>), Refusal> {
     // Malformed text is refused "at the first such line and before any other number".
     let (modes, terms) = read_input(input)?;
-    let mut work = vec![0; terms.len()];
+    let mut work = vec![0; work_room(&terms)];
     let mut rows = vec![0; 4 * modes];
     let mut journal = vec![0; 16 + 21 * modes];
-    let done = hatt(modes, 0, &terms, &mut work, &mut rows, &mut journal)?;
+    let mut drops = vec![0; modes];
+    let done = hatt(
+        modes,
+        0,
+        &terms,
+        &mut work,
+        &mut rows,
+        &mut journal,
+        &mut drops,
+    )?;
     Ok((done, rows))
 }
 

@@ -1,9 +1,10 @@
-//! W-213: every lawful sequence once, the least of their trees, its first sequence and how many reach it; refusals 1, 22 and 4.
+//! W-213: every lawful sequence once, the least of their trees, its first sequence and how many reach it; refusals 1, 22, 2, 4 and 5.
 
 mod common;
 
 use common::*;
-use plain::best::{best, sequences, table};
+use plain::best::{best, best_into, sequences, table};
+use plain::terms::work_room;
 use plain::{hatt, tree_weight};
 use std::collections::BTreeSet;
 
@@ -30,9 +31,9 @@ fn the_first_of_the_lightest() {
 #[test]
 fn greedy_is_not_below() {
     let terms = flat(&[&[0, 1], &[0, 3], &[1, 2, 5], &[2, 3, 4, 5]]);
-    let (mut work, mut rows) = (vec![0; terms.len()], vec![0; 12]);
-    let mut new = vec![0; 16 + 21 * 3];
-    hatt(3, 0, &terms, &mut work, &mut rows, &mut new).unwrap();
+    let (mut work, mut rows) = (vec![0; work_room(&terms)], vec![0; 12]);
+    let (mut new, mut drops) = (vec![0; 16 + 21 * 3], vec![0; 3]);
+    hatt(3, 0, &terms, &mut work, &mut rows, &mut new, &mut drops).unwrap();
     let mut tree = vec![0; 9];
     for row in rows.chunks(4) {
         let at = 3 * usize::from(row[0]);
@@ -40,7 +41,24 @@ fn greedy_is_not_below() {
     }
     let found = best(3, &terms).unwrap();
     assert!(found.least <= tree_weight(3, &tree, &terms).unwrap());
-    assert_eq!(tree_weight(3, &table(3, &found.first), &terms), Ok(found.least));
+    assert_eq!(
+        tree_weight(3, &table(3, &found.first), &terms),
+        Ok(found.least)
+    );
+}
+
+#[test]
+fn into_what_is_lent() {
+    let terms = flat(&[&[0, 3]]);
+    let mut lent = [9; 8];
+    let found = best_into(2, &terms, &mut lent).unwrap();
+    assert_eq!((found.least, found.reached), (1, 2));
+    assert_eq!(lent, [0, 1, 3, 2, 5, 4, 9, 9]);
+    let mut short = [9; 5];
+    let number = |answer: Result<_, plain::Refusal>| answer.unwrap_err().number;
+    assert_eq!(number(best_into(2, &terms, &mut short)), 5);
+    assert_eq!(number(best_into(2, &flat(&[&[4]]), &mut short)), 4);
+    assert_eq!(short, [9; 5]);
 }
 
 #[test]

@@ -37,26 +37,26 @@ fn number_of_lines() {
 #[test]
 fn journal_room() {
     let terms = p3();
-    let exact = Lent::new(24, 8, 58);
+    let exact = Lent::new(27, 8, 58, 2);
     assert!(exact.clone().resume(2, &terms, "").is_ok());
-    assert_eq!(refused_with(Lent::new(24, 8, 57), 2, &terms, ""), (5, 0));
+    let short = Lent::new(27, 8, 57, 2);
+    assert_eq!(refused_with(short.clone(), 2, &terms, ""), (5, 0));
     // The room is asked for whole, even where nothing is left to write.
-    assert_eq!(
-        refused_with(Lent::new(24, 8, 57), 2, &terms, P3_JOURNAL),
-        (5, 0)
-    );
+    assert_eq!(refused_with(short, 2, &terms, P3_JOURNAL), (5, 0));
 }
 
 #[test]
 fn other_rooms() {
     let terms = p3();
-    assert_eq!(refused_with(Lent::new(23, 8, 58), 2, &terms, ""), (5, 0));
-    assert_eq!(refused_with(Lent::new(24, 7, 58), 2, &terms, ""), (5, 0));
-    assert!(Lent::new(0, 4, 37).resume(1, &[], "").is_ok());
+    for (work, rows, drops) in [(26, 8, 2), (27, 7, 2), (27, 8, 1)] {
+        let short = Lent::new(work, rows, 58, drops);
+        assert_eq!(refused_with(short, 2, &terms, ""), (5, 0));
+    }
+    assert!(Lent::new(0, 4, 37, 1).resume(1, &[], "").is_ok());
     let assign = |lengths| assigned_with(lengths, 2, &P3_TREE, 0, &p3());
-    assert!(assign((24, 6)).is_ok());
-    assert_eq!(assign((23, 6)), Err((5, 0)));
-    assert_eq!(assign((24, 5)), Err((5, 0)));
+    assert!(assign((27, 6)).is_ok());
+    assert_eq!(assign((26, 6)), Err((5, 0)));
+    assert_eq!(assign((27, 5)), Err((5, 0)));
 }
 
 /// The longest journal there can be fills its room exactly: all three-digit numbers and weight 2048.

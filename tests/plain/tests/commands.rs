@@ -111,6 +111,15 @@ fn p3_letters() {
     assert_eq!(asked_with("letters", "0", "x\n", P3), "refused\t6\t0\n");
 }
 
+/// P3: the first term is gone after step 0, the other two after step 1, and a resumed run says the same.
+#[test]
+fn p3_drops() {
+    for kept in [0, 11, P3_JOURNAL.len()] {
+        assert_eq!(asked("drops", &P3_JOURNAL[..kept], P3), "0\t1\n1\t2\n");
+    }
+    assert_eq!(asked("drops", "x\n", P3), "refused\t6\t0\n");
+}
+
 /// "a single odd child gives its own letter, two odd children give the third letter, none or three
 /// give none."
 #[test]
@@ -168,7 +177,9 @@ fn strings() {
     let chain = "node\t0\t3\t4\t1\nnode\t1\t5\t6\t2\nnode\t2\t7\t8\t-\n";
     let letters = ["XII", "YII", "ZXI", "ZYI", "ZZX", "ZZY"];
     let lines = letters.iter().enumerate();
-    let lines: String = lines.map(|(k, string)| format!("{k}\t{string}\n")).collect();
+    let lines: String = lines
+        .map(|(k, string)| format!("{k}\t{string}\n"))
+        .collect();
     assert_eq!(asked("strings", chain, ""), lines);
 }
 

@@ -58,15 +58,17 @@ fn four() {
         let terms = [good, bad, bad].concat();
         assert_eq!(refused(2, &terms, "x\n"), (4, 1), "{bad:?}");
         // 4 before 5.
-        assert_eq!(refused_with(Lent::new(0, 0, 0), 2, &terms, ""), (4, 1));
+        assert_eq!(refused_with(Lent::new(0, 0, 0, 0), 2, &terms, ""), (4, 1));
     }
     accepted(2, &[7, 0, 0, 1, 1, 2, 3, 3], "");
 }
 
 #[test]
 fn five_before_any_line() {
-    assert_eq!(refused_with(Lent::new(24, 8, 57), 2, &p3(), "x\n"), (5, 0));
-    assert_eq!(refused_with(Lent::new(0, 0, 0), 2, &p3(), "x\n"), (5, 0));
+    for lent in [Lent::new(27, 8, 57, 2), Lent::new(27, 8, 58, 1)] {
+        assert_eq!(refused_with(lent, 2, &p3(), "x\n"), (5, 0));
+    }
+    assert_eq!(refused_with(Lent::new(0, 0, 0, 0), 2, &p3(), "x\n"), (5, 0));
 }
 
 #[test]
@@ -146,8 +148,7 @@ fn every_byte_that_is_no_digit_breaks_a_number() {
         let mut read = b"hatt\t1\t2\t3\n0\t0\t1\t2\t".to_vec();
         read.extend([byte, b'\n']);
         let mut lent = Lent::ample(2, &terms);
-        let (work, rows, journal) = (&mut lent.work, &mut lent.rows, &mut lent.journal);
-        let answer = plain::resume(2, 0, &terms, &read, work, rows, journal);
+        let answer = lent.resume_bytes(2, &terms, &read);
         let refusal = Refusal {
             number: 6,
             place: 1,

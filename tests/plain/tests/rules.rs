@@ -3,17 +3,36 @@
 mod common;
 
 use common::*;
+use plain::terms::work_room;
 use plain::{Done, Refusal};
 
-/// HATT's journal by a rule, or the refusal's number.
-fn journal(modes: usize, rule: usize, terms: &[u16], read: &str) -> Result<(Done, String), u16> {
-    let (mut work, mut rows) = (vec![0; terms.len()], vec![0; 4 * modes]);
-    let mut new = vec![0; 16 + 21 * modes];
-    let read = read.as_bytes();
-    let done = plain::resume(modes, rule, terms, read, &mut work, &mut rows, &mut new)
-        .map_err(|Refusal { number, .. }| number)?;
+/// HATT's journal and drops by a rule, or the refusal's number.
+fn resumed(
+    modes: usize,
+    rule: usize,
+    terms: &[u16],
+    read: &str,
+) -> Result<(Done, String, Vec<u16>), u16> {
+    let (mut work, mut rows) = (vec![0; work_room(terms)], vec![0; 4 * modes]);
+    let (mut new, mut drops) = (vec![0; 16 + 21 * modes], vec![0; modes]);
+    let done = plain::resume(
+        modes,
+        rule,
+        terms,
+        read.as_bytes(),
+        &mut work,
+        &mut rows,
+        &mut new,
+        &mut drops,
+    )
+    .map_err(|Refusal { number, .. }| number)?;
     new.truncate(done.new);
-    Ok((done, String::from_utf8(new).unwrap()))
+    Ok((done, String::from_utf8(new).unwrap(), drops))
+}
+
+fn journal(modes: usize, rule: usize, terms: &[u16], read: &str) -> Result<(Done, String), u16> {
+    let (done, new, _) = resumed(modes, rule, terms, read)?;
+    Ok((done, new))
 }
 
 #[test]
@@ -32,6 +51,17 @@ fn equal_rows_still_merge() {
     let terms = flat(&[&[0], &[1], &[2], &[3]]);
     assert_eq!(journal(2, 0, &terms, "").unwrap().0.weight, 4);
     assert_eq!(journal(2, 1, &terms, "").unwrap().0.weight, 5);
+}
+
+#[test]
+fn drops_of_each_step() {
+    let drops = |rule, terms: &[&[u16]]| resumed(2, rule, &flat(terms), "").unwrap().2;
+    // P3: 01 goes in step 0, the other two in step 1
+    assert_eq!(drops(0, &P3_ROWS), [1, 2]);
+    // each row three times: its copies are one row after step 0, which stands for three
+    let thrice: Vec<&[u16]> = P3_ROWS.iter().flat_map(|row| [*row; 3]).collect();
+    assert_eq!(drops(0, &thrice), [3, 6]);
+    assert_eq!(drops(1, &thrice), [0, 0]);
 }
 
 #[test]

@@ -18,9 +18,9 @@ put-merge-requires : tie.Need-put-merge-requires
 put-merge-requires c κs =
     let args = c .before .before .before .before .before .before .before .before .before .before .args in
     let good =
-    accepted (args .modes) (args .rows .now) (c .before .before .before .before .count .given .0 .0)
+    accepted (args .modes) (args .terms .now) (c .before .before .before .before .count .given .0 .0)
     (sym (c .before .before .before .before .before .before .check-terms .ensures .answer) ∙ c .before .before .before .before .count .given .1) in
-    (good .held, good .at-most)
+    (good .given, good .at-most)
 
 enum-known-refusal : tie.Need-enum-known-refusal
 enum-known-refusal c = search needs
@@ -43,9 +43,6 @@ returns c = search needs
 same-length-3 : tie.Need-same-length-3
 same-length-3 c = search needs
 
-same-length-4 : tie.Need-same-length-4
-same-length-4 c = search needs
-
 returns-2 : tie.Need-returns-2
 returns-2 c = search needs
 
@@ -64,5 +61,4 @@ test-merge-spec =
     same-length-2
     returns
     same-length-3
-    same-length-4
     returns-2)

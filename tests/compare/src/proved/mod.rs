@@ -6,8 +6,10 @@ extern "C" {
     fn test_merge(
         modes: usize,
         rule: usize,
-        rows: *mut u16,
+        terms: *const u16,
         numbers: usize,
+        rows: *mut u16,
+        rows_room: usize,
         x: u16,
         y: u16,
         z: u16,
@@ -30,6 +32,8 @@ extern "C" {
         journal_room: usize,
         answer: *mut u64,
         answer_room: usize,
+        drops: *mut u16,
+        drops_room: usize,
     );
     fn test_assign(
         modes: usize,
@@ -62,6 +66,15 @@ extern "C" {
         answer: *mut u64,
         answer_room: usize,
     );
+    fn test_best(
+        modes: usize,
+        terms: *const u16,
+        numbers: usize,
+        sequence: *mut u16,
+        sequence_room: usize,
+        answer: *mut u64,
+        answer_room: usize,
+    );
     fn test_write_newick(
         modes: usize,
         tree: *const u16,
@@ -90,21 +103,24 @@ extern "C" {
     );
 }
 
-/// Weighs the triple in the rows, reduces them to its parent where they stand, and returns three numbers: the refusal of the rows as terms of so many modes, the weight, and zero.
+/// Puts the terms as work rows over the lent rows, weighs the triple in them, reduces them to its parent, and returns three numbers: the refusal of the terms, the weight, and how many terms were dropped.
 pub fn merge(
     modes: usize,
     rule: usize,
+    terms: &[u16],
     rows: &mut [u16],
     triple: [u16; 3],
     parent: u16,
 ) -> [u64; 3] {
     let mut answer = [u64::MAX; 3];
     let [x, y, z] = triple;
-    // The library writes the rows and the three numbers within their lengths.
+    // The library reads the terms, and writes the rows and the three numbers within their lengths.
     unsafe {
         test_merge(
             modes,
             rule,
+            terms.as_ptr(),
+            terms.len(),
             rows.as_mut_ptr(),
             rows.len(),
             x,
@@ -127,9 +143,10 @@ pub fn resume(
     work: &mut [u16],
     rows: &mut [u16],
     journal: &mut [u8],
+    drops: &mut [u16],
 ) -> [u64; 6] {
     let mut answer = [u64::MAX; 6];
-    // The library reads terms and journal, and writes the four slices within their lengths.
+    // The library reads terms and journal, and writes the five slices within their lengths.
     unsafe {
         test_resume(
             modes,
@@ -146,6 +163,8 @@ pub fn resume(
             journal.len(),
             answer.as_mut_ptr(),
             answer.len(),
+            drops.as_mut_ptr(),
+            drops.len(),
         );
     }
     answer
@@ -211,6 +230,24 @@ pub fn tree_weight(modes: usize, tree: &[u16], terms: &[u16]) -> [u64; 3] {
             tree.len(),
             terms.as_ptr(),
             terms.len(),
+            answer.as_mut_ptr(),
+            answer.len(),
+        );
+    }
+    answer
+}
+
+/// Finds the best of all sequences, the first of them into the lent numbers, and returns four numbers: refusal, place, least weight, how many reach it.
+pub fn best(modes: usize, terms: &[u16], sequence: &mut [u16]) -> [u64; 4] {
+    let mut answer = [u64::MAX; 4];
+    // The library reads the terms, and writes the two slices within their lengths.
+    unsafe {
+        test_best(
+            modes,
+            terms.as_ptr(),
+            terms.len(),
+            sequence.as_mut_ptr(),
+            sequence.len(),
             answer.as_mut_ptr(),
             answer.len(),
         );

@@ -1,6 +1,7 @@
 //! Lent slices for the tests: filled with marks, one element longer than their room, and looked over after each call.
 #![allow(dead_code)]
 
+use plain::terms::work_room;
 use plain::{Done, Refusal};
 
 pub const MARK: u16 = 43690;
@@ -29,32 +30,52 @@ pub fn p3() -> Vec<u16> {
     flat(&P3_ROWS)
 }
 
-/// The three slices that HATT and resume are lent.
+/// The four slices that HATT and resume are lent.
 #[derive(Clone, Debug, PartialEq)]
 pub struct Lent {
     pub work: Vec<u16>,
     pub rows: Vec<u16>,
     pub journal: Vec<u8>,
+    pub drops: Vec<u16>,
 }
 
 impl Lent {
-    pub fn new(work: usize, rows: usize, journal: usize) -> Self {
+    pub fn new(work: usize, rows: usize, journal: usize, drops: usize) -> Self {
         Lent {
             work: vec![MARK; work],
             rows: vec![MARK; rows],
             journal: vec![BYTE_MARK; journal],
+            drops: vec![MARK; drops],
         }
     }
 
     /// One element above each room.
     pub fn ample(modes: usize, terms: &[u16]) -> Self {
         let modes = modes.min(300);
-        Lent::new(terms.len() + 1, 4 * modes + 1, 16 + 21 * modes + 1)
+        let journal = 16 + 21 * modes + 1;
+        Lent::new(work_room(terms) + 1, 4 * modes + 1, journal, modes + 1)
     }
 
     pub fn resume(&mut self, modes: usize, terms: &[u16], read: &str) -> Result<Done, Refusal> {
-        let (work, rows, journal) = (&mut self.work, &mut self.rows, &mut self.journal);
-        plain::resume(modes, 0, terms, read.as_bytes(), work, rows, journal)
+        self.resume_bytes(modes, terms, read.as_bytes())
+    }
+
+    pub fn resume_bytes(
+        &mut self,
+        modes: usize,
+        terms: &[u16],
+        read: &[u8],
+    ) -> Result<Done, Refusal> {
+        plain::resume(
+            modes,
+            0,
+            terms,
+            read,
+            &mut self.work,
+            &mut self.rows,
+            &mut self.journal,
+            &mut self.drops,
+        )
     }
 }
 
@@ -64,24 +85,28 @@ pub struct Accepted {
     pub done: Done,
     pub rows: Vec<[u16; 4]>,
     pub new: String,
+    pub drops: Vec<u16>,
 }
 
 /// Resumes, and demands that the call succeeds and alters exactly what 01 says.
 pub fn accepted(modes: usize, terms: &[u16], read: &str) -> Accepted {
     let mut lent = Lent::ample(modes, terms);
     let done = lent.resume(modes, terms, read).unwrap();
-    let (zeros, beyond) = lent.work.split_at(terms.len());
+    let (zeros, beyond) = lent.work.split_at(work_room(terms));
     assert!(zeros.iter().all(|&number| number == 0));
     assert_eq!(beyond, [MARK]);
     let (rows, beyond) = lent.rows.split_at(4 * modes);
     assert_eq!(beyond, [MARK]);
     let (new, beyond) = lent.journal.split_at(done.new);
     assert!(beyond.iter().all(|&byte| byte == BYTE_MARK));
+    let (drops, beyond) = lent.drops.split_at(modes);
+    assert_eq!(beyond, [MARK]);
     let by_four = rows.chunks(4).map(|row| row.try_into().unwrap());
     Accepted {
         done,
         rows: by_four.collect(),
         new: String::from_utf8(new.to_vec()).unwrap(),
+        drops: drops.to_vec(),
     }
 }
 
@@ -110,7 +135,7 @@ pub fn assigned_with(
     let mut table = vec![MARK; lengths.1];
     match plain::assign(modes, 0, tree, heuristic, terms, &mut work, &mut table) {
         Ok(weight) => {
-            let (zeros, beyond) = work.split_at(terms.len());
+            let (zeros, beyond) = work.split_at(work_room(terms));
             assert!(zeros.iter().all(|&number| number == 0));
             assert!(beyond.iter().all(|&number| number == MARK));
             let beyond = table.split_off(3 * modes);
@@ -131,6 +156,6 @@ pub fn assigned(
     heuristic: usize,
     terms: &[u16],
 ) -> Result<(u64, Vec<u16>), (u16, usize)> {
-    let lengths = (terms.len() + 1, 3 * modes + 1);
+    let lengths = (work_room(terms) + 1, 3 * modes + 1);
     assigned_with(lengths, modes, tree, heuristic, terms)
 }

@@ -1,4 +1,4 @@
-//! `letters` and `reason`, and the commands that it explains: journals steered, cut, damaged and of other terms.
+//! `letters`, `drops` and `reason`, and the commands that it explains: journals steered, cut, damaged and of other terms.
 
 use crate::damage::{damage_bytes, damage_field, damage_lines, exchange_fields};
 use crate::inputs::Job;
@@ -109,7 +109,7 @@ fn ask_all(
     terms: &[u8],
     ask: &mut dyn FnMut(Question),
 ) {
-    for command in ["reason", "resume", "continue", "letters"] {
+    for command in ["reason", "resume", "continue", "letters", "drops"] {
         let word = if command == "letters" { step } else { "" };
         ask(Question {
             kind,

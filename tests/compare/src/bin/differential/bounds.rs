@@ -15,12 +15,13 @@ struct Boundary {
 }
 
 impl Boundary {
-    /// In exactly the rooms that 01 asks for.
+    /// In exactly the rooms that are asked for.
     fn new(modes: usize, terms: &[Vec<u16>], read: &[u8], wanted: u16) -> Self {
         let rooms = Rooms {
-            work: 8 * terms.len(),
+            work: 9 * terms.len(),
             rows: 4 * modes,
             journal: 16 + 21 * modes,
+            drops: modes,
         };
         Boundary {
             modes,
@@ -87,9 +88,10 @@ fn of_lines() -> Vec<Boundary> {
 /// "journal room 58 passes for n=2, 57 is 5", and so with each other room.
 fn of_rooms() -> Vec<Boundary> {
     let exact = Rooms {
-        work: 8,
+        work: 9,
         rows: 8,
         journal: 58,
+        drops: 2,
     };
     let lent = [
         (exact, 0),
@@ -101,7 +103,8 @@ fn of_rooms() -> Vec<Boundary> {
             5,
         ),
         (Rooms { rows: 7, ..exact }, 5),
-        (Rooms { work: 7, ..exact }, 5),
+        (Rooms { work: 8, ..exact }, 5),
+        (Rooms { drops: 1, ..exact }, 5),
     ];
     let boundary = |(rooms, wanted)| Boundary {
         rooms,

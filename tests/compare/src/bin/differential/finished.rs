@@ -1,6 +1,8 @@
-//! What a finished tree guarantees: the check accepts it, and the run that ended in it weighs no more than it does.
+//! What a finished tree guarantees: the check accepts it, the run that ended in it weighs no more than it does, and it says where each term was dropped.
 
+use crate::calls::PUBLISHED;
 use crate::tally::equal;
+use compare::cases::tree_of_rows;
 use compare::proved;
 use std::collections::BTreeSet;
 
@@ -27,7 +29,36 @@ pub fn weighs_at_least(
     Ok(())
 }
 
-/// Of few modes, the tree weighs no less than the best of all lawful sequences of merges, as the plain program finds it. (Of 4 it would take too long for every case; the commands' comparison has those.)
+/// The drops of each step, read off the tree: by the published rule a term is dropped where the first node stands that has all its leaves below it, by the keeping rule nowhere.
+pub fn drops_of(modes: usize, rule: usize, rows: &[[u16; 4]], terms: &[u16]) -> Vec<u16> {
+    let mut drops = vec![0; modes];
+    if rule != PUBLISHED {
+        return drops;
+    }
+    let mut parents = vec![None; 3 * modes];
+    for (place, &code) in tree_of_rows(rows).iter().enumerate() {
+        // the absent child is no node and no leaf
+        if let Some(parent) = parents.get_mut(usize::from(code)) {
+            *parent = Some(place / 3);
+        }
+    }
+    let above = |code: usize| std::iter::successors(parents[code], |&node| parents[node]);
+    for term in terms.chunks(8) {
+        let mut leaves = term[1..=usize::from(term[0])]
+            .iter()
+            .map(|&leaf| usize::from(leaf) + modes);
+        let first = leaves.next().expect("a term has an index");
+        let mut common: Vec<usize> = above(first).collect();
+        for leaf in leaves {
+            let nodes: BTreeSet<usize> = above(leaf).collect();
+            common.retain(|node| nodes.contains(node));
+        }
+        drops[common[0]] += 1;
+    }
+    drops
+}
+
+/// Of few modes, the tree weighs no less than the best of all lawful sequences of merges, as the plain program finds it. (Of 4 it would take too long for every case.)
 pub fn not_below_best(modes: usize, tree: &[u16], terms: &[u16]) -> Result<(), String> {
     if modes > 3 {
         return Ok(());

@@ -1,5 +1,6 @@
 //! Compares the plain program with the oracle on seeded inputs, and its journals with themselves and the proved library; prints counts by kind.
 
+mod best;
 mod bounds;
 mod calls;
 mod cuts;
@@ -41,6 +42,8 @@ fn main() {
         keeping::hatt,
         keeping::cut_everywhere,
         keeping::assign,
+        best::on_good,
+        best::on_damaged,
     ];
     // Each part has its own seed, so that a change to one leaves the inputs of the others alone.
     for (number, part) in parts.iter().enumerate() {

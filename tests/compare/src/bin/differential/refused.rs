@@ -4,6 +4,7 @@ use crate::calls::assign_in;
 use crate::tally::Tally;
 use compare::cases::{any_terms, any_tree, flat, Random};
 use compare::cases::{change_length, exchange_codes, replace_code};
+use plain::terms::work_room;
 
 /// What a call is given; the rooms are those of work and table.
 #[derive(Debug)]
@@ -42,7 +43,7 @@ pub fn assign_refused(random: &mut Random, tally: &mut Tally) {
 fn damaged(random: &mut Random, modes: usize) -> Given {
     let tree = any_tree(random, modes);
     let mut terms = flat(&any_terms(random, modes, 6));
-    let mut rooms = (terms.len(), 3 * modes);
+    let mut rooms = (work_room(&terms), 3 * modes);
     let mut heuristic = random.below(3);
     let tree = match random.below(8) {
         0 => replace_code(random, tree),
@@ -59,7 +60,6 @@ fn damaged(random: &mut Random, modes: usize) -> Given {
     }
     if random.below(5) == 0 {
         terms.push(0);
-        rooms.0 = terms.len();
     }
     match random.below(6) {
         0 => rooms.0 = rooms.0.saturating_sub(1),

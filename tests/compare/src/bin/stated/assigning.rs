@@ -3,6 +3,7 @@
 use crate::seen::{fronted, numbers_lent, Cases, Seen};
 use compare::cases::ABSENT;
 use compare::{numbers, proved};
+use plain::terms::work_room;
 
 /// P3's tree.
 const TREE: [u16; 6] = [2, 3, 4, 0, 5, ABSENT];
@@ -129,8 +130,8 @@ pub fn hold(cases: &mut Cases) {
             ))
         });
         let work = match answer[0] {
-            0 => vec![0; terms.len()],
-            _ => numbers_lent(terms.len()),
+            0 => vec![0; work_room(terms)],
+            _ => numbers_lent(work_room(terms)),
         };
         let stated = Seen {
             numbers: answer.to_vec(),
@@ -140,9 +141,9 @@ pub fn hold(cases: &mut Cases) {
     }
 }
 
-/// A side's call, with as much work as there are terms.
+/// A side's call, with as much work as the terms ask for.
 fn assigned(terms: &[u16], call: impl Fn(&mut [u16], &mut [u16]) -> [u64; 3]) -> Seen {
-    let (mut work, mut table) = (numbers_lent(terms.len()), numbers_lent(ROOM));
+    let (mut work, mut table) = (numbers_lent(work_room(terms)), numbers_lent(ROOM));
     let numbers = call(&mut work, &mut table).to_vec();
     let lent = vec![work, table];
     Seen { numbers, lent }

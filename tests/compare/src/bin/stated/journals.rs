@@ -10,8 +10,23 @@ const FIRST: &str = "0\t0\t1\t2\t2\n";
 const SECOND: &str = "1\t5\t3\t4\t2\n";
 const ROWS: [u16; 8] = [1, 0, 5, ABSENT, 0, 2, 3, 4];
 
-/// "journal room 58 passes for n=2, 57 is 5".
-const ROOM: usize = 58;
+/// 01 drops at step 0, the other two at step 1.
+const DROPS: [u16; 2] = [1, 2];
+
+/// The lengths of what is lent, but for the rows'.
+#[derive(Clone, Copy)]
+struct Rooms {
+    work: usize,
+    journal: usize,
+    drops: usize,
+}
+
+/// "9T work numbers", "journal room 58 passes for n=2, 57 is 5", "a lent table of n numbers".
+const EXACT: Rooms = Rooms {
+    work: 27,
+    journal: 58,
+    drops: 2,
+};
 
 pub fn hold(cases: &mut Cases) {
     by_rule(cases);
@@ -26,37 +41,52 @@ pub fn hold(cases: &mut Cases) {
     let another_header = || "hatt\t1\t2\t4\n".to_string();
     let another_rule = || "keep\t1\t2\t3\n".to_string();
     let refusals = [
-        ("one number", after_header("0\n"), ROOM, [6, 1]),
-        ("another header", another_header(), ROOM, [7, 0]),
-        ("the other rule's header", another_rule(), ROOM, [7, 0]),
+        ("one number", after_header("0\n"), EXACT, [6, 1]),
+        ("another header", another_header(), EXACT, [7, 0]),
+        ("the other rule's header", another_rule(), EXACT, [7, 0]),
         (
             "no rule's header",
             "help\t1\t2\t3\n".to_string(),
-            ROOM,
+            EXACT,
             [6, 0],
         ),
         (
             "a child that isn't open",
             after_header("0\t0\t1\t5\t2\n"),
-            ROOM,
+            EXACT,
             [9, 1],
         ),
         (
             "x and y exchanged",
             after_header("0\t1\t0\t2\t2\n"),
-            ROOM,
+            EXACT,
             [10, 1],
         ),
-        ("a line too many", whole + "\n", ROOM, [12, 3]),
+        ("a line too many", whole + "\n", EXACT, [12, 3]),
         (
             "a byte too little room comes first",
             another_header(),
-            ROOM - 1,
+            Rooms {
+                journal: 57,
+                ..EXACT
+            },
+            [5, 0],
+        ),
+        (
+            "work below nine numbers a term",
+            another_header(),
+            Rooms { work: 26, ..EXACT },
+            [5, 0],
+        ),
+        (
+            "a drop too little room",
+            another_header(),
+            Rooms { drops: 1, ..EXACT },
             [5, 0],
         ),
     ];
-    for (what, read, room, refusal) in refusals {
-        refused(cases, what, &read, room, refusal);
+    for (what, read, rooms, refusal) in refusals {
+        refused(cases, what, &read, rooms, refusal);
     }
 }
 
@@ -69,12 +99,13 @@ fn by_rule(cases: &mut Cases) {
     for (what, modes, rule, [number, place]) in stated {
         let terms = [1];
         let answers = [
-            proved::resume(modes, rule, &terms, &[], &mut [], &mut [], &mut []),
+            proved::resume(modes, rule, &terms, &[], &mut [], &mut [], &mut [], &mut []),
             six_numbers(plain::resume(
                 modes,
                 rule,
                 &terms,
                 &[],
+                &mut [],
                 &mut [],
                 &mut [],
                 &mut [],
@@ -89,35 +120,38 @@ fn by_rule(cases: &mut Cases) {
     }
 }
 
-/// A journal that is accepted: the six numbers, P3's rows and these new lines; work is zero.
+/// A journal that is accepted: the six numbers, P3's rows and drops and these new lines; work is zero.
 fn goes_on(cases: &mut Cases, what: &str, read: &str, answer: [u64; 6], new: &str) {
     let lent = vec![
-        vec![0; terms().len()],
+        vec![0; EXACT.work],
         ROWS.to_vec(),
-        bytes_fronted(new.as_bytes(), ROOM),
+        bytes_fronted(new.as_bytes(), EXACT.journal),
+        DROPS.to_vec(),
     ];
     let numbers = answer.to_vec();
-    hold_one(cases, what, read, ROOM, Seen { numbers, lent });
+    hold_one(cases, what, read, EXACT, Seen { numbers, lent });
 }
 
 /// A journal that is refused: nothing is altered.
-fn refused(cases: &mut Cases, what: &str, read: &str, room: usize, [number, place]: [u64; 2]) {
+fn refused(cases: &mut Cases, what: &str, read: &str, rooms: Rooms, [number, place]: [u64; 2]) {
     let lent = vec![
-        fronted(&[], terms().len()),
+        fronted(&[], rooms.work),
         fronted(&[], ROWS.len()),
-        bytes_fronted(&[], room),
+        bytes_fronted(&[], rooms.journal),
+        fronted(&[], rooms.drops),
     ];
     let numbers = vec![number, place, 0, 0, 0, 0];
-    hold_one(cases, what, read, room, Seen { numbers, lent });
+    hold_one(cases, what, read, rooms, Seen { numbers, lent });
 }
 
-fn hold_one(cases: &mut Cases, what: &str, read: &str, room: usize, stated: Seen) {
-    let ours = resumed(room, |work, rows, journal| {
-        proved::resume(MODES, 0, &terms(), read.as_bytes(), work, rows, journal)
+fn hold_one(cases: &mut Cases, what: &str, read: &str, rooms: Rooms, stated: Seen) {
+    let (terms, read) = (terms(), read.as_bytes());
+    let ours = resumed(rooms, |work, rows, journal, drops| {
+        proved::resume(MODES, 0, &terms, read, work, rows, journal, drops)
     });
-    let plainly = resumed(room, |work, rows, journal| {
-        let read = read.as_bytes();
-        six_numbers(plain::resume(MODES, 0, &terms(), read, work, rows, journal))
+    let plainly = resumed(rooms, |work, rows, journal, drops| {
+        let answer = plain::resume(MODES, 0, &terms, read, work, rows, journal, drops);
+        six_numbers(answer)
     });
     cases.hold("journals", what, [ours, plainly], stated);
 }
@@ -127,11 +161,14 @@ fn terms() -> Vec<u16> {
     flat(&[vec![0, 1], vec![2, 3], vec![0, 1, 2, 3]])
 }
 
-/// A side's call in rooms as 01 asks for them, but for the journal's.
-fn resumed(room: usize, call: impl Fn(&mut [u16], &mut [u16], &mut [u8]) -> [u64; 6]) -> Seen {
-    let (mut work, mut rows) = (numbers_lent(terms().len()), numbers_lent(ROWS.len()));
-    let mut journal = bytes_lent(room);
-    let numbers = call(&mut work, &mut rows, &mut journal).to_vec();
-    let lent = vec![work, rows, widened(&journal)];
+/// A side's call in these rooms, and in as much for the rows as 01 asks for.
+fn resumed(
+    rooms: Rooms,
+    call: impl Fn(&mut [u16], &mut [u16], &mut [u8], &mut [u16]) -> [u64; 6],
+) -> Seen {
+    let (mut work, mut rows) = (numbers_lent(rooms.work), numbers_lent(ROWS.len()));
+    let (mut journal, mut drops) = (bytes_lent(rooms.journal), numbers_lent(rooms.drops));
+    let numbers = call(&mut work, &mut rows, &mut journal, &mut drops).to_vec();
+    let lent = vec![work, rows, widened(&journal), drops];
     Seen { numbers, lent }
 }

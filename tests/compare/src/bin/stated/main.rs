@@ -1,6 +1,7 @@
 //! Holds the proved library and the plain program against answers that are written down, kind by kind, and prints how many cases were held.
 
 mod assigning;
+mod best;
 mod journals;
 mod merges;
 mod newick;
@@ -16,5 +17,6 @@ fn main() {
     trees::hold(&mut cases);
     assigning::hold(&mut cases);
     newick::hold(&mut cases);
+    best::hold(&mut cases);
     assert_eq!(cases.print(), 0);
 }

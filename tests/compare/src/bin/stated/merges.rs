@@ -1,21 +1,21 @@
-//! One merge each: a triple weighed in rows, and the rows reduced to its parent; 01's slips among them.
+//! One merge each: a triple weighed in rows, and the rows reduced to its parent, each with how many it stands for; 01's slips among them.
 
 use crate::seen::{Cases, Seen};
 use compare::cases::flat;
-use compare::proved;
-use plain::terms::{reduce_hamiltonian, weigh, Row, Rule};
+use compare::{proved, MARK};
+use plain::terms::{each_once, reduce_hamiltonian, weigh, work_room, Row, Rule};
 
 /// So many that every index below is one of theirs, those that are parents among them.
 const MODES: usize = 10;
 
-/// The triple and its parent, the rows before, its weight in them, and the rows after.
+/// The triple and its parent, the rows before, its weight in them, and the rows after, each behind how many it stands for. The others are dropped.
 type Merge = (
     &'static str,
     [u16; 3],
     u16,
     &'static [&'static [u16]],
     u64,
-    &'static [&'static [u16]],
+    &'static [(u16, &'static [u16])],
 );
 
 const MERGES: &[Merge] = &[
@@ -34,7 +34,7 @@ const MERGES: &[Merge] = &[
         5,
         &[&[0, 2], &[0, 2]],
         2,
-        &[&[2, 5]],
+        &[(2, &[2, 5])],
     ),
     ("and once afterwards", [2, 3, 5], 6, &[&[2, 5]], 1, &[]),
     (
@@ -43,7 +43,7 @@ const MERGES: &[Merge] = &[
         5,
         &[&[0, 1], &[2, 3], &[0, 1, 2, 3]],
         2,
-        &[&[3, 5], &[3, 5, 5, 5]],
+        &[(1, &[3, 5]), (1, &[3, 5, 5, 5])],
     ),
     (
         "P3, step 1",
@@ -59,7 +59,7 @@ const MERGES: &[Merge] = &[
         5,
         &[&[2], &[2]],
         0,
-        &[&[2]],
+        &[(2, &[2])],
     ),
     ("P4, step 1", [2, 5, 4], 6, &[&[2]], 1, &[]),
     (
@@ -68,7 +68,7 @@ const MERGES: &[Merge] = &[
         5,
         &[&[0, 1], &[2, 3], &[0, 1, 2, 3]],
         2,
-        &[&[2, 3], &[2, 3, 5, 5]],
+        &[(1, &[2, 3]), (1, &[2, 3, 5, 5])],
     ),
     (
         "P5, the step after",
@@ -84,7 +84,7 @@ const MERGES: &[Merge] = &[
         5,
         &[&[0, 0, 2], &[2]],
         0,
-        &[&[2, 5, 5], &[2]],
+        &[(1, &[2, 5, 5]), (1, &[2])],
     ),
     ("dropped: a single one", [0, 1, 4], 5, &[&[1]], 1, &[]),
     (
@@ -109,7 +109,15 @@ const MERGES: &[Merge] = &[
         5,
         &[&[0, 2], &[3], &[1, 2]],
         2,
-        &[&[2, 5], &[3]],
+        &[(2, &[2, 5]), (1, &[3])],
+    ),
+    (
+        "rows that are dropped beside rows that stay",
+        [0, 1, 4],
+        5,
+        &[&[0, 2], &[1], &[0, 1], &[1, 2], &[0, 0, 4]],
+        5,
+        &[(2, &[2, 5])],
     ),
     (
         "a parent smaller than another number is sorted in, as in an assignment",
@@ -117,20 +125,35 @@ const MERGES: &[Merge] = &[
         7,
         &[&[8, 9]],
         1,
-        &[&[7, 8]],
+        &[(1, &[7, 8])],
     ),
 ];
 
 /// The same by the keeping rule.
 const KEPT: &[Merge] = &[
-    ("P1's row is kept", [0, 1, 2], 3, &[&[0, 1]], 1, &[&[3, 3]]),
+    (
+        "P1's row is kept",
+        [0, 1, 2],
+        3,
+        &[&[0, 1]],
+        1,
+        &[(1, &[3, 3])],
+    ),
     (
         "equal kept rows merge",
         [0, 1, 2],
         3,
         &[&[0], &[1], &[0, 1]],
         3,
-        &[&[3], &[3, 3]],
+        &[(2, &[3]), (1, &[3, 3])],
+    ),
+    (
+        "and stand for all that they stood for",
+        [0, 1, 2],
+        3,
+        &[&[0], &[4], &[1], &[2], &[4]],
+        3,
+        &[(3, &[3]), (2, &[4])],
     ),
 ];
 
@@ -141,50 +164,55 @@ pub fn hold(cases: &mut Cases) {
 
 fn hold_by(cases: &mut Cases, rule: Rule, merges: &[Merge]) {
     for &(what, triple, parent, before, weight, after) in merges {
-        let before = rows(before);
+        let before: Vec<Row> = before.iter().map(|row| row.to_vec()).collect();
         let sides = [
             ours(rule, triple, parent, &before),
-            plainly(rule, triple, parent, before.clone()),
+            plainly(rule, triple, parent, &before),
         ];
-        let stated = seen(weight, rows(after), before.len());
+        let after: Vec<Counted> = after.iter().map(|&(n, row)| (n, row.to_vec())).collect();
+        let stays: u16 = after.iter().map(|row| row.0).sum();
+        let dropped = before.len() as u64 - u64::from(stays);
+        let stated = seen(weight, dropped, after, before.len());
         cases.hold("merges", what, sides, stated);
     }
 }
 
-fn rows(listed: &[&[u16]]) -> Vec<Row> {
-    listed.iter().map(|row| row.to_vec()).collect()
-}
+/// How many a row stands for, and the row.
+type Counted = (u16, Row);
 
-/// Weight and number of rows, the rows themselves, and zeros in the place of each row that went.
-fn seen(weight: u64, after: Vec<Row>, before: usize) -> Seen {
-    let gone = vec![0; 8 * (before - after.len())];
+/// Weight, how many were dropped and the number of rows; the rows themselves behind their counts, and zeros in the place of each row that went.
+fn seen(weight: u64, dropped: u64, after: Vec<Counted>, before: usize) -> Seen {
+    let gone = vec![0; 9 * (before - after.len())];
+    let counted = |(count, row): Counted| [vec![count], row].concat();
     Seen {
-        numbers: vec![weight, after.len() as u64],
-        lent: [after, vec![gone]].concat(),
+        numbers: vec![weight, dropped, after.len() as u64],
+        lent: after.into_iter().map(counted).chain([gone]).collect(),
     }
 }
 
 fn ours(rule: Rule, triple: [u16; 3], parent: u16, before: &[Row]) -> Seen {
-    let mut lent = flat(before);
-    let [refusal, weight, _] = proved::merge(MODES, rule as usize, &mut lent, triple, parent);
+    let terms = flat(before);
+    let mut lent = vec![MARK; work_room(&terms)];
+    let answer = proved::merge(MODES, rule as usize, &terms, &mut lent, triple, parent);
+    let [refusal, weight, dropped] = answer;
     assert_eq!(refusal, 0, "the rows are good");
     // a row keeps its place, and one that went is zeros there
-    let (there, gone): (Vec<&[u16]>, Vec<&[u16]>) = lent.chunks(8).partition(|row| row[0] != 0);
-    // what stands behind a row's own indices is not promised
-    let after = there
-        .iter()
-        .map(|row| row[1..=usize::from(row[0])].to_vec());
+    let (there, gone): (Vec<&[u16]>, Vec<&[u16]>) = lent.chunks(9).partition(|row| row[0] != 0);
+    // what stands between a row's own indices and its count is not promised
+    let counted = |row: &&[u16]| [&row[8..], &row[1..=usize::from(row[0])]].concat();
     Seen {
-        numbers: vec![weight, there.len() as u64],
-        lent: after.chain([gone.concat()]).collect(),
+        numbers: vec![weight, dropped, there.len() as u64],
+        lent: there.iter().map(counted).chain([gone.concat()]).collect(),
     }
 }
 
-fn plainly(rule: Rule, triple: [u16; 3], parent: u16, before: Vec<Row>) -> Seen {
-    let (weight, count) = (weigh(&before, triple), before.len());
-    seen(
-        weight,
-        reduce_hamiltonian(before, rule, parent, triple),
-        count,
-    )
+fn plainly(rule: Rule, triple: [u16; 3], parent: u16, before: &[Row]) -> Seen {
+    let rows = each_once(before.to_vec());
+    let weight = weigh(&rows, triple);
+    let (left, dropped) = reduce_hamiltonian(rows, rule, parent, triple);
+    let after = left
+        .into_iter()
+        .map(|work| (work.count, work.row))
+        .collect();
+    seen(weight, u64::from(dropped), after, before.len())
 }

@@ -4,6 +4,7 @@ use super::{from_c, BEYOND, PUBLISHED};
 use crate::tally::equal;
 use compare::proved::{self, c};
 use compare::{numbers, BYTE_MARK, MARK};
+use plain::terms::work_room;
 use plain::Refusal;
 
 /// Assigns by the published rule where 01 leaves no ground for a refusal; returns the table and the weight.
@@ -24,14 +25,14 @@ pub fn assign_by(
     heuristic: usize,
     terms: &[u16],
 ) -> Result<(Vec<u16>, u64), String> {
-    let rooms = (terms.len() + BEYOND, 3 * modes + BEYOND);
+    let rooms = (work_room(terms) + BEYOND, 3 * modes + BEYOND);
     let (answer, mut work, mut table) = assign_in(rule, modes, tree, heuristic, terms, rooms)?;
     let weight = answer.map_err(|refusal| format!("refused: {refusal:?}"))?;
     let beyond = table.split_off(3 * modes);
     equal("table's rest stays", beyond, vec![MARK; BEYOND])?;
-    let beyond = work.split_off(terms.len());
+    let beyond = work.split_off(work_room(terms));
     equal("work's rest stays", beyond, vec![MARK; BEYOND])?;
-    equal("work is zero", work, vec![0; terms.len()])?;
+    equal("work is zero", work, vec![0; work_room(terms)])?;
     Ok((table, weight))
 }
 
@@ -55,7 +56,7 @@ pub fn assign_in(
     equal("proved work", &ours.0, &work)?;
     equal("proved table", &ours.1, &table)?;
     // Work is the C call's own, so that too little of it can't be lent; and it knows the published rule alone.
-    if rooms.0 >= terms.len() && rule == PUBLISHED {
+    if rooms.0 >= work_room(terms) && rule == PUBLISHED {
         c_alike(modes, tree, heuristic, terms, numbers, &table)?;
     }
     if answer.is_err() {

@@ -1,9 +1,11 @@
 //! `resume`, of which `hatt` is the case of an empty journal.
 
 use super::{from_c, BEYOND, PUBLISHED};
+use crate::finished::drops_of;
 use crate::tally::equal;
 use compare::proved::{self, c};
 use compare::{six_numbers, BYTE_MARK, MARK};
+use plain::terms::work_room;
 use plain::{Done, Refusal};
 
 /// What an accepted resume left behind.
@@ -14,12 +16,13 @@ pub struct Finished {
     pub new: Vec<u8>,
 }
 
-/// The lengths of work, rows and journal that a call is lent.
+/// The lengths of work, rows, journal and drops that a call is lent.
 #[derive(Clone, Copy, Debug)]
 pub struct Rooms {
     pub work: usize,
     pub rows: usize,
     pub journal: usize,
+    pub drops: usize,
 }
 
 /// The slices that a call is lent.
@@ -27,15 +30,17 @@ struct Lent {
     work: Vec<u16>,
     rows: Vec<u16>,
     journal: Vec<u8>,
+    drops: Vec<u16>,
 }
 
 impl Rooms {
-    /// A little more than 01 asks for.
+    /// A little more than is asked for.
     fn ample(modes: usize, terms: &[u16]) -> Self {
         Rooms {
-            work: terms.len() + BEYOND,
+            work: work_room(terms) + BEYOND,
             rows: 4 * modes + BEYOND,
             journal: 16 + 21 * modes + BEYOND,
+            drops: modes + BEYOND,
         }
     }
 
@@ -44,6 +49,7 @@ impl Rooms {
             work: vec![MARK; self.work],
             rows: vec![MARK; self.rows],
             journal: vec![BYTE_MARK; self.journal],
+            drops: vec![MARK; self.drops],
         }
     }
 }
@@ -90,8 +96,16 @@ fn resume_all(
     rooms: Rooms,
 ) -> Result<Result<Finished, Refusal>, String> {
     let mut left = rooms.marked();
-    let (work, rows, journal) = (&mut left.work, &mut left.rows, &mut left.journal);
-    let answer = plain::resume(modes, rule, terms, read, work, rows, journal);
+    let answer = plain::resume(
+        modes,
+        rule,
+        terms,
+        read,
+        &mut left.work,
+        &mut left.rows,
+        &mut left.journal,
+        &mut left.drops,
+    );
     let call = Call {
         modes,
         rule,
@@ -103,12 +117,13 @@ fn resume_all(
     };
     call.proved_alike()?;
     call.c_alike()?;
-    looked_over(modes, terms, answer, &left)
+    looked_over(modes, rule, terms, answer, &left)
 }
 
 /// What an accepted call left, once it is seen that nothing else was altered.
 fn looked_over(
     modes: usize,
+    rule: usize,
     terms: &[u16],
     answer: Result<Done, Refusal>,
     left: &Lent,
@@ -117,19 +132,25 @@ fn looked_over(
         Ok(done) => (1, done.new),
         Err(_) => (0, 0),
     };
-    let (zeros, work_beyond) = left.work.split_at(written * terms.len());
+    let (zeros, work_beyond) = left.work.split_at(written * work_room(terms));
     let (rows, rows_beyond) = left.rows.split_at(written * 4 * modes);
     let (new, journal_beyond) = left.journal.split_at(new);
+    let (drops, drops_beyond) = left.drops.split_at(written * modes);
     let stayed = work_beyond.iter().all(|&number| number == MARK)
         && rows_beyond.iter().all(|&number| number == MARK)
+        && drops_beyond.iter().all(|&number| number == MARK)
         && journal_beyond.iter().all(|&byte| byte == BYTE_MARK);
     equal("elements that stay, stay", stayed, true)?;
     let zeroed = zeros.iter().all(|&number| number == 0);
     equal("work is zero", zeroed, true)?;
     let by_four = |row: &[u16]| [row[0], row[1], row[2], row[3]];
+    let rows: Vec<[u16; 4]> = rows.chunks(4).map(by_four).collect();
+    if answer.is_ok() {
+        equal("drops", drops, &drops_of(modes, rule, &rows, terms)[..])?;
+    }
     Ok(answer.map(|done| Finished {
         done,
-        rows: rows.chunks(4).map(by_four).collect(),
+        rows,
         new: new.to_vec(),
     }))
 }
@@ -149,7 +170,6 @@ impl Call<'_> {
     /// The proved call, with slices as they were lent: the same numbers, and every element as the plain program left it.
     fn proved_alike(&self) -> Result<(), String> {
         let mut lent = self.rooms.marked();
-        let (work, rows, journal) = (&mut lent.work, &mut lent.rows, &mut lent.journal);
         let Call {
             modes,
             rule,
@@ -157,17 +177,28 @@ impl Call<'_> {
             read,
             ..
         } = *self;
-        let proved = proved::resume(modes, rule, terms, read, work, rows, journal);
+        let proved = proved::resume(
+            modes,
+            rule,
+            terms,
+            read,
+            &mut lent.work,
+            &mut lent.rows,
+            &mut lent.journal,
+            &mut lent.drops,
+        );
         equal("proved numbers", proved, self.numbers)?;
         equal("proved work", &lent.work, &self.left.work)?;
         equal("proved rows", &lent.rows, &self.left.rows)?;
-        equal("proved journal", &lent.journal, &self.left.journal)
+        equal("proved journal", &lent.journal, &self.left.journal)?;
+        equal("proved drops", &lent.drops, &self.left.drops)
     }
 
     /// The same of the call for C.
     fn c_alike(&self) -> Result<(), String> {
-        // Work is that call's own, so that too little of it can't be lent; and it knows the published rule alone.
-        if self.rooms.work < self.terms.len() || self.rule != PUBLISHED {
+        // Work and drops are that call's own, so that too little of them can't be lent; and it knows the published rule alone.
+        let too_little = self.rooms.work < work_room(self.terms) || self.rooms.drops < self.modes;
+        if too_little || self.rule != PUBLISHED {
             return Ok(());
         }
         let mut rows = vec![BYTE_MARK; 2 * self.rooms.rows];

@@ -2,7 +2,7 @@
 
 use super::{size_of, smallest, Terms, COUNTS};
 use crate::calls;
-use crate::finished::is_accepted;
+use crate::finished::{is_accepted, not_below_best};
 use crate::invariants::total_trials;
 use crate::tally::{equal, Tally};
 use compare::cases::{flat, terms, tree_of_rows, Random, Shape, ABSENT, SHAPES};
@@ -75,7 +75,9 @@ fn hatt_agrees(modes: usize, terms: &Terms) -> Result<(), String> {
     equal("rows", &finished.rows, &rows)?;
     equal("weight", finished.done.weight, weight as u64)?;
     equal("trials", finished.done.trials, total_trials(modes))?;
-    is_accepted(modes, &tree_of_rows(&rows))?;
+    let tree = tree_of_rows(&rows);
+    is_accepted(modes, &tree)?;
+    not_below_best(modes, &tree, &flat(terms))?;
     let printed = plain::program(program_input(modes, terms).as_bytes());
     let expected = program_output(&rows, weight, total_trials(modes));
     equal(
