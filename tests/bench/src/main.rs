@@ -1,4 +1,4 @@
-//! Times HATT and assign on the same input by the proved library, ferrmion's Rust and the plain program; prints medians and ratios.
+//! Times HATT and assign on the same input by the proved library, ferrmion's Rust and the plain program, and `best`, which the Rust has not, by the two others; prints medians and ratios.
 
 use compare::cases::{any_tree, flat, terms, Random, Shape};
 use compare::proved;
@@ -122,6 +122,19 @@ fn assign(kind: &str, modes: usize, count: usize, shape: Shape) {
     );
 }
 
+/// Of the most modes that it takes, which is to be done within a second.
+fn best(kind: &str, modes: usize, count: usize, shape: Shape) {
+    let numbers = flat(&terms(&mut Random::new(1), modes, count, shape));
+    let (ours, our_time) = timed(|| proved::best(modes, &numbers, &mut vec![0; 3 * modes])[2]);
+    let (plainly, plain_time) = timed(|| {
+        let found = plain::best(modes, &numbers);
+        found.expect("the terms are good").least
+    });
+    assert_eq!(ours, plainly, "the least weights differ");
+    assert!(our_time < 1000.0, "best took {our_time:.0} ms");
+    println!("best, {modes} modes, {count} terms, {kind}: ours {our_time:.1} ms, plain {plain_time:.0} ms");
+}
+
 fn main() {
     for (kind, shape) in [("chemistry", Shape::Chemistry), ("mixed", Shape::Mixed)] {
         hatt(kind, 16, 512, shape);
@@ -132,5 +145,6 @@ fn main() {
         hatt(kind, 128, 2048, shape);
         assign(kind, 32, 512, shape);
         assign(kind, 64, 2048, shape);
+        best(kind, 4, 2048, shape);
     }
 }
