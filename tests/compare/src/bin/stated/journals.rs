@@ -6,6 +6,8 @@ use compare::{proved, six_numbers};
 
 const MODES: usize = 2;
 const HEADER: &str = "hatt\t1\t2\t3\n";
+/// Of four terms.
+const ANOTHER_HEADER: &str = "hatt\t1\t2\t4\n";
 const FIRST: &str = "0\t0\t1\t2\t2\n";
 const SECOND: &str = "1\t5\t3\t4\t2\n";
 const ROWS: [u16; 8] = [1, 0, 5, ABSENT, 0, 2, 3, 4];
@@ -37,56 +39,48 @@ pub fn hold(cases: &mut Cases) {
     goes_on(cases, header_kept, &cut, [0, 0, 4, 14, 11, 20], &lines);
     let nothing_left = "whole: nothing is left to do";
     goes_on(cases, nothing_left, &whole, [0, 0, 4, 0, 31, 0], "");
+    in_too_little_room(cases);
     let after_header = |line| format!("{HEADER}{line}");
-    let another_header = || "hatt\t1\t2\t4\n".to_string();
-    let another_rule = || "keep\t1\t2\t3\n".to_string();
     let refusals = [
-        ("one number", after_header("0\n"), EXACT, [6, 1]),
-        ("another header", another_header(), EXACT, [7, 0]),
-        ("the other rule's header", another_rule(), EXACT, [7, 0]),
+        ("one number", after_header("0\n"), [6, 1]),
+        ("another header", ANOTHER_HEADER.to_string(), [7, 0]),
         (
-            "no rule's header",
-            "help\t1\t2\t3\n".to_string(),
-            EXACT,
-            [6, 0],
+            "the other rule's header",
+            "keep\t1\t2\t3\n".to_string(),
+            [7, 0],
         ),
+        ("no rule's header", "help\t1\t2\t3\n".to_string(), [6, 0]),
         (
             "a child that isn't open",
             after_header("0\t0\t1\t5\t2\n"),
-            EXACT,
             [9, 1],
         ),
         (
             "x and y exchanged",
             after_header("0\t1\t0\t2\t2\n"),
-            EXACT,
             [10, 1],
         ),
-        ("a line too many", whole + "\n", EXACT, [12, 3]),
-        (
-            "a byte too little room comes first",
-            another_header(),
-            Rooms {
-                journal: 57,
-                ..EXACT
-            },
-            [5, 0],
-        ),
-        (
-            "work below nine numbers a term",
-            another_header(),
-            Rooms { work: 26, ..EXACT },
-            [5, 0],
-        ),
-        (
-            "a drop too little room",
-            another_header(),
-            Rooms { drops: 1, ..EXACT },
-            [5, 0],
-        ),
+        ("a line too many", whole + "\n", [12, 3]),
     ];
-    for (what, read, rooms, refusal) in refusals {
-        refused(cases, what, &read, rooms, refusal);
+    for (what, read, refusal) in refusals {
+        refused(cases, what, &read, EXACT, refusal);
+    }
+}
+
+/// 5 comes before what the journal's lines are refused by.
+fn in_too_little_room(cases: &mut Cases) {
+    let journal = Rooms {
+        journal: 57,
+        ..EXACT
+    };
+    let work = Rooms { work: 26, ..EXACT };
+    let drops = Rooms { drops: 1, ..EXACT };
+    for (what, rooms) in [
+        ("a byte too little for the journal", journal),
+        ("work below nine numbers a term", work),
+        ("a drop too little room", drops),
+    ] {
+        refused(cases, what, ANOTHER_HEADER, rooms, [5, 0]);
     }
 }
 
