@@ -1,4 +1,6 @@
 // Asks the library every recorded case anew and prints, for each kind, how many cases there are and how many differ.
+#![tactic(auto)]
+
 use libc::STDOUT_FILENO;
 use replay::{Kind, Tally};
 

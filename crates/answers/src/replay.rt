@@ -4,7 +4,7 @@ ghost use Rattle.std.specs.Prelude.{◌+◌, ◌≤◌, ◌<◌, length};
 use fields::{lines, parts};
 
 // What a file records.
-#[derive(Drop)]
+#[derive(Clone, Copy)]
 pub enum Kind {
     Hatt,
     Assign,
@@ -12,7 +12,7 @@ pub enum Kind {
 }
 
 // How many cases were asked anew, how many of them differ, and the number of the first that does, counted from 1.
-#[derive(Drop)]
+#[derive(Clone, Copy)]
 pub struct Tally {
     pub cases: usize,
     pub different: usize,

@@ -1,4 +1,6 @@
 // Assigning called from C, on arrays of the call's own, between the bytes that were lent.
+#![tactic(auto)]
+
 ghost use Rattle.std.specs.Prelude.{◌≡◌, ◌+◌, ◌*◌, ◌≤◌, length, take};
 ghost use Rattle.lists.specs.Written.{written_at};
 ghost use Rattle.entities.specs.Limits.{most_modes, most_terms, row_width};

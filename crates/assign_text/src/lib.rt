@@ -1,4 +1,6 @@
 // The answer of `assign` to the text of a tree, a heuristic's name and the text of the terms, from bytes to bytes.
+#![tactic(auto)]
+
 ghost use Rattle.std.specs.Prelude.{◌≡◌, ◌*◌, ◌≤◌, length};
 ghost use Rattle.entities.specs.Limits.{most_modes, most_terms, row_width, work_width};
 ghost use Rattle.tree.specs.Laying.{modes_in};

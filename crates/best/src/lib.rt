@@ -1,6 +1,8 @@
 // How far any way of merging could get: for few modes every lawful sequence of merges is gone through, each once, and of those whose tree weighs
 // least the first is told and how many they are. The sequences are numbered in their order and each is found from its number, so there is no
 // search and nothing to remember but the best so far.
+#![tactic(auto)]
+
 ghost use Rattle.std.specs.Prelude.{◌*◌, ◌≤◌, ◌≡◌, length};
 ghost use Rattle.terms.specs.Good.{checked};
 ghost use Rattle.terms.specs.declared.checking.Checked.«TheVariants».{Good};
@@ -17,7 +19,7 @@ mod search;
 mod sequence;
 
 // What `best` answers: the least weight and how many sequences reach it, or why it is refused.
-#[derive(Drop)]
+#[derive(Clone, Copy)]
 pub enum BestFound {
     Found(u64, usize),
     Unfound(Refusal),

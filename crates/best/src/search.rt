@@ -12,7 +12,7 @@ use entities::codes;
 use terms::slices;
 
 // The lightest so far: its weight, and how many are as light.
-#[derive(Drop)]
+#[derive(Clone, Copy)]
 pub struct Lead {
     pub weight: u64,
     pub reached: usize,

@@ -1,4 +1,6 @@
 // The answer of `best` to the text of terms, from bytes to bytes.
+#![tactic(auto)]
+
 ghost use Rattle.std.specs.Prelude.{◌≡◌, ◌*◌, ◌≤◌, length};
 ghost use Rattle.entities.specs.Limits.{most_terms, row_width};
 ghost use Rattle.terms_text.specs.Input.{given};

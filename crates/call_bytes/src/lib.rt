@@ -1,4 +1,6 @@
 // What the calls from C share: numbers as bytes, the terms read, a refusal as one number, and the room for what is answered.
+#![tactic(auto)]
+
 ghost use Rattle.std.specs.Prelude.{◌≡◌, ◌+◌, ◌*◌, ◌≤◌};
 ghost use Rattle.refusal.specs.Numbers.{number_of, place_of};
 ghost use Rattle.call_bytes.specs.code.Handing.{room_of};

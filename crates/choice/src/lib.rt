@@ -1,4 +1,6 @@
 // The choice of a round: the least weight over the choices of its nodes, on a tie the largest z, y, x.
+#![tactic(auto)]
+
 ghost use Rattle.std.specs.Prelude.{◌≡◌, true, cond, ℕ, ◌+◌, ◌*◌, ◌≤◌, ◌<◌, eqb, ltb, length, take};
 ghost use mathlib.Core.List.{List, [], ◌∷◌, map, flat_map};
 ghost use Rattle.lists.specs.Members.{every, some_of};
@@ -21,7 +23,7 @@ use tallying::{pairs, tally};
 use terms::{row, weight};
 
 // The best choice so far: its weight, its node, and the numbers that the node's three slots are to stand as.
-#[derive(Drop)]
+#[derive(Clone, Copy)]
 pub struct Selection {
     pub min_weight: usize,
     pub min_parent: u16,

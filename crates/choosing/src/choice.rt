@@ -27,7 +27,7 @@ use tallying::tally;
 use tallying::tally::Tally;
 
 // The lightest triple so far and its weight.
-#[derive(Drop)]
+#[derive(Clone, Copy)]
 pub struct Best {
     pub weight: usize,
     pub triple: Triple,

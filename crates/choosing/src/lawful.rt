@@ -21,14 +21,14 @@ ghost use Rattle.choosing.specs.code.Couples.{
 use entities::Triple;
 
 // x and y of the triples that an entity names.
-#[derive(Drop)]
+#[derive(Clone, Copy)]
 pub struct Named {
     pub x: u16,
     pub y: u16,
 }
 
 // The same, where they are lawful beside each other.
-#[derive(Drop)]
+#[derive(Clone, Copy)]
 pub enum Couple {
     Of(u16, u16),
     Nothing,

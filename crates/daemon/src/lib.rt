@@ -1,4 +1,6 @@
 // The calls of the queue daemon, which is C: numbers and slices of bytes.
+#![tactic(auto)]
+
 ghost use Rattle.entities.specs.Limits.{most_modes};
 ghost use Rattle.assign_call.specs.Calls.{lent_table, assign_called};
 ghost use Rattle.assign_call.specs.Promises.{AssignCalled};

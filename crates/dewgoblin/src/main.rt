@@ -1,4 +1,6 @@
 // The program: the command that its first argument names, by the rule that its third does, for the terms on standard input and the file on descriptor 3; its answer on standard output, with a full stop behind it.
+#![tactic(auto)]
+
 ghost use Rattle.std.specs.Prelude.{◌≡◌};
 ghost use Rattle.io.specs.Counts.{IsPrefixLen};
 ghost use Rattle.terms_text.specs.Jobs.{request};

@@ -1,4 +1,6 @@
 // The answer of `drops` to the text of terms and a journal, from bytes to bytes: how many of the terms were dropped in each step.
+#![tactic(auto)]
+
 ghost use Rattle.std.specs.Prelude.{◌≡◌, ◌+◌, ◌*◌, ◌≤◌, ◌<◌, length};
 ghost use Rattle.lists.specs.Written.{written_at};
 ghost use Rattle.entities.specs.Limits.{most_modes};

@@ -1,11 +1,13 @@
 // Entities: leaves and parents by number, a node's three children, and the codes that a tree's rows and tables have for them.
+#![tactic(auto)]
+
 ghost use Rattle.std.specs.Prelude.{◌≡◌, ◌<◌};
 
 pub mod codes;
 pub mod parents;
 
 // Three entities: a node's children under X, Y and Z.
-#[derive(Drop)]
+#[derive(Clone, Copy)]
 pub struct Triple {
     pub x: u16,
     pub y: u16,

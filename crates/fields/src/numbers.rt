@@ -6,7 +6,7 @@ ghost use Rattle.fields.specs.code.Reading.{tab_in, ended_at, number_at, opens, 
 use crate::{decimal, parts};
 
 // A field read: its number and the place behind it, or no number.
-#[derive(Drop)]
+#[derive(Clone, Copy)]
 pub enum Field {
     Number(u16, usize),
     Broken,

@@ -1,4 +1,6 @@
 // The rows of a finished run: label, X, Y, Z of each node, breadth first from the root.
+#![tactic(auto)]
+
 ghost use Rattle.std.specs.Prelude.{◌≡◌, cond, List, [], ◌∷◌, ◌++◌, ℕ, ◌+◌, ◌*◌, ◌≤◌, ◌<◌, ltb, length, take};
 ghost use Rattle.lists.specs.Members.{keep};
 ghost use Rattle.lists.specs.Written.{written_at};

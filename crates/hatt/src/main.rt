@@ -1,4 +1,6 @@
 // The program: standard input read, and its answer written to standard output.
+#![tactic(auto)]
+
 
 fn main() {
     // more than any well-formed text has; what lies beyond alters no answer

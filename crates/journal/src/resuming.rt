@@ -24,7 +24,7 @@ use terms::rules::Rule;
 use terms::{checking, counted, row, rules, slices};
 
 // The four numbers of a run: greedy weight, trials, kept bytes and new bytes.
-#[derive(Drop)]
+#[derive(Clone, Copy)]
 pub struct Numbers {
     pub weight: u64,
     pub trials: u64,
@@ -33,7 +33,7 @@ pub struct Numbers {
 }
 
 // What a call answers.
-#[derive(Drop)]
+#[derive(Clone, Copy)]
 pub enum Answer {
     Done(Numbers),
     Refused(Refusal),

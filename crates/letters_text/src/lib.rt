@@ -1,4 +1,6 @@
 // The answer of `letters` to the text of terms, a journal and a step, from bytes to bytes: which letter each live row gets there.
+#![tactic(auto)]
+
 ghost use Rattle.std.specs.Prelude.{◌≡◌, List, ℕ, ◌*◌, ◌≤◌, ◌<◌, length};
 ghost use Rattle.entities.specs.Limits.{most_modes, most_terms, row_width};
 ghost use Rattle.terms.specs.Job.{Job, job_of};

@@ -5,7 +5,7 @@ ghost use Rattle.letters_text.specs.Lettering.{asked};
 use fields::numbers;
 
 // A step of the run, or none of its steps.
-#[derive(Drop)]
+#[derive(Clone, Copy)]
 pub enum Asked {
     Step(usize),
     NoStep,

@@ -109,7 +109,7 @@ module _ {A : Type 0} (test : A → Bool) where
       let p = every_uncons a l e in
       let b = some_of (like a) kept in
       every_append (cond b [] (a ∷ [])) (firsts_after like (kept ++ cond b [] (a ∷ [])) l)
-      (every_chosen b [] (a ∷ []) refl (every_cons a [] p.0 refl)) (every_first like _ l p.1)
+      (every_chosen b [] (a ∷ []) refl (every_cons a [] p.0 refl)) (every_first like (kept ++ cond b [] (a ∷ [])) l p.1)
 
   -- Where no element fails before the end, none does.
   pub every_leading : (l : List A) → length l ≤ leading test l → every test l ≡ true

@@ -27,6 +27,7 @@ module _ {A : Type 0} (weight : A → ℕ) where
 
   without : (a : A) (m : List A) → Memᴰ a m → Without a m
   unfolding sum
+  without a [] m = elim m [ ]
   without a (c ∷ m) (Memᴰ.head e) = record {
     rest = m;
     weighs = rw e;
@@ -59,6 +60,7 @@ module _ {A : Type 0} (like : A → A → Bool) (itself : (a : A) → like a a �
 
   none_same : (a : A) (l : List A) → some_of (like a) l ≡ false → Memᴰ a l → ⊥
   unfolding some_of
+  none_same a [] e m = elim m [ ]
   none_same a (b ∷ l) e (Memᴰ.head q) =
       true≢false (sym (itself a) ∙ ap (like a) q ∙ (neither (like a b) (some_of (like a) l) e).0)
   none_same a (b ∷ l) e (Memᴰ.tail m) = none_same a l (neither (like a b) (some_of (like a) l) e).1 m

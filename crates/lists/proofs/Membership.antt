@@ -13,6 +13,7 @@ use Rattle.lists.proofs.Tests.{same_or_not}
 module _ {A : Type 0} (test : A → Bool) where
   pub kept : {a : A} (l : List A) → test a ≡ true → Memᴰ a l → Memᴰ a (keep test l)
   unfolding keep
+  kept [] t m = elim m [ ]
   kept (b ∷ l) t (Memᴰ.head e) = rw (ap test (sym e) ∙ t) (Memᴰ.head e)
   kept (b ∷ l) t (Memᴰ.tail m) = Memᴰ.append_right (cond (test b) (b ∷ []) []) (kept l t m)
 
@@ -33,6 +34,7 @@ module _ {A : Type 0} (test : A → Bool) where
 module _ {A B : Type 0} (f : A → List B) where
   pub joined : {a : A} {b : B} (l : List A) → Memᴰ a l → Memᴰ b (f a) → Memᴰ b (flat_map f l)
   unfolding flat_map
+  joined [] n m = elim n [ ]
   joined (c ∷ l) (Memᴰ.head e) m = Memᴰ.append_left (flat_map f l) (rw e at m)
   joined (c ∷ l) (Memᴰ.tail n) m = Memᴰ.append_right (f c) (joined l n m)
 

@@ -31,5 +31,6 @@ occurrences_replicate v x (suc n) apart = omega (arith, same_none x v apart, occ
 
 -- An element stands at some place.
 pub place_of_member : {A : Type 0} (a : A) (l : List A) (d : A) → Memᴰ a l → (i : ℕ) × (i < length l) × (get_or l i d ≡ a)
+place_of_member a [] d m = elim m [ ]
 place_of_member a (b ∷ l) d (Memᴰ.head e) = (0, omega arith, sym e)
 place_of_member a (b ∷ l) d (Memᴰ.tail m) = let r = place_of_member a l d m in (suc r.0, omega (arith, r.1), r.2)

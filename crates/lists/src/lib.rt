@@ -1,1 +1,3 @@
 // No code: words about lists that several crates' definitions use, and the laws of those words.
+#![tactic(auto)]
+

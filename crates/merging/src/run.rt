@@ -17,7 +17,7 @@ use terms::rules::Rule;
 
 // What a run holds: its modes, its rule and how many rows it has, a mark, a z-end and a holder for every entity, and of every merge x, y, z, its
 // weight and how many input rows were dropped with it.
-#[derive(Drop)]
+#[derive(Clone, Copy)]
 pub struct Run {
     pub modes: usize,
     pub rule: Rule,

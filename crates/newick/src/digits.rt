@@ -6,7 +6,7 @@ ghost use Rattle.newick.specs.code.Promises.{may_follow, NumberRead};
 use fields::decimal;
 
 // A number, and the place behind its digits; where there are none, the place at which they were to begin.
-#[derive(Drop)]
+#[derive(Clone, Copy)]
 pub struct Number {
     pub value: u32,
     pub end: usize,

@@ -1,4 +1,6 @@
 // Newick texts: an accepted tree written as one, and a text read back as a tree table.
+#![tactic(auto)]
+
 mod digits;
 mod length;
 mod names;

@@ -15,7 +15,7 @@ use terms::slices;
 use tree::{TreeChecked, laying};
 
 // What reading says: how many modes were read, or why none.
-#[derive(Drop)]
+#[derive(Clone, Copy)]
 pub enum NewickRead {
     Read(usize),
     Unread(Refusal),
@@ -23,7 +23,7 @@ pub enum NewickRead {
 
 // What reading a child came to: its name, the place behind it and how many nodes are closed; or the place at which no such text can go
 // on; or that of a node too many.
-#[derive(Drop)]
+#[derive(Clone, Copy)]
 pub enum Part {
     Child(u32, usize, usize),
     Stuck(usize),

@@ -1,4 +1,6 @@
 // The tree that a text's run ends in, printed as a Newick line.
+#![tactic(auto)]
+
 ghost use Rattle.std.specs.Prelude.{◌≡◌, ◌*◌, length};
 ghost use Rattle.entities.specs.Limits.{most_modes};
 ghost use Rattle.tree.specs.Writing.{text_after};

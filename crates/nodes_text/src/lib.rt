@@ -1,4 +1,6 @@
 // The lines of a tree's text read as rows of four numbers: label, X, Y, Z.
+#![tactic(auto)]
+
 ghost use Rattle.std.specs.Prelude.{◌≡◌, ◌+◌, ◌*◌, ◌≤◌, length};
 ghost use Rattle.entities.specs.Limits.{most_modes};
 ghost use Rattle.nodes_text.specs.TreeInput.{tree_said};
@@ -10,7 +12,7 @@ use fields::{lines, numbers};
 mod code_fields;
 
 // What a text says: so many nodes, or the line at which it is malformed.
-#[derive(Drop)]
+#[derive(Clone, Copy)]
 pub enum Nodes {
     Are(usize),
     Malformed(usize),

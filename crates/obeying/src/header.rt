@@ -8,7 +8,7 @@ use fields::numbers;
 use terms::rules::Rule;
 
 // What a line says as a header.
-#[derive(Drop)]
+#[derive(Clone, Copy)]
 pub enum Header {
     Is(Rule, u16, u16),
     Broken,

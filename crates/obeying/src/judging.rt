@@ -12,7 +12,7 @@ use merging::run::Run;
 use refusal::Refusal;
 
 // What becomes of a line: the merge that it says is to be made, or it is refused.
-#[derive(Drop)]
+#[derive(Clone, Copy)]
 pub enum Judged {
     Obey(MergeLine),
     Refused(Refusal),

@@ -1,4 +1,6 @@
 // Lines obeyed one after the other, a journal's or merges by hand: each merge that they say is judged and made, until a line is refused.
+#![tactic(auto)]
+
 ghost use Rattle.std.specs.Prelude.{◌≡◌, List, [], ℕ, ◌≤◌, length, drop};
 ghost use Rattle.entities.specs.Limits.{most_modes, most_terms};
 ghost use Rattle.fields.specs.Lines.{lines};
@@ -27,14 +29,14 @@ mod judging;
 pub mod merge_line;
 
 // Nothing refused so far, or why.
-#[derive(Drop)]
+#[derive(Clone, Copy)]
 pub enum Verdict {
     Fine,
     Refused(Refusal),
 }
 
 // The verdict, and the run after the merges that were made before it.
-#[derive(Drop)]
+#[derive(Clone, Copy)]
 pub struct Obeying {
     pub verdict: Verdict,
     pub run: Run,

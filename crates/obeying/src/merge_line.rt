@@ -6,7 +6,7 @@ use entities::Triple;
 use fields::numbers;
 
 // What a merge line says.
-#[derive(Drop)]
+#[derive(Clone, Copy)]
 pub struct MergeLine {
     pub step: u16,
     pub triple: Triple,
@@ -14,7 +14,7 @@ pub struct MergeLine {
 }
 
 // What a line says as a merge line.
-#[derive(Drop)]
+#[derive(Clone, Copy)]
 pub enum Merge {
     Is(MergeLine),
     Broken,

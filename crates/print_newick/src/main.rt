@@ -1,4 +1,6 @@
 // The program: standard input read, and the tree of its run written to standard output as a Newick line.
+#![tactic(auto)]
+
 
 fn main() {
     // more than any well-formed text has; what lies beyond alters no answer

@@ -1,4 +1,6 @@
 // The tree that a text's run ends in, laid out as a table by label, for whatever is printed of it.
+#![tactic(auto)]
+
 ghost use Rattle.std.specs.Prelude.{◌≡◌, [], ◌+◌, ◌*◌, length};
 ghost use Rattle.entities.specs.Limits.{most_modes};
 ghost use Rattle.terms_text.specs.Jobs.{request};
@@ -12,7 +14,7 @@ use text::running::Ran;
 use tree::laying;
 
 // What a text's run ended in: a tree of so many modes, or a refusal.
-#[derive(Drop)]
+#[derive(Clone, Copy)]
 pub enum Ended {
     Tree(usize),
     Refused(Refusal),

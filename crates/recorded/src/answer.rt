@@ -3,7 +3,7 @@ use crate::lines;
 use fields::numbers::Field;
 
 // The weight and how many numbers the node lines have, or another text; no recorded weight is above 65535.
-#[derive(Drop)]
+#[derive(Clone, Copy)]
 pub enum Recorded {
     Answer(u64, usize),
     Broken,

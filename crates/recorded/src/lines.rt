@@ -6,7 +6,7 @@ use fields::numbers::Field;
 use fields::{lines, numbers, parts};
 
 // How many numbers were read, and the place behind what was read; 0 numbers where the text is another.
-#[derive(Drop)]
+#[derive(Clone, Copy)]
 pub struct Read {
     pub count: usize,
     pub end: usize,

@@ -1,4 +1,6 @@
 // A recorded assign case asked anew: the weight and the table must be those that ferrmion's Rust gave.
+#![tactic(auto)]
+
 use fields::numbers::Field;
 use recorded::answer::Recorded;
 use recorded::{answer, fronts, lines};

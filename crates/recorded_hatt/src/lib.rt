@@ -1,4 +1,6 @@
 // A recorded HATT case asked anew: the weight and the rows must be those that ferrmion's Rust gave. It counts no drops; ours must be of every term.
+#![tactic(auto)]
+
 use fields::numbers::Field;
 use journal::resuming;
 use journal::resuming::Answer;

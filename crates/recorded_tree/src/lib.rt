@@ -1,4 +1,6 @@
 // A recorded tree case asked anew: the tree weight, or the refusal of check and weight, must be the one that the plain program gave.
+#![tactic(auto)]
+
 use fields::numbers::Field;
 use recorded::lines;
 use refusal::Refusal;
@@ -6,7 +8,7 @@ use tree::TreeChecked;
 use tree_weight::TreeWeighed;
 
 // What a call says: refusal number 0 and a weight, or the refusal's number and place and weight 0.
-#[derive(Drop)]
+#[derive(Clone, Copy)]
 struct Said {
     number: usize,
     place: usize,

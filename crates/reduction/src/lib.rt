@@ -1,4 +1,6 @@
 // Reduction: the triple becomes its parent in every row, rows that are all parent are dropped if the rule drops them, equal rows become one.
+#![tactic(auto)]
+
 ghost use Rattle.std.specs.Prelude.{true, ◌≡◌, ◌+◌, ◌*◌, ◌≤◌, ◌<◌, length, get_or, set, drop, replicate};
 ghost use Rattle.lists.specs.Ranges.{ascends};
 ghost use Rattle.lists.specs.Written.{written_at};

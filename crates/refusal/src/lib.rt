@@ -1,8 +1,10 @@
 // Why a call refuses: a case for each number of document 01's table, holding the place where the table gives one.
+#![tactic(auto)]
+
 ghost use Rattle.std.specs.Prelude.{◌≡◌};
 ghost use Rattle.refusal.specs.Numbers.{number_of, place_of};
 
-#[derive(Drop)]
+#[derive(Clone, Copy)]
 pub enum Refusal {
     // 1: modes are 0 or above 256
     Modes,

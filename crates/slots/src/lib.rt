@@ -1,4 +1,6 @@
 // What stands in a node's three slots, the Rust's `NodeRestriction`: a child, an empty place, a fixed leaf, or a leaf whose pair has no mode yet; each is the number that it stands as. And, by that, the nodes of a round.
+#![tactic(auto)]
+
 ghost use Rattle.std.specs.Prelude.{◌≡◌, ◌+◌, ◌*◌, ◌≤◌, ◌<◌, length};
 ghost use Rattle.entities.specs.Limits.{most_modes};
 ghost use Rattle.slots.specs.code.Numbers.{number_unfixed, number_leaf};

@@ -1,9 +1,11 @@
 // What a program reads, standard input or another open descriptor, read to its end; a read that fails is told apart from the end.
+#![tactic(auto)]
+
 ghost use Rattle.std.specs.Prelude.{◌+◌, ◌≤◌, ◌≡◌, length};
 ghost use Rattle.io.specs.Counts.{IsPrefixLen};
 
 // What reading came to: how many bytes stand at the front of the buffer, and whether a read failed behind them.
-#[derive(Drop)]
+#[derive(Clone, Copy)]
 pub struct Input {
     pub count: usize,
     pub failed: bool,

@@ -1,4 +1,6 @@
 // What people need to write journals by hand and to mend them: merges made into a journal, and what a refused line lacks.
+#![tactic(auto)]
+
 ghost use Rattle.std.specs.Prelude.{◌≡◌, List, ℕ, ◌*◌, ◌≤◌, length};
 ghost use Rattle.entities.specs.Limits.{most_modes, most_terms, row_width};
 ghost use Rattle.terms.specs.Job.{Job, job_of};

@@ -1,4 +1,6 @@
 // The Pauli strings of an accepted tree's Majoranas, written as text: a letter at each node on the way from the root to a leaf, by the edge taken.
+#![tactic(auto)]
+
 ghost use Rattle.std.specs.Prelude.{◌≡◌, length};
 ghost use Rattle.refusal.specs.Numbers.{Tells};
 ghost use Rattle.entities.specs.Limits.{most_modes};

@@ -1,4 +1,6 @@
 // The answers of `strings` to the text of a tree or of terms, from bytes to bytes.
+#![tactic(auto)]
+
 ghost use Rattle.std.specs.Prelude.{◌≡◌, ◌*◌, length};
 ghost use Rattle.entities.specs.Limits.{most_modes};
 ghost use Rattle.terms_text.specs.Jobs.{request};

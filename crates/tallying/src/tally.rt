@@ -9,7 +9,7 @@ use crate::raising;
 use terms::{row, slices, weight};
 
 // Every triple of the couple weighs at least the limit; or the number of rows in which one of the two is odd, or both are, and of those in which only one is.
-#[derive(Drop)]
+#[derive(Clone, Copy)]
 pub enum Tally {
     Heavy,
     All(usize, usize),

@@ -7,7 +7,7 @@ ghost use Rattle.terms.specs.Good.{good_indices, good_row, good_rows, check_numb
 use crate::{row, slices};
 use refusal::Refusal;
 
-#[derive(Drop)]
+#[derive(Clone, Copy)]
 pub enum Checked {
     // So many rows, all of them good.
     Good(usize),

@@ -2,7 +2,7 @@
 ghost use Rattle.std.specs.Prelude.{◌≡◌, ◌≤◌};
 ghost use Rattle.terms.specs.Letters.{counted_letter, letter_byte, not_none};
 
-#[derive(Drop)]
+#[derive(Clone, Copy)]
 pub enum Letter {
     None,
     X,

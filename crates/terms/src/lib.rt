@@ -1,4 +1,6 @@
 // Rows of numbers: the check of given rows, the work rows made of them, and their letters and weight by a triple; the rules of their reduction.
+#![tactic(auto)]
+
 pub mod checking;
 pub mod counted;
 pub mod letters;

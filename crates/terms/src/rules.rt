@@ -2,7 +2,7 @@
 ghost use Rattle.std.specs.Prelude.{◌≡◌};
 ghost use Rattle.terms.specs.Rules.{rule_number, rule_of};
 
-#[derive(Drop)]
+#[derive(Clone, Copy)]
 pub enum Rule {
     // A row left with only the parent is dropped.
     Published,

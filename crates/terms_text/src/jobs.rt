@@ -12,7 +12,7 @@ use terms::checking;
 use terms::checking::Checked;
 
 // The modes and the count of terms, which stand at the front of the numbers; or why there is no job.
-#[derive(Drop)]
+#[derive(Clone, Copy)]
 pub enum JobRead {
     Is(usize, usize),
     Refused(Refusal),

@@ -1,4 +1,6 @@
 // The program's input: its first line read as modes, every other as a term's row of eight.
+#![tactic(auto)]
+
 ghost use Rattle.std.specs.Prelude.{◌≡◌, ◌∷◌, ◌+◌, ◌*◌, ◌≤◌, length, replicate};
 ghost use Rattle.entities.specs.Limits.{most_terms, row_width};
 ghost use Rattle.terms_text.specs.Input.{said};
@@ -10,21 +12,21 @@ use terms::slices;
 pub mod jobs;
 
 // What a text says: modes and so many terms, or the line at which it is malformed.
-#[derive(Drop)]
+#[derive(Clone, Copy)]
 pub enum Said {
     Given(usize, usize),
     Malformed(usize),
 }
 
 // What the first line says.
-#[derive(Drop)]
+#[derive(Clone, Copy)]
 enum Modes {
     Are(u16),
     Broken,
 }
 
 // How many lines say a term before the first that doesn't, and whether they are all there is.
-#[derive(Drop)]
+#[derive(Clone, Copy)]
 struct Terms {
     count: usize,
     all: bool,

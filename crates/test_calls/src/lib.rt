@@ -1,4 +1,6 @@
 // What the tests call from Rust: the calls `resume`, `assign`, `best`, the Newick calls and `write_strings`, one merge of rows, and what the tree calls answer.
+#![tactic(auto)]
+
 ghost use Rattle.std.specs.Prelude.{◌≤◌};
 ghost use Rattle.entities.specs.Limits.{most_terms};
 ghost use Rattle.terms.specs.code.Held.{Given, Worked};

@@ -1,4 +1,6 @@
 // The programs' text: the run that their input asks for made and their answers printed, from bytes to bytes.
+#![tactic(auto)]
+
 ghost use Rattle.text.specs.Running.{program_rooms};
 ghost use Rattle.text.specs.Output.{answer_text, Prints};
 

@@ -14,7 +14,7 @@ use terms::rules::Rule;
 use terms_text::Said;
 
 // A run that is done: its modes, greedy weight and trials, and how many bytes its new lines have.
-#[derive(Drop)]
+#[derive(Clone, Copy)]
 pub struct Run {
     pub modes: usize,
     pub weight: u64,
@@ -23,7 +23,7 @@ pub struct Run {
 }
 
 // What a text's run came to.
-#[derive(Drop)]
+#[derive(Clone, Copy)]
 pub enum Ran {
     Done(Run),
     Refused(Refusal),

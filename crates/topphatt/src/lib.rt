@@ -1,4 +1,6 @@
 // TOPP-HATT: the leaves of a given tree assigned to modes, round by round, at the least weight.
+#![tactic(auto)]
+
 ghost use Rattle.std.specs.Prelude.{◌≡◌, ◌*◌, ◌≤◌, ◌<◌, length, replicate};
 ghost use Rattle.lists.specs.Written.{written_at};
 ghost use Rattle.entities.specs.Codes.{child_code};
@@ -25,7 +27,7 @@ use tree::TreeChecked;
 mod rounds;
 
 // What an assignment says: the sum of chosen weights, or why it is refused.
-#[derive(Drop)]
+#[derive(Clone, Copy)]
 pub enum Assigned {
     Weight(u64),
     Unassigned(Refusal),

@@ -21,7 +21,7 @@ use tree::table;
 
 // What the rounds have come to, beside the pairs' modes and the rows: how many there were, how many rows there are, and the sum of
 // chosen weights.
-#[derive(Drop)]
+#[derive(Clone, Copy)]
 pub struct Progress {
     pub round: usize,
     pub count: usize,

@@ -1,4 +1,6 @@
 // The tree table: rows laid out as one, and its check, refusals 1 and 13 to 16 of document 01; and what writing a tree says.
+#![tactic(auto)]
+
 ghost use Rattle.refusal.specs.Numbers.{Tells};
 ghost use Rattle.entities.specs.Limits.{most_modes};
 ghost use Rattle.tree.specs.Check.{check_numbers, tree_checked};
@@ -11,14 +13,14 @@ mod pairs;
 pub mod table;
 
 // What the check of a tree says.
-#[derive(Drop)]
+#[derive(Clone, Copy)]
 pub enum TreeChecked {
     Accepted,
     Refused(Refusal),
 }
 
 // What writing an accepted tree as a text says: how many bytes were written, or why none.
-#[derive(Drop)]
+#[derive(Clone, Copy)]
 pub enum TreeWritten {
     Written(usize),
     Unwritten(Refusal),

@@ -1,4 +1,6 @@
 // The answers of `check` and `weigh` to the text of a tree, from bytes to bytes.
+#![tactic(auto)]
+
 ghost use Rattle.entities.specs.Limits.{most_modes};
 ghost use Rattle.text.specs.Running.{program_rooms};
 ghost use Rattle.text.specs.Output.{Prints};

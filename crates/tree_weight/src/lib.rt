@@ -1,4 +1,6 @@
 // The tree weight: over every operator of the rows and every node, 1 where the parities of its indices under X, Y, Z aren't all equal.
+#![tactic(auto)]
+
 ghost use Rattle.std.specs.Prelude.{◌≡◌, true, ◌*◌, ◌≤◌, ltb, length};
 ghost use Rattle.lists.specs.Members.{every};
 ghost use Rattle.refusal.specs.Numbers.{Tells};
@@ -17,7 +19,7 @@ pub mod climbing;
 mod operators;
 
 // What the tree weight says: the weight, or why it is refused.
-#[derive(Drop)]
+#[derive(Clone, Copy)]
 pub enum TreeWeighed {
     Weight(u64),
     Unweighed(Refusal),
