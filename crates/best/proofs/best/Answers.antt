@@ -1,0 +1,32 @@
+-- Each test in the order of the refusals.
+use mathlib.Core.Path.{◌∙◌, sym}
+use native.Mathlib.Omega.{arith}
+use Rattle.best.proofs.BestAnswers.{no_modes, many_modes, bad_terms, no_room, finds}
+use Rattle.best.proofs.best.Goals as goal
+
+pub returns-then-modes-eq0 : goal.returns-then-modes-eq0
+returns-then-modes-eq0 c = let args = c.args in no_modes 4 args.modes args.terms.now args.sequence.now c.if-modes-eq0.true
+
+pub returns-then-modes-gt4 : goal.returns-then-modes-gt4
+returns-then-modes-gt4 c = let args = c.args in many_modes 4 args.modes args.terms.now args.sequence.now c.if-modes-eq0.false c.if-modes-gt4.true
+
+pub returns-then-sequence-modes : goal.returns-then-sequence-modes
+returns-then-sequence-modes c =
+    let args = c.args in
+    no_room 4 args.modes args.terms.now args.sequence.now c.if-modes-eq0.false c.if-modes-gt4.false c.in-Good.count (cc) c.if-sequence-modes.true
+
+pub find-requires : goal.find-requires
+find-requires c =
+    let args = c.args in
+    (cc, ((omega (arith, c.if-modes-eq0.false), c.if-modes-gt4.false), c.if-sequence-modes.false))
+
+pub returns-in-Refused : goal.returns-in-Refused
+returns-in-Refused c =
+    let args = c.args in
+    bad_terms 4 args.modes args.terms.now args.sequence.now c.if-modes-eq0.false c.if-modes-gt4.false _ (sym c.check_terms.ensures.answer ∙ c.in-Refused.is)
+
+pub returns-else-sequence-modes : goal.returns-else-sequence-modes
+returns-else-sequence-modes c =
+    let args = c.args in
+    let found = c.find.ensures in
+    finds 4 args.modes args.terms.now args.sequence.now c.if-modes-eq0.false c.if-modes-gt4.false c.in-Good.count (cc) c.if-sequence-modes.false _ _ found.value found.sequence_after

@@ -1,0 +1,37 @@
+-- One sequence after the other; the first leads before any was met.
+use mathlib.Core.Path.{◌≡◌, ◌∙◌}
+use Prim.Native.Nat.{◌-◌, ◌<◌}
+use native.Mathlib.Omega.{arith}
+use lib.ListN.{length}
+use Rattle.best.specs.Sequences.{sequences}
+use Rattle.best.proofs.SequenceNumbers.{sequences_counted}
+use Rattle.best.proofs.NumbersPut.{front_again, front_same}
+use Rattle.best.proofs.search.search.Goals as goal
+
+pub sequence_count-total-requires : goal.sequence_count-total-requires
+sequence_count-total-requires c = c.requires.few.0.few
+
+pub start-lead-requires : goal.start-lead-requires
+start-lead-requires c = (c.requires.few, c.requires.rows_below)
+
+pub loop-number-init : goal.loop-number-init
+loop-number-init c = (omega arith, c.start-lead.ensures.led, front_same _ _)
+
+pub meet-lead-requires : goal.meet-lead-requires
+meet-lead-requires c =
+    let long = c.loop-number.invariant.2.long ∙ c.start-lead.ensures.front_only.long in
+    let more : c.loop-number.number < length (sequences c.args.modes) = omega (arith, c.sequence_count-total.ensures.0, sequences_counted c.args.modes) in
+    ((c.requires.few.0, omega (arith, long)), (c.requires.rows_below, (more, c.loop-number.invariant.1)))
+
+pub loop-number-preserved : goal.loop-number-preserved
+loop-number-preserved c =
+    let met = c.meet-lead.ensures in
+    (omega arith, met.led, front_again _ c.loop-number.invariant.2 met.front_only)
+
+pub returns : goal.returns
+returns c =
+    let done : c.loop-number.number ≡ length (sequences c.args.modes) = omega (arith, c.sequence_count-total.ensures.0, sequences_counted c.args.modes) in
+    record {
+      led = (rw done at c.loop-number.invariant.1);
+      front_only = front_again _ c.start-lead.ensures.front_only c.loop-number.invariant.2;
+    }

@@ -1,0 +1,66 @@
+-- The labels in front are the nodes met so far; those passed have their rows, and at the end they are all.
+use mathlib.Core.Path.{refl, sym, ◌∙◌}
+use Prim.Native.Nat.{◌≤◌, ◌<◌, ◌-◌}
+use native.Mathlib.Omega.{arith}
+use lib.ListN.{length, get_or}
+use lib.Seq.{get_or-take, length-take-le}
+use Rattle.merging.specs.code.Recorded.{recorded}
+use Rattle.merging.proofs.Recording.{length_recorded}
+use Rattle.flatpack.proofs.Walking.{walking_starts, walking_length, walking_ends, waiting, next_node, walking_on}
+use Rattle.flatpack.proofs.write_rows.Goals as goal
+use Rattle.flatpack.proofs.write_rows.Goals.{In-loop-head}
+
+-- In the loop a node waits.
+next : (c : In-loop-head)
+    → (c.loop-head.head < c.loop-head.tail)
+    × (get_or c.loop-head.labels c.loop-head.head 0 < c.args.modes)
+next c =
+    let loop = c.loop-head in
+    let args = c.args in
+    let all = length_recorded args.xs.now args.ys.now args.zs.now args.modes in
+    let room : loop.tail ≤ length loop.labels = omega arith in
+    let some = waiting _ _ _ _ _ _ loop.invariant.2 c.loop-head-test.true c.requires.modes_in_bounds.1.0 all (omega arith) in
+    let ahead : loop.head < loop.tail = omega (arith, some, length-take-le loop.tail loop.labels room) in
+    let node = next_node _ _ _ _ _ _ loop.invariant.2 c.loop-head-test.true c.requires.modes_in_bounds.1.0 all (omega arith) in
+    (ahead, rw (get_or-take loop.tail loop.labels loop.head 0 ahead) at node)
+
+pub loop-head-init : goal.loop-head-init
+loop-head-init c =
+    let args = c.args in
+    (refl, omega arith, walking_starts args.modes (recorded args.xs.now args.ys.now args.zs.now args.modes) args.rows.now (omega arith))
+
+pub children-codes-requires : goal.children-codes-requires
+children-codes-requires c =
+    ((c.requires.le_modes.1, (next (goal.at.children-codes-requires c).In-loop-head).1), (c.requires.modes_in_bounds.0, c.requires.modes_in_bounds.1.1))
+
+pub put_row-requires : goal.put_row-requires
+put_row-requires c =
+    let same = walking_length _ _ _ _ _ _ c.loop-head.invariant.2 c.requires.le_modes.2 in
+    omega (arith, c.loop-head-test.true)
+
+pub slice_bounds-queue-end : goal.slice_bounds-queue-end
+slice_bounds-queue-end c = sym c.loop-head.invariant.0
+
+pub queue-tail-requires : goal.queue-tail-requires
+queue-tail-requires c = let loop = c.loop-head in omega (arith, loop.invariant.0)
+
+pub loop-head-preserved : goal.loop-head-preserved
+loop-head-preserved c =
+    let queue = c.queue-tail in
+    let put = c.put_row in
+    let loop = c.loop-head in
+    let args = c.args in
+    let codes = c.children-codes in (
+      queue.auto.labels ∙ loop.invariant.0,
+      omega (arith, queue.ensures.1, loop.invariant.1),
+      walking_on _ _ _ _ _ _ loop.invariant.2 c.loop-head-test.true c.requires.modes_in_bounds.1.0
+          (length_recorded args.xs.now args.ys.now args.zs.now args.modes) (omega arith)
+          _ _ _ _ (get_or-take loop.tail loop.labels loop.head 0 (next (goal.at.loop-head-preserved c).In-loop-head).0) codes.ensures put.ensures queue.ensures.2,
+    )
+
+pub shape_of-rows : goal.shape_of-rows
+shape_of-rows c =
+    walking_length _ _ _ _ _ _ c.loop-head.invariant.2 c.requires.le_modes.2
+
+pub returns : goal.returns
+returns c = walking_ends _ _ _ _ _ _ c.loop-head.invariant.2 (omega arith)

@@ -1,0 +1,24 @@
+-- The work rows are those of the terms, once for the journal's run and once for the step.
+use Rattle.terms.proofs.GoodTerms.{accepted}
+use Rattle.letters_text.proofs.letters_job.Goals as goal
+
+pub own_rows-own-requires : goal.own_rows-own-requires
+own_rows-own-requires c =
+    let good = accepted c.args.modes c.args.terms.now c.args.count c.requires.le_modes.2 in
+    (good.given, good.at_most)
+
+pub own_rows-again-requires : goal.own_rows-again-requires
+own_rows-again-requires c =
+    let good = accepted c.args.modes c.args.terms.now c.args.count c.requires.le_modes.2 in
+    (good.given, good.at_most)
+
+pub letters_own-requires : goal.letters_own-requires
+letters_own-requires c =
+    let good = accepted c.args.modes c.args.terms.now c.args.count c.requires.le_modes.2 in (
+      (c.requires.le_modes.0, c.requires.le_modes.1, good.at_most),
+      ((c.args.terms.now, (c.own_rows-own.ensures.1, c.own_rows-again.ensures.1)), c.requires.out_len),
+    )
+
+pub returns : goal.returns
+returns c =
+    c.letters_own.ensures c.args.terms.now c.own_rows-own.ensures.1 c.own_rows-again.ensures.1

@@ -1,0 +1,30 @@
+-- The rows before the step are come back to, and the triple is the step's.
+use native.Mathlib.Omega.{arith}
+use Rattle.letters_text.specs.Lettering.{step_lines, letters_printed}
+use Rattle.letters_text.proofs.RowsReplayed.{terms_replayed}
+use Rattle.letters_text.proofs.put_step.Goals as goal
+
+pub merge_of-triple-requires : goal.merge_of-triple-requires
+merge_of-triple-requires c =
+    let finished = c.requires.by_index.1.1.0 in
+    (c.requires.by_index.0, (c.requires.by_index.1.0, (finished.holds, omega (arith, finished.all, finished.modes_are, c.requires.by_index.1.1.1))))
+
+pub rows_before-requires : goal.rows_before-requires
+rows_before-requires c =
+    let known = c.requires.by_index.1.1 in
+    (c.requires.by_index.0, (c.requires.by_index.1.0, (known.0, omega (arith, known.1))))
+
+pub put_letters-requires : goal.put_letters-requires
+put_letters-requires c =
+    let finished = c.requires.by_index.1.1.0 in
+    let rows = c.rows_before.ensures c.requires.by_index.0 c.requires.by_index.1.0 finished in
+    record {
+      held = (rw finished.count_is at rows.held, omega (arith, finished.holds.light, finished.count_is));
+      out_len = c.requires.out_len;
+    }
+
+pub returns : goal.returns
+unfolding letters_printed step_lines
+returns c =
+    let rows = c.rows_before.ensures job own finished in
+    rw (← c.merge_of-triple.ensures, ← terms_replayed job _ _ rows, finished.count_is) c.put_letters.ensures

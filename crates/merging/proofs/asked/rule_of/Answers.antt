@@ -1,0 +1,5 @@
+-- The run is of the job's rule.
+use Rattle.merging.proofs.asked.rule_of.Goals as goal
+
+pub returns : goal.returns
+returns c = holds.rule_is

@@ -1,0 +1,8 @@
+-- The table of open entities says what the history says.
+use Rattle.merging.specs.code.State.{history_of}
+use Rattle.merging.proofs.asked.three_open.Goals as goal
+
+pub returns : goal.returns
+returns c =
+    let run = c.args.t1 in
+    c.three_open.ensures.by_index job.modes (history_of run) holds.tied.within holds.tied.opens_are

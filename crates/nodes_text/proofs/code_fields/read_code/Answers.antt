@@ -1,0 +1,34 @@
+-- `-` is the absent child's code, and of any other field the number decides.
+use mathlib.Core.Path.{◌≡◌, sym, ◌∙◌}
+use mathlib.Core.Bool.{false}
+use lib.ListN.{drop}
+use Rattle.lists.specs.Members.{alike}
+use Rattle.fields.specs.Texts.{spelt}
+use Rattle.fields.specs.code.Reading.{first_field}
+use Rattle.nodes_text.proofs.CodeFields.{code_dash, code_broken, code_absent, code_number}
+use Rattle.nodes_text.proofs.code_fields.read_code.Goals as goal
+use Rattle.nodes_text.proofs.code_fields.read_code.Goals.{Else-is_dash}
+
+-- Where the field is no `-`.
+other : (c : Else-is_dash) → alike (first_field (drop c.args.at c.args.text.now)) (spelt "-") ≡ false
+other c = sym c.is_dash.ensures ∙ c.if-is_dash.false
+
+pub returns-then-is_dash : goal.returns-then-is_dash
+returns-then-is_dash c =
+    let args = c.args in
+    sym (code_dash args.text.now args.at (sym c.is_dash.ensures ∙ c.if-is_dash.true))
+
+pub returns-in_default : goal.returns-in_default
+returns-in_default c =
+    let args = c.args in
+    sym (code_broken args.text.now args.at (other (goal.at.returns-in_default c).Else-is_dash) (sym c.read_number.ensures ∙ c.in_default.is))
+
+pub returns-then-number : goal.returns-then-number
+returns-then-number c =
+    let args = c.args in
+    sym (code_absent args.text.now args.at (other (goal.at.returns-then-number c).Else-is_dash) _ _ (sym c.read_number.ensures ∙ c.in-Number.is) c.if-number.true)
+
+pub returns : goal.returns
+returns c =
+    let args = c.args in
+    sym (code_number args.text.now args.at (other (goal.at.returns c).Else-is_dash) _ _ (sym c.read_number.ensures ∙ c.in-Number.is) c.if-number.false)

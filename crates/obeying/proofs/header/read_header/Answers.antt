@@ -1,0 +1,28 @@
+-- Read by the one word, and where that says no header by the other.
+use mathlib.Core.Path.{refl, sym, ◌∙◌}
+use Rattle.terms.specs.declared.rules.Rule.TheVariants.{Published}
+use Rattle.obeying.specs.LineForms.{rule_word, header_of}
+use Rattle.obeying.specs.code.Openings.{header_opening}
+use Rattle.obeying.proofs.LineSaid.{header_first, header_next}
+use Rattle.obeying.proofs.header.read_header.Goals as goal
+
+pub read_by-requires : goal.read_by-requires
+unfolding header_opening rule_word
+read_by-requires c = refl
+
+pub read_by-requires-in-Broken : goal.read_by-requires-in-Broken
+unfolding header_opening rule_word
+read_by-requires-in-Broken c = refl
+
+pub returns-in-Is : goal.returns-in-Is
+unfolding header_of
+returns-in-Is c =
+    sym (header_first Published c.args.line.now _ _ _ _
+    (sym c.read_by.ensures ∙ c.in-Is.is))
+
+pub returns-in-Broken : goal.returns-in-Broken
+unfolding header_of
+returns-in-Broken c =
+    let line = c.args.line.now in
+    c.read_by-in-Broken.ensures
+    ∙ sym (header_next Published line _ (sym c.read_by.ensures ∙ c.in-Broken.is))

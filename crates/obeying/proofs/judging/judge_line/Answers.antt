@@ -1,0 +1,42 @@
+-- What a line says is what its merge is judged, where there is a step left and the form is kept.
+use mathlib.Core.Path.{◌≡◌, ◌∙◌, sym}
+use Prim.Native.Nat.{◌<◌, ◌≤◌}
+use native.Mathlib.Omega.{arith}
+use lib.ListN.{length}
+use Rattle.terms.specs.Job.{Job}
+use Rattle.merging.specs.code.State.{history_of}
+use Rattle.obeying.proofs.LineJudged.{after_last, line_broken, line_says}
+use Rattle.obeying.proofs.judging.judge_line.Goals as goal
+use Rattle.obeying.proofs.judging.judge_line.Goals.{Else-modes-merges}
+
+-- A step is left.
+one_left : (c : Else-modes-merges) (job : Job) → job.modes ≡ c.args.modes
+    → length (history_of c.args.run) < job.modes
+one_left c job same = omega (arith, same, c.if-modes-merges.false, c.merges.ensures)
+
+pub returns-then-modes-merges : goal.returns-then-modes-merges
+returns-then-modes-merges c =
+    let args = c.args in
+    let none_left : job.modes ≤ length (history_of args.run) = omega (arith, c.if-modes-merges.true, c.merges.ensures) in
+    rw c.line_after-line.ensures (after_last args.by_hand job (history_of args.run) args.bytes.now none_left)
+
+pub judge_merge-requires : goal.judge_merge-requires
+judge_merge-requires c =
+    record {
+      holds = c.requires;
+      line_value = c.line_after-line.ensures;
+    }
+
+pub returns-in-Is : goal.returns-in-Is
+returns-in-Is c =
+    let args = c.args in
+    c.judge_merge.ensures job holds
+    ∙ line_says args.by_hand job (history_of args.run) args.bytes.now (one_left (goal.at.returns-in-Is c).Else-modes-merges job same) _
+    (sym (c.read_said.ensures job holds) ∙ c.in-Is.is)
+
+pub returns-in-Broken : goal.returns-in-Broken
+returns-in-Broken c =
+    let args = c.args in
+    rw c.line_after-line.ensures
+    (line_broken args.by_hand job (history_of args.run) args.bytes.now (one_left (goal.at.returns-in-Broken c).Else-modes-merges job same)
+    (sym (c.read_said.ensures job holds) ∙ c.in-Broken.is))

@@ -1,0 +1,10 @@
+-- Each turn looks at one byte more.
+use Prim.Native.Nat.{◌-◌}
+use lib.ListN.{length}
+use Rattle.recorded.proofs.fronts.bytes_untouched.Given as goal
+
+abbrev pub invariant-loop-at : goal.invariant-loop-at
+invariant-loop-at l = Unit {0}
+
+abbrev pub decreases-loop-at : goal.decreases-loop-at
+decreases-loop-at l = length l.bytes - l.at

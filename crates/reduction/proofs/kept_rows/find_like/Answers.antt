@@ -1,0 +1,70 @@
+-- The number leads down the chain of the term's mark: the row that is like the term ends the search, any other is passed.
+use mathlib.Core.Path.{◌≡◌, ◌∙◌, sym}
+use mathlib.Core.List.{[]}
+use Prim.Native.Nat.{◌-◌, ◌<◌}
+use native.Mathlib.Omega.{arith}
+use lib.ListN.{get_or}
+use Rattle.lists.specs.Members.{alike}
+use Rattle.terms.specs.Rows.{terms_of}
+use Rattle.terms.proofs.RowSteps.{length_terms}
+use Rattle.reduction.proofs.ChainedRows.{terms_at, seeking_starts, seeking_on, seeking_found, seeking_ends, place_inside, chain_falls}
+use Rattle.reduction.proofs.kept_rows.find_like.Goals as goal
+use Rattle.reduction.proofs.kept_rows.find_like.Goals.{After-same, In-loop-at}
+
+-- The number leads to one of the rows.
+row-there : (c : In-loop-at)
+    → (c.loop-at.at - 1 < c.args.count) × (c.loop-at.at - 1 < 2048)
+row-there c =
+    let chained = c.requires.chained.0 in
+    let inside = place_inside _ _ _ _ chained _ c.requires.chained.1 _ c.loop-at.invariant c.loop-at-test.true in
+    (rw (length_terms 9 c.args.count c.args.rows.now) at inside, omega (arith, inside, chained.fits))
+
+-- The comparison is with that row's term.
+compared : (c : After-same)
+    → (let args = c.args in
+    c.same.result ≡ alike args.term.now (get_or (terms_of 9 args.count args.rows.now) (c.loop-at.at - 1) []))
+compared c =
+    let args = c.args in
+    rw (terms_at 9 args.count (c.loop-at.at - 1) args.rows.now (row-there c.before.before).0, ← c.term_at.ensures) c.same.ensures
+
+pub bounds-chains-mark : goal.bounds-chains-mark
+bounds-chains-mark c =
+    rw c.requires.chained.0.room (omega (arith, c.mark_of-mark.ensures.1))
+
+pub loop-at-init : goal.loop-at-init
+loop-at-init c =
+    rw (c.wide-at.ensures.0, c.mark_of-mark.ensures.0) (seeking_starts _ _ _ _ c.requires.chained.0 _ c.requires.chained.1 (omega arith))
+
+pub term_at-requires : goal.term_at-requires
+term_at-requires c =
+    let held = c.requires.held in
+    let inside = (row-there (goal.at.term_at-requires c).In-loop-at).0 in
+    (omega (arith, held.room), omega (arith, held.within (c.loop-at.at - 1) inside))
+
+pub returns-then-same : goal.returns-then-same
+returns-then-same c =
+    seeking_found _ _ _ _ c.requires.chained.0 _ c.requires.chained.1 _ c.loop-at.invariant c.loop-at-test.true
+    (sym (compared (goal.at.returns-then-same c).After-same) ∙ c.if-same.true)
+
+pub overflow_add-place : goal.overflow_add-place
+overflow_add-place c = omega (arith, (row-there (goal.at.overflow_add-place c).In-loop-at).1)
+
+pub bounds-chains-place : goal.bounds-chains-place
+bounds-chains-place c =
+    rw c.requires.chained.0.room (omega (arith, (row-there (goal.at.bounds-chains-place c).In-loop-at).1))
+
+pub loop-at-smaller : goal.loop-at-smaller
+loop-at-smaller c =
+    rw c.wide-at-in-loop-at.ensures.0
+    (chain_falls _ _ _ _ c.requires.chained.0 _ c.requires.chained.1 _ c.loop-at.invariant c.loop-at-test.true)
+
+pub loop-at-preserved : goal.loop-at-preserved
+loop-at-preserved c =
+    rw c.wide-at-in-loop-at.ensures.0
+    (seeking_on _ _ _ _ c.requires.chained.0 _ c.requires.chained.1 _ c.loop-at.invariant c.loop-at-test.true
+    (sym (compared (goal.at.loop-at-preserved c).After-same) ∙ c.if-same.false))
+
+pub returns : goal.returns
+returns c =
+    sym (length_terms 9 c.args.count c.args.rows.now)
+    ∙ seeking_ends _ _ _ _ c.requires.chained.0 _ c.requires.chained.1 _ c.loop-at.invariant (omega arith)

@@ -1,0 +1,65 @@
+-- A row that is dropped or merged is zeros, and on no chain; one that stays is left as it is and put on its mark's chain.
+use mathlib.Core.Path.{◌∙◌, sym}
+use Prim.Native.Nat.{◌*◌, ◌≤◌}
+use native.Mathlib.Omega.{arith}
+use lib.ListN.{take, drop}
+use Rattle.terms.specs.Rows.{term, terms_of}
+use Rattle.reduction.specs.code.Marks.{first_like}
+use Rattle.reduction.proofs.RowReduced.{room_here, cleared_terms, none_like, row_drops, row_stays, row_merges, merged_terms}
+use Rattle.reduction.proofs.ChainedRows.{row_chained, row_gone}
+use Rattle.reduction.proofs.settle_row.Goals as goal
+
+pub drops_at-requires : goal.drops_at-requires
+drops_at-requires c = c.requires.worked.held
+
+pub clear_row-requires : goal.clear_row-requires
+clear_row-requires c =
+    room_here c.args.place c.args.rows.now c.requires.worked.held
+
+pub returns-then-drops_at : goal.returns-then-drops_at
+returns-then-drops_at c =
+    let place = c.args.place in
+    let rows = c.args.rows.now in
+    let held = c.requires.worked.held in
+    rw (c.wide.ensures.0, c.clear_row.ensures.value, c.clear_row.ensures.rows_after) (
+      row_drops place rows held c.args.rule c.args.parent (sym c.drops_at.ensures ∙ c.if-drops_at.true),
+      row_gone 16384 2048 9 place rows c.args.chains.now c.requires.chained.0 c.requires.chained.1.1 _ (cleared_terms place rows held),
+    )
+
+pub first_like-first-requires : goal.first_like-first-requires
+first_like-first-requires c =
+    (c.requires.worked.held, (c.requires.chained.0, c.requires.chained.1.0))
+
+pub returns-then-first-place : goal.returns-then-first-place
+returns-then-first-place c =
+    let place = c.args.place in
+    let rows = c.args.rows.now in
+    let held = c.requires.worked.held in
+    let some = c.requires.chained.1.0 in
+    let before = c.if-first-place.true in
+    let is_first = c.first_like-first.ensures in
+    rw c.merge_row.ensures (
+      row_merges place rows held _ before some is_first c.args.rule c.args.parent
+          (sym c.drops_at.ensures ∙ c.if-drops_at.false),
+      row_gone 16384 2048 9 place rows c.args.chains.now c.requires.chained.0 c.requires.chained.1.1 _
+          (merged_terms place rows held _ before some is_first),
+    )
+
+pub term_at-requires : goal.term_at-requires
+term_at-requires c =
+    (omega (arith, c.requires.worked.held.room), omega (arith, c.requires.worked.held.within c.args.place (omega arith)))
+
+pub returns : goal.returns
+returns c =
+    let place = c.args.place in
+    let rows = c.args.rows.now in
+    let held = c.requires.worked.held in
+    let none : place ≤ first_like (term (take 9 (drop (9 * place) rows))) (terms_of 9 place rows) =
+    omega (arith, c.first_like-first.ensures, c.if-first-place.false) in
+    record {
+      row_settled = row_stays place rows held c.args.rule c.args.parent
+          (sym c.drops_at.ensures ∙ c.if-drops_at.false) none;
+      chained_2 = rw (c.set_mark.ensures, c.term_at.ensures)
+          (row_chained 16384 2048 9 place rows c.args.chains.now c.requires.chained.0 c.requires.chained.1.1 (omega arith) c.requires.chained.1.0
+          (none_like place rows held none));
+    }

@@ -1,0 +1,53 @@
+-- A mode beyond the table is passed over; where neither leaf stands before, the weight goes from z's parity to 1; else as turn_pair has it.
+use mathlib.Core.Path.{◌≡◌, ap}
+use Prim.Native.Nat.{ℕ, ◌+◌, ◌-◌, ◌*◌, ◌/◌, ◌%◌, ◌≤◌}
+use native.Mathlib.Omega.{arith}
+use lib.ListN.{take}
+use Rattle.lists.specs.Counting.{occurrences}
+use Rattle.tallying.specs.code.Pairs.{beside}
+use Rattle.tallying.proofs.PairsTurned.{Partners, pair_beyond, pair_idle, pair_here, goes_up}
+use Rattle.tallying.proofs.pairs.turn_next.Goals as goal
+use Rattle.tallying.proofs.pairs.turn_next.Goals.{Else-mode-bound, Start}
+
+-- Where those before are all below both leaves.
+module _ (d : Else-mode-bound) where
+  abbrev start : Start
+  start = d
+
+  abbrev number : ℕ
+  number = d.wide-mode.result
+
+  abbrev other : ℕ
+  other = 2 * (number / 2) + (1 - number % 2)
+
+  partners : Partners number other
+  partners = (λ e. omega arith, λ e. omega arith)
+
+  none : (n : ℕ) → 2 * (number / 2) ≤ n → occurrences n (take start.args.at start.args.term.now) % 2 ≡ 0
+  none n h = ap (λ o. o % 2) (start.pre.0.1 n (omega arith))
+
+  up : start.args.odd ≡ 0 → (beside start.args.odd (number / 2) (take start.args.at start.args.term.now) ≡ 0)
+      × (beside start.args.odd (number / 2) (take (start.args.at + 1) start.args.term.now) ≡ 1)
+  up e =
+      goes_up start.args.odd start.args.term.now start.args.at start.pre.0.0 number other d.wide-mode.ensures.0 partners start.pre.0.2
+      (omega (arith, none other (omega arith))) (omega (arith, none number (omega arith)))
+
+pub returns-then-table-mode : goal.returns-then-table-mode
+returns-then-table-mode c =
+    pair_beyond c.args.odd c.args.term.now c.args.at c.requires.at_in_bounds.0 c.args.table.now (omega (arith, c.wide-mode.ensures.0))
+
+pub overflow_add-table : goal.overflow_add-table
+overflow_add-table c =
+    omega (arith, up c c.if-odd-eq0.true, (start (goal.at.overflow_add-table c).Start).requires.1 (number c / 2) (omega arith))
+
+pub returns-then-odd-eq0 : goal.returns-then-odd-eq0
+returns-then-odd-eq0 c =
+    let args = (start (goal.at.returns-then-odd-eq0 c).Start).args in
+    pair_here args.odd args.term.now args.at (start (goal.at.returns-then-odd-eq0 c).Start).requires.0.0 args.table.now (number c) (other c) c.wide-mode.ensures.0 (partners c) _ (omega arith)
+    (omega (arith, up c c.if-odd-eq0.true))
+
+pub returns-else-odd-eq0 : goal.returns-else-odd-eq0
+returns-else-odd-eq0 c =
+    let args = (start (goal.at.returns-else-odd-eq0 c).Start).args in
+    pair_idle args.odd args.term.now args.at (start (goal.at.returns-else-odd-eq0 c).Start).requires.0.0 args.table.now (number c) (other c) c.wide-mode.ensures.0 (partners c)
+    (omega (arith, none c (other c) (omega arith), (start (goal.at.returns-else-odd-eq0 c).Start).requires.0.2))

@@ -1,0 +1,87 @@
+-- A mode beyond the table is passed over; a number whose partner's parity is not z's leaves the weight at 1; any other turns it.
+use mathlib.Core.Path.{◌≡◌, refl, ap}
+use mathlib.Core.List.{List}
+use Prim.Native.Nat.{ℕ, ◌+◌, ◌%◌, ◌/◌, ◌<◌}
+use native.Mathlib.Nat.{sub-zero}
+use native.Mathlib.Omega.{arith}
+use lib.ListN.{length, get_or, take, set}
+use Rattle.lists.specs.Counting.{occurrences}
+use Rattle.tallying.specs.code.Pairs.{beside, PairTurned}
+use Rattle.tallying.proofs.PairsTurned.{Partners, pair_beyond, pair_idle, pair_here, goes_up, goes_down}
+use Rattle.tallying.proofs.pairs.turn_pair.Goals as goal
+use Rattle.tallying.proofs.pairs.turn_pair.Goals.{After-odd_in-2, Start}
+
+-- Behind both parities, where the partner's is z's: what the mode's leaves weigh before and after, and the table with its entry changed so.
+module _ (d : After-odd_in-2) where
+  abbrev start : Start
+  start = d
+
+  abbrev number : ℕ
+  number = d.wide-mode.result
+
+  abbrev passed : List ℕ
+  passed = take start.args.at start.args.term.now
+
+  abbrev before : ℕ
+  before = beside start.args.odd (number / 2) passed
+
+  abbrev after : ℕ
+  after = beside start.args.odd (number / 2) (take (start.args.at + 1) start.args.term.now)
+
+  partners : Partners number d.partner.result
+  partners =
+      let is = d.wide-mode.ensures.0 in
+      let told = d.partner.ensures in
+      (λ e. omega (arith, told.0 (omega arith)), λ e. omega (arith, told.1 (omega arith)))
+
+  agree : occurrences d.partner.result passed % 2 ≡ start.args.odd
+  agree = let counted = rw sub-zero at d.odd_in.ensures.0 in omega arith
+
+  own_is : d.odd_in-2.result ≡ occurrences number passed % 2
+  own_is =
+      let counted = rw sub-zero at d.odd_in-2.ensures.0 in
+      omega (arith, ap (λ n. occurrences n passed) d.wide-mode.ensures.0)
+
+  up : d.odd_in-2.result ≡ start.args.odd → (before ≡ 0) × (after ≡ 1)
+  up e =
+      goes_up start.args.odd start.args.term.now start.args.at start.pre.0.0 number _ d.wide-mode.ensures.0 partners start.pre.0.1 agree
+      (omega (arith, own_is))
+
+  down : (d.odd_in-2.result ≡ start.args.odd → ⊥) → (before ≡ 1) × (after ≡ 0)
+  down apart =
+      goes_down start.args.odd start.args.term.now start.args.at start.pre.0.0 number _ d.wide-mode.ensures.0 partners start.pre.0.1 agree
+      (omega (arith, own_is, start.pre.0.1))
+
+  put : (value : ℕ) → number / 2 < length start.args.table.now → value + before ≡ get_or start.args.table.now (number / 2) 0 + after
+      → PairTurned start.args.odd start.args.term.now start.args.at start.args.table.now (set start.args.table.now (number / 2) value)
+  put = pair_here start.args.odd start.args.term.now start.args.at start.pre.0.0 start.args.table.now number _ d.wide-mode.ensures.0 partners
+
+pub returns-then-table-mode : goal.returns-then-table-mode
+returns-then-table-mode c =
+    pair_beyond c.args.odd c.args.term.now c.args.at c.requires.at_in_bounds.0 c.args.table.now (omega (arith, c.wide-mode.ensures.0))
+
+pub returns-then-odd_in-odd : goal.returns-then-odd_in-odd
+returns-then-odd_in-odd c =
+    pair_idle c.args.odd c.args.term.now c.args.at c.requires.at_in_bounds.0 c.args.table.now (get_or c.args.term.now c.args.at 0) c.partner.result refl c.partner.ensures
+    (let counted = rw sub-zero at c.odd_in.ensures.0 in omega arith)
+
+pub overflow_add-table : goal.overflow_add-table
+overflow_add-table c =
+    let told = up c c.if-odd_in-odd-2.true in
+    omega (arith, (start (goal.at.overflow_add-table c).Start).requires.1 (number c / 2) (omega arith))
+
+pub returns-then-odd_in-odd-2 : goal.returns-then-odd_in-odd-2
+returns-then-odd_in-odd-2 c =
+    let told = up c c.if-odd_in-odd-2.true in
+    put c _ (omega arith) (omega arith)
+
+pub overflow_sub-table : goal.overflow_sub-table
+overflow_sub-table c =
+    let told = down c c.if-odd_in-odd-2.false in
+    omega (arith, (start (goal.at.overflow_sub-table c).Start).requires.1 (number c / 2) (omega arith))
+
+pub returns : goal.returns
+returns c =
+    let told = down c c.if-odd_in-odd-2.false in
+    let entry = (start (goal.at.returns c).Start).requires.1 (number c / 2) (omega arith) in
+    put c _ (omega arith) (omega arith)

@@ -1,0 +1,38 @@
+-- The answer is a refusal, or a run whose rows and new lines stand in front: either way it is what the definitions come to.
+use mathlib.Core.Path.{◌≡◌}
+use mathlib.Core.List.{List}
+use Prim.Native.Nat.{ℕ}
+use lib.ListN.{length}
+use Rattle.terms.specs.Rules.{rule_number}
+use Rattle.journal.specs.Promises.{lent, rooms_of}
+use Rattle.text.specs.Running.{program_rooms, ran_by}
+use Rattle.text.proofs.RunEnds.{drops_left, refused_runs, done_runs}
+use Rattle.text.proofs.running.run_terms.Goals as goal
+
+-- The lent parts are as long as the program's.
+same_rooms : (work rows journal drops : List ℕ) → length work ≡ 18432 → length rows ≡ 1024 → length journal ≡ 5392 → length drops ≡ 256
+    → rooms_of 256 (lent work rows journal drops) ≡ program_rooms.run
+same_rooms work rows journal drops w r j d = rw (w, r, j, d)
+
+pub returns-in-Refused : goal.returns-in-Refused
+unfolding ran_by
+returns-in-Refused c =
+    let args = c.args in
+    let rooms = same_rooms args.work.now args.rows.now args.journal.now args.drops.now c.requires.0 c.requires.1 c.requires.2 c.requires.3 in
+    let told = rw c.number.ensures at c.resume.ensures in
+    let refusal = c.refusal-1.given in (
+      refused_runs args.modes (rule_number args.rule) args.numbers.now args.read.now _ _ _ rooms told refusal.0.0 refusal.1,
+      drops_left args.modes (rule_number args.rule) args.numbers.now args.read.now _ _ _ rooms told,
+    )
+
+pub returns-in-Done : goal.returns-in-Done
+unfolding ran_by
+returns-in-Done c =
+    let args = c.args in
+    let rooms = same_rooms args.work.now args.rows.now args.journal.now args.drops.now c.requires.0 c.requires.1 c.requires.2 c.requires.3 in
+    let told = rw c.number.ensures at c.resume.ensures in
+    let found = c.found-1.given in (
+      done_runs args.modes (rule_number args.rule) args.numbers.now args.read.now _ _ _ rooms told found.0.0
+          c.resume.auto.journal found.1,
+      drops_left args.modes (rule_number args.rule) args.numbers.now args.read.now _ _ _ rooms told,
+    )

@@ -1,0 +1,5 @@
+-- The code of the slot.
+use Rattle.topphatt.proofs.answer_code.Goals as goal
+
+pub returns : goal.returns
+returns c = rw (← c.wide.ensures.0, ← c.slot_of-slot.ensures.0) c.code.ensures

@@ -1,0 +1,52 @@
+-- A leaf that isn't fixed stands within the table of pairs.
+use mathlib.Core.Path.{◌≡◌, ◌∙◌, sym}
+use native.Mathlib.Omega.{arith}
+use lib.ListN.{length-set}
+use Rattle.slots.specs.Slots.{pair_of, slot, unfixed}
+use Rattle.slots.proofs.SlotCases.{Without, edge_without}
+use Rattle.slots.proofs.SlotNumbers.{edge_number_unfixed}
+use Rattle.topphatt.proofs.FixedSteps.{fixed_not, fixed_set}
+use Rattle.topphatt.proofs.rounds.fix.Goals as goal
+use Rattle.topphatt.proofs.rounds.fix.Goals.{After-unfixed, Else-not-unfixed}
+
+-- What the test says of the slot.
+tested : (c : After-unfixed)
+    → let args = c.args in
+    c.unfixed.result ≡ unfixed (slot args.modes args.tree.now args.assigned.now args.node args.edge)
+unfolding slot
+tested c =
+    let args = c.args in
+    c.unfixed.ensures
+    ∙ edge_number_unfixed args.modes args.tree.now args.assigned.now args.node args.edge _
+    (rw (← c.child-code.ensures) c.slot_of.ensures.0)
+
+-- A leaf that isn't fixed.
+unfixed-leaf : (c : Else-not-unfixed)
+    → let args = c.args in
+    Without args.modes args.assigned.now c.child-code.result
+unfixed-leaf c =
+    let args = c.args in
+    rw c.child-code.ensures
+    (edge_without args.modes args.tree.now args.assigned.now args.node args.edge (sym (tested c.before) ∙ c.if-not-unfixed.false))
+
+pub returns-then-not-unfixed : goal.returns-then-not-unfixed
+returns-then-not-unfixed c =
+    let args = c.args in (
+      c.requires.1,
+      sym (fixed_not args.modes args.tree.now args.node args.edge args.number args.assigned.now (sym (tested (goal.at.returns-then-not-unfixed c).After-unfixed) ∙ c.if-not-unfixed.true)),
+    )
+
+pub overflow_sub-pair : goal.overflow_sub-pair
+overflow_sub-pair c = let leaf = unfixed-leaf (goal.at.overflow_sub-pair c).Else-not-unfixed in omega arith
+
+pub bounds-assigned-pair : goal.bounds-assigned-pair
+bounds-assigned-pair c = let leaf = unfixed-leaf (goal.at.bounds-assigned-pair c).Else-not-unfixed in omega arith
+
+pub returns : goal.returns
+unfolding pair_of
+returns c =
+    let args = c.args in (
+      simp length-set c.requires.1,
+      rw c.child-code.ensures
+          (sym (fixed_set args.modes args.tree.now args.node args.edge args.number args.assigned.now (sym (tested (goal.at.returns c).After-unfixed) ∙ c.if-not-unfixed.false))),
+    )
