@@ -33,7 +33,7 @@ pub returns-then-not-goes_on : goal.returns-then-not-goes_on
 returns-then-not-goes_on c =
     let args = c.args in
     let byte = get_or args.text.now c.loop-end.end 0 in
-    let digit = digit_within byte c.if-byte-lt48.false (omega arith) in
+    let digit = digit_within byte (omega arith) (omega arith) in
     sym
     (c.loop-end.invariant.1.1.1
     ∙ read_stops (c.loop-end.end - args.at) c.loop-end.value args.text.now c.loop-end.end (omega arith) digit
@@ -46,7 +46,7 @@ returns-in_default c =
     sym
     (c.loop-end.invariant.1.1.1
     ∙ read_other (c.loop-end.end - args.at) c.loop-end.value args.text.now c.loop-end.end (omega arith)
-    c.in-9.rest.0.1 (digit_below byte c.if-byte-lt48.true))
+    (λ e. omega arith) (digit_below byte (omega arith)))
 
 pub returns-in_default-2 : goal.returns-in_default-2
 returns-in_default-2 c =
@@ -55,13 +55,13 @@ returns-in_default-2 c =
     sym
     (c.loop-end.invariant.1.1.1
     ∙ read_other (c.loop-end.end - args.at) c.loop-end.value args.text.now c.loop-end.end (omega arith)
-    c.in-9.rest.0.1 (digit_above byte (omega arith)))
+    (λ e. omega arith) (digit_above byte (omega arith)))
 
 pub loop-end-preserved : goal.loop-end-preserved
 loop-end-preserved c =
     let args = c.args in
     let byte = get_or args.text.now c.loop-end.end 0 in
-    let digit = digit_within byte c.if-byte-lt48.false (omega arith) in
+    let digit = digit_within byte (omega arith) (omega arith) in
     let on = sym c.goes_on.ensures ∙ c.if-not-goes_on.false in
     let room = goes_room (c.loop-end.end - args.at) c.loop-end.value on in
     let e : c.loop-end.end + 1 - args.at ≡ suc (c.loop-end.end - args.at) = omega arith in (

@@ -13,4 +13,5 @@ loop-done-preserved c =
 
 pub returns : goal.returns
 returns c =
-    bytes_end c.args.at c.args.bytes.now c.args.out.now c.requires _ _ c.loop-done.invariant (omega arith)
+    let end = bytes_end c.args.at c.args.bytes.now c.args.out.now c.requires _ _ c.loop-done.invariant (omega arith) in
+    record { value = end.0; out_after = end.1 }

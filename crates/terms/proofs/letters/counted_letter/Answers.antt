@@ -43,5 +43,4 @@ returns-in-6 c =
 pub returns-in_default : goal.returns-in_default
 returns-in_default c =
     let args = c.args in
-    let not-these = c.in-4.rest in
-    sym (none_alike args.xs args.ys args.zs (omega (arith, not-these)) (omega (arith, not-these)))
+    sym (none_alike args.xs args.ys args.zs (omega arith) (omega arith))
