@@ -1,6 +1,5 @@
 -- In the rows passed and in those ahead a number is odd in as many rows as in all.
 use mathlib.Core.Path.{ap, refl}
-use Prim.Native.Nat.{◌-◌}
 use native.Mathlib.Omega.{arith}
 use lib.ListN.{length}
 use Rattle.terms.proofs.RowSteps.{terms_start}
@@ -22,7 +21,7 @@ term_at-requires c =
     (omega arith, c.requires.held.within c.loop-place.place (omega arith))
 
 pub raise-requires : goal.raise-requires
-raise-requires c =
+raise-requires c n h =
     omega (arith, c.loop-place.invariant.2 n (omega arith))
 
 pub loop-place-preserved : goal.loop-place-preserved
@@ -36,5 +35,5 @@ loop-place-preserved c =
     )
 
 pub returns : goal.returns
-returns c =
+returns c n h =
     omega (arith, c.loop-place.invariant.3 n (omega arith), odds_end n c.args.count c.loop-place.place c.args.rows.now (omega arith))

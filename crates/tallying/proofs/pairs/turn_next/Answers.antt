@@ -7,13 +7,10 @@ use Rattle.lists.specs.Counting.{occurrences}
 use Rattle.tallying.specs.code.Pairs.{beside}
 use Rattle.tallying.proofs.PairsTurned.{Partners, pair_beyond, pair_idle, pair_here, goes_up}
 use Rattle.tallying.proofs.pairs.turn_next.Goals as goal
-use Rattle.tallying.proofs.pairs.turn_next.Goals.{Else-mode-bound, Start}
+use Rattle.tallying.proofs.pairs.turn_next.Goals.{Else-mode-bound}
 
 -- Where those before are all below both leaves.
 module _ (d : Else-mode-bound) where
-  abbrev start : Start
-  start = d
-
   abbrev number : ℕ
   number = d.wide-mode.result
 
@@ -23,13 +20,13 @@ module _ (d : Else-mode-bound) where
   partners : Partners number other
   partners = (λ e. omega arith, λ e. omega arith)
 
-  none : (n : ℕ) → 2 * (number / 2) ≤ n → occurrences n (take start.args.at start.args.term.now) % 2 ≡ 0
-  none n h = ap (λ o. o % 2) (start.pre.0.1 n (omega arith))
+  none : (n : ℕ) → 2 * (number / 2) ≤ n → occurrences n (take d.args.at d.args.term.now) % 2 ≡ 0
+  none n h = ap (λ o. o % 2) (d.requires.at_in_bounds.1 n (omega arith))
 
-  up : start.args.odd ≡ 0 → (beside start.args.odd (number / 2) (take start.args.at start.args.term.now) ≡ 0)
-      × (beside start.args.odd (number / 2) (take (start.args.at + 1) start.args.term.now) ≡ 1)
+  up : d.args.odd ≡ 0 → (beside d.args.odd (number / 2) (take d.args.at d.args.term.now) ≡ 0)
+      × (beside d.args.odd (number / 2) (take (d.args.at + 1) d.args.term.now) ≡ 1)
   up e =
-      goes_up start.args.odd start.args.term.now start.args.at start.pre.0.0 number other d.wide-mode.ensures.0 partners start.pre.0.2
+      goes_up d.args.odd d.args.term.now d.args.at d.requires.at_in_bounds.0 number other d.wide-mode.ensures.0 partners d.requires.at_in_bounds.2
       (omega (arith, none other (omega arith))) (omega (arith, none number (omega arith)))
 
 pub returns-then-table-mode : goal.returns-then-table-mode
@@ -38,16 +35,19 @@ returns-then-table-mode c =
 
 pub overflow_add-table : goal.overflow_add-table
 overflow_add-table c =
-    omega (arith, up c c.if-odd-eq0.true, (start (goal.at.overflow_add-table c).Start).requires.1 (number c / 2) (omega arith))
+    let d = (goal.at.overflow_add-table c).Else-mode-bound in
+    omega (arith, up d c.if-odd-eq0.true, c.requires.by_index (number d / 2) (omega arith))
 
 pub returns-then-odd-eq0 : goal.returns-then-odd-eq0
 returns-then-odd-eq0 c =
-    let args = (start (goal.at.returns-then-odd-eq0 c).Start).args in
-    pair_here args.odd args.term.now args.at (start (goal.at.returns-then-odd-eq0 c).Start).requires.0.0 args.table.now (number c) (other c) c.wide-mode.ensures.0 (partners c) _ (omega arith)
-    (omega (arith, up c c.if-odd-eq0.true))
+    let d = (goal.at.returns-then-odd-eq0 c).Else-mode-bound in
+    let args = c.args in
+    pair_here args.odd args.term.now args.at c.requires.at_in_bounds.0 args.table.now (number d) (other d) c.wide-mode.ensures.0 (partners d) _ (omega arith)
+    (omega (arith, up d c.if-odd-eq0.true))
 
 pub returns-else-odd-eq0 : goal.returns-else-odd-eq0
 returns-else-odd-eq0 c =
-    let args = (start (goal.at.returns-else-odd-eq0 c).Start).args in
-    pair_idle args.odd args.term.now args.at (start (goal.at.returns-else-odd-eq0 c).Start).requires.0.0 args.table.now (number c) (other c) c.wide-mode.ensures.0 (partners c)
-    (omega (arith, none c (other c) (omega arith), (start (goal.at.returns-else-odd-eq0 c).Start).requires.0.2))
+    let d = (goal.at.returns-else-odd-eq0 c).Else-mode-bound in
+    let args = c.args in
+    pair_idle args.odd args.term.now args.at c.requires.at_in_bounds.0 args.table.now (number d) (other d) c.wide-mode.ensures.0 (partners d)
+    (omega (arith, none d (other d) (omega arith), c.requires.at_in_bounds.2))

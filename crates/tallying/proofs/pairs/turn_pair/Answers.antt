@@ -9,24 +9,21 @@ use Rattle.lists.specs.Counting.{occurrences}
 use Rattle.tallying.specs.code.Pairs.{beside, PairTurned}
 use Rattle.tallying.proofs.PairsTurned.{Partners, pair_beyond, pair_idle, pair_here, goes_up, goes_down}
 use Rattle.tallying.proofs.pairs.turn_pair.Goals as goal
-use Rattle.tallying.proofs.pairs.turn_pair.Goals.{After-odd_in-2, Start}
+use Rattle.tallying.proofs.pairs.turn_pair.Goals.{After-odd_in-2}
 
 -- Behind both parities, where the partner's is z's: what the mode's leaves weigh before and after, and the table with its entry changed so.
 module _ (d : After-odd_in-2) where
-  abbrev start : Start
-  start = d
-
   abbrev number : ℕ
   number = d.wide-mode.result
 
   abbrev passed : List ℕ
-  passed = take start.args.at start.args.term.now
+  passed = take d.args.at d.args.term.now
 
   abbrev before : ℕ
-  before = beside start.args.odd (number / 2) passed
+  before = beside d.args.odd (number / 2) passed
 
   abbrev after : ℕ
-  after = beside start.args.odd (number / 2) (take (start.args.at + 1) start.args.term.now)
+  after = beside d.args.odd (number / 2) (take (d.args.at + 1) d.args.term.now)
 
   partners : Partners number d.partner.result
   partners =
@@ -34,7 +31,7 @@ module _ (d : After-odd_in-2) where
       let told = d.partner.ensures in
       (λ e. omega (arith, told.0 (omega arith)), λ e. omega (arith, told.1 (omega arith)))
 
-  agree : occurrences d.partner.result passed % 2 ≡ start.args.odd
+  agree : occurrences d.partner.result passed % 2 ≡ d.args.odd
   agree = let counted = rw sub-zero at d.odd_in.ensures.0 in omega arith
 
   own_is : d.odd_in-2.result ≡ occurrences number passed % 2
@@ -42,19 +39,19 @@ module _ (d : After-odd_in-2) where
       let counted = rw sub-zero at d.odd_in-2.ensures.0 in
       omega (arith, ap (λ n. occurrences n passed) d.wide-mode.ensures.0)
 
-  up : d.odd_in-2.result ≡ start.args.odd → (before ≡ 0) × (after ≡ 1)
+  up : d.odd_in-2.result ≡ d.args.odd → (before ≡ 0) × (after ≡ 1)
   up e =
-      goes_up start.args.odd start.args.term.now start.args.at start.pre.0.0 number _ d.wide-mode.ensures.0 partners start.pre.0.1 agree
+      goes_up d.args.odd d.args.term.now d.args.at d.requires.at_in_bounds.0 number _ d.wide-mode.ensures.0 partners d.requires.at_in_bounds.1 agree
       (omega (arith, own_is))
 
-  down : (d.odd_in-2.result ≡ start.args.odd → ⊥) → (before ≡ 1) × (after ≡ 0)
+  down : (d.odd_in-2.result ≡ d.args.odd → ⊥) → (before ≡ 1) × (after ≡ 0)
   down apart =
-      goes_down start.args.odd start.args.term.now start.args.at start.pre.0.0 number _ d.wide-mode.ensures.0 partners start.pre.0.1 agree
-      (omega (arith, own_is, start.pre.0.1))
+      goes_down d.args.odd d.args.term.now d.args.at d.requires.at_in_bounds.0 number _ d.wide-mode.ensures.0 partners d.requires.at_in_bounds.1 agree
+      (omega (arith, own_is, d.requires.at_in_bounds.1))
 
-  put : (value : ℕ) → number / 2 < length start.args.table.now → value + before ≡ get_or start.args.table.now (number / 2) 0 + after
-      → PairTurned start.args.odd start.args.term.now start.args.at start.args.table.now (set start.args.table.now (number / 2) value)
-  put = pair_here start.args.odd start.args.term.now start.args.at start.pre.0.0 start.args.table.now number _ d.wide-mode.ensures.0 partners
+  put : (value : ℕ) → number / 2 < length d.args.table.now → value + before ≡ get_or d.args.table.now (number / 2) 0 + after
+      → PairTurned d.args.odd d.args.term.now d.args.at d.args.table.now (set d.args.table.now (number / 2) value)
+  put = pair_here d.args.odd d.args.term.now d.args.at d.requires.at_in_bounds.0 d.args.table.now number _ d.wide-mode.ensures.0 partners
 
 pub returns-then-table-mode : goal.returns-then-table-mode
 returns-then-table-mode c =
@@ -67,21 +64,25 @@ returns-then-odd_in-odd c =
 
 pub overflow_add-table : goal.overflow_add-table
 overflow_add-table c =
-    let told = up c c.if-odd_in-odd-2.true in
-    omega (arith, (start (goal.at.overflow_add-table c).Start).requires.1 (number c / 2) (omega arith))
+    let d = (goal.at.overflow_add-table c).After-odd_in-2 in
+    let told = up d c.if-odd_in-odd-2.true in
+    omega (arith, c.requires.by_index (number d / 2) (omega arith))
 
 pub returns-then-odd_in-odd-2 : goal.returns-then-odd_in-odd-2
 returns-then-odd_in-odd-2 c =
-    let told = up c c.if-odd_in-odd-2.true in
-    put c _ (omega arith) (omega arith)
+    let d = (goal.at.returns-then-odd_in-odd-2 c).After-odd_in-2 in
+    let told = up d c.if-odd_in-odd-2.true in
+    put d _ (omega arith) (omega arith)
 
 pub overflow_sub-table : goal.overflow_sub-table
 overflow_sub-table c =
-    let told = down c c.if-odd_in-odd-2.false in
-    omega (arith, (start (goal.at.overflow_sub-table c).Start).requires.1 (number c / 2) (omega arith))
+    let d = (goal.at.overflow_sub-table c).After-odd_in-2 in
+    let told = down d c.if-odd_in-odd-2.false in
+    omega (arith, c.requires.by_index (number d / 2) (omega arith))
 
 pub returns : goal.returns
 returns c =
-    let told = down c c.if-odd_in-odd-2.false in
-    let entry = (start (goal.at.returns c).Start).requires.1 (number c / 2) (omega arith) in
-    put c _ (omega arith) (omega arith)
+    let d = (goal.at.returns c).After-odd_in-2 in
+    let told = down d c.if-odd_in-odd-2.false in
+    let entry = c.requires.by_index (number d / 2) (omega arith) in
+    put d _ (omega arith) (omega arith)

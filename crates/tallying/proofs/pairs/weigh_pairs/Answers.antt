@@ -1,6 +1,5 @@
 -- Row by row, as in PairsWeighed; then what stands for the rows' number is taken off.
 use mathlib.Core.Path.{ap, ◌∙◌}
-use Prim.Native.Nat.{◌-◌}
 use native.Mathlib.Omega.{arith}
 use lib.ListN.{length, length-replicate, get_or-replicate}
 use Rattle.tallying.proofs.PairsWeighed.{weighing_starts, weighing_on, weighing_fits, weighing_ends}
@@ -18,7 +17,7 @@ term_at-requires c =
     (omega arith, c.requires.held.within c.loop-place.place (omega arith))
 
 pub weigh_row-odd-requires : goal.weigh_row-odd-requires
-weigh_row-odd-requires c =
+weigh_row-odd-requires c k h =
     let inv = c.loop-place.invariant in
     let same = inv.same_length in
     (omega (arith, inv.above k (omega arith)), omega (arith, inv.below k (omega arith)))

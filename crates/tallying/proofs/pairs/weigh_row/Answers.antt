@@ -1,6 +1,5 @@
 -- The table follows what the leaves weigh beside z in the numbers passed; at the end these are all.
 use mathlib.Core.Path.{refl}
-use Prim.Native.Nat.{◌-◌}
 use native.Mathlib.Omega.{arith}
 use lib.Seq.{take_all}
 use Rattle.lists.specs.Counting.{occurrences}

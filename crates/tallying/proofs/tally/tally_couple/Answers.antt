@@ -1,5 +1,5 @@
 -- The rows passed are tallied; the bound leaves the couple, or all rows are passed.
-use Prim.Native.Nat.{◌+◌, ◌-◌, ◌/◌, ◌%◌}
+use Prim.Native.Nat.{◌+◌, ◌/◌, ◌%◌}
 use native.Mathlib.Omega.{arith}
 use lib.ListN.{length}
 use Rattle.tallying.proofs.OddRows.{filled_zero}
@@ -25,13 +25,13 @@ term_at-requires c =
     (omega arith, c.requires.held.within c.loop-place.place (omega arith))
 
 pub tally_row-odd-requires : goal.tally_row-odd-requires
-tally_row-odd-requires c =
+tally_row-odd-requires c n h =
     let inv = c.loop-place.invariant in
     let same = inv.same_length in
     omega (arith, inv.low n (omega arith))
 
 pub returns-then-limit-apart : goal.returns-then-limit-apart
-returns-then-limit-apart c = omega (arith, (one_more (goal.at.returns-then-limit-apart c).After-slice_known-in-loop-place-1).bound z)
+returns-then-limit-apart c z = omega (arith, (one_more (goal.at.returns-then-limit-apart c).After-slice_known-in-loop-place-1).bound z)
 
 pub loop-place-preserved : goal.loop-place-preserved
 loop-place-preserved c = one_more (goal.at.loop-place-preserved c).After-slice_known-in-loop-place-1
