@@ -1,5 +1,5 @@
 -- Each return is one arm of the check's definition: the tests on the way decide its conditions.
-use borrow.Author.Tests.{not-true, not-false, eq-eqb, ne_eqb, lt-ltb, le-ltb, lt-leb, le-leb}
+use borrow.Author.Tests.{eq-eqb, ne_eqb, lt-ltb, le-ltb, lt-leb, le-leb}
 use Rattle.refusal.proofs.Told.{tells}
 use Rattle.terms.specs.Good.{modes_good}
 use Rattle.tree.specs.Check.{tree_checked}
@@ -41,7 +41,7 @@ returns-then-not-one_tree c =
       ← c.codes_good-good.ensures,
       le-ltb _ _ c.if-good-tree.false,
       ← c.one_tree.ensures,
-      not-true c.one_tree.result c.if-not-one_tree.true,
+      c.if-not-one_tree.true,
     ))
 
 pub returns-then-right-modes : goal.returns-then-right-modes
@@ -55,7 +55,7 @@ returns-then-right-modes c =
       ← c.codes_good-good.ensures,
       le-ltb _ _ c.if-good-tree.false,
       ← c.one_tree.ensures,
-      not-false c.one_tree.result c.if-not-one_tree.false,
+      c.if-not-one_tree.false,
       ← c.pairs_right-right.ensures,
       lt-ltb _ _ c.if-right-modes.true,
     ))
@@ -71,7 +71,7 @@ returns c =
       ← c.codes_good-good.ensures,
       le-ltb _ _ c.if-good-tree.false,
       ← c.one_tree.ensures,
-      not-false c.one_tree.result c.if-not-one_tree.false,
+      c.if-not-one_tree.false,
       ← c.pairs_right-right.ensures,
       le-ltb _ _ c.if-right-modes.false,
     ))

@@ -8,7 +8,7 @@ use Rattle.strings.specs.Text.{line_length, strings_length}
 use Rattle.strings.proofs.length.strings_length.Given as goal
 
 abbrev pub invariant-loop-majorana : goal.invariant-loop-majorana
-invariant-loop-majorana l = (l.length + sum (map (line_length l.modes) (listed (λ l.majorana. l.majorana) l.majorana (l.count - l.majorana))) ≡ strings_length l.modes)
+invariant-loop-majorana l = (l.length + sum (map (line_length l.modes) (listed (λ majorana. majorana) l.majorana (l.count - l.majorana))) ≡ strings_length l.modes)
     × (l.majorana ≤ l.count)
     × (l.length ≤ 278 * l.majorana)
 

@@ -1,6 +1,5 @@
 -- The table so far and the rows ahead make the table of all rows.
 use mathlib.Core.Path.{refl, ap, sym, ◌∙◌}
-use Prim.Native.Nat.{◌-◌}
 use native.Mathlib.Omega.{arith}
 use Rattle.tree.specs.Laying.{laid_over}
 use Rattle.tree.proofs.LayingRows.{laid_next, laid_ends}

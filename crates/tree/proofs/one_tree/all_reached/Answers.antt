@@ -1,12 +1,10 @@
 -- What is left to test gives the answer: the loop passes a node that climbs to the root, and stops at any other.
 use mathlib.Core.Path.{◌∙◌, sym}
 use mathlib.Core.Path.{ap}
-use Prim.Native.Nat.{◌-◌}
 use native.Mathlib.Omega.{arith}
 use borrow.Author.Tests.{eq-eqb, ne_eqb}
 use Rattle.lists.specs.Members.{every}
 use Rattle.lists.proofs.Ranges.{every_on, every_off, every_done}
-use Rattle.tree.specs.Table.{climb}
 use Rattle.tree.proofs.TableSteps.{nodes_start}
 use Rattle.tree.proofs.one_tree.all_reached.Goals as goal
 

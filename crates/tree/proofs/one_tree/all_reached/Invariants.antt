@@ -9,8 +9,8 @@ use Rattle.tree.proofs.one_tree.all_reached.Given as goal
 
 abbrev pub invariant-loop-node : goal.invariant-loop-node
 invariant-loop-node l = (l.node ≤ l.modes)
-    × (every (λ l.node. eqb (climb l.tree l.modes l.node) l.root) (nodes l.modes)
-    ≡ every (λ l.node. eqb (climb l.tree l.modes l.node) l.root) (listed (λ v. v) l.node (l.modes - l.node)))
+    × (every (λ node. eqb (climb l.tree l.modes node) l.root) (nodes l.modes)
+    ≡ every (λ node. eqb (climb l.tree l.modes node) l.root) (listed (λ v. v) l.node (l.modes - l.node)))
 
 abbrev pub decreases-loop-node : goal.decreases-loop-node
 decreases-loop-node l = l.modes - l.node

@@ -1,6 +1,5 @@
 -- What is left to test gives the answer: the loop passes a leaf that stands once, and stops at any other.
 use mathlib.Core.Path.{◌∙◌, sym}
-use Prim.Native.Nat.{◌-◌}
 use native.Mathlib.Omega.{arith}
 use borrow.Author.Tests.{eq-eqb, ne_eqb}
 use Rattle.lists.proofs.Ranges.{every_on, every_off, every_done}

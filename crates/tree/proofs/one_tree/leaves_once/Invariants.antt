@@ -10,7 +10,7 @@ use Rattle.tree.proofs.one_tree.leaves_once.Given as goal
 
 abbrev pub invariant-loop-code : goal.invariant-loop-code
 invariant-loop-code l = (l.code ≤ l.end)
-    × (leaves_once l.modes l.tree ≡ every (λ l.code. eqb (occurrences l.code l.tree) 1) (listed (λ v. v) l.code (l.end - l.code)))
+    × (leaves_once l.modes l.tree ≡ every (λ code. eqb (occurrences code l.tree) 1) (listed (λ v. v) l.code (l.end - l.code)))
 
 abbrev pub decreases-loop-code : goal.decreases-loop-code
 decreases-loop-code l = l.end - l.code

@@ -1,7 +1,6 @@
 -- What is left to test gives the answer: the loop passes a node that stands as often as it is to, and stops at any other.
 use mathlib.Core.Path.{◌∙◌, sym}
 use mathlib.Core.Path.{ap}
-use Prim.Native.Nat.{◌-◌}
 use native.Mathlib.Omega.{arith}
 use borrow.Author.Tests.{eq-eqb, ne_eqb}
 use Rattle.lists.specs.Members.{every}
@@ -22,13 +21,12 @@ returns-then-count-times_due c =
     (ne_eqb _ _ (λ e. c.if-count-times_due.true (c.count.ensures ∙ e ∙ sym c.times_due.ensures))))
 
 pub loop-node-preserved : goal.loop-node-preserved
-loop-node-preserved c =
-    (
-      omega arith,
-      c.loop-node.invariant.1
-          ∙ every_on _ (λ v. v) _ c.loop-node.node (omega arith)
-          (eq-eqb _ _ (sym c.count.ensures ∙ c.if-count-times_due.false ∙ c.times_due.ensures)),
-    )
+loop-node-preserved c = (
+  omega arith,
+  c.loop-node.invariant.1
+      ∙ every_on _ (λ v. v) _ c.loop-node.node (omega arith)
+      (eq-eqb _ _ (sym c.count.ensures ∙ c.if-count-times_due.false ∙ c.times_due.ensures)),
+)
 
 pub returns : goal.returns
 returns c =

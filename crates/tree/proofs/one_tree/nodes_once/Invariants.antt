@@ -11,8 +11,8 @@ use Rattle.tree.proofs.one_tree.nodes_once.Given as goal
 
 abbrev pub invariant-loop-node : goal.invariant-loop-node
 invariant-loop-node l = (l.node ≤ l.modes)
-    × (every (λ l.node. eqb (occurrences l.node l.tree) (cond (eqb l.node l.root) 0 1)) (nodes l.modes)
-    ≡ every (λ l.node. eqb (occurrences l.node l.tree) (cond (eqb l.node l.root) 0 1)) (listed (λ v. v) l.node (l.modes - l.node)))
+    × (every (λ node. eqb (occurrences node l.tree) (cond (eqb node l.root) 0 1)) (nodes l.modes)
+    ≡ every (λ node. eqb (occurrences node l.tree) (cond (eqb node l.root) 0 1)) (listed (λ v. v) l.node (l.modes - l.node)))
 
 abbrev pub decreases-loop-node : goal.decreases-loop-node
 decreases-loop-node l = l.modes - l.node

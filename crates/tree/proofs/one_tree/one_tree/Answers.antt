@@ -1,19 +1,19 @@
 -- Each return is one part of the test, in the order of the definition, with those before it true.
-use borrow.Author.Tests.{not-true, not-false, eq-eqb, ne_eqb}
+use borrow.Author.Tests.{eq-eqb, ne_eqb}
 use Rattle.tree.specs.OneTree.{one_tree, absent_once}
 use Rattle.tree.proofs.OneTreeParts.{one_tree_by}
 use Rattle.tree.proofs.one_tree.one_tree.Goals as goal
 
 pub returns-then-not-leaves_once : goal.returns-then-not-leaves_once
 unfolding one_tree
-returns-then-not-leaves_once c = rw (← c.leaves_once.ensures, not-true c.leaves_once.result c.if-not-leaves_once.true)
+returns-then-not-leaves_once c = rw (← c.leaves_once.ensures, c.if-not-leaves_once.true)
 
 pub returns-then-count-ne1 : goal.returns-then-count-ne1
 unfolding one_tree absent_once
 returns-then-count-ne1 c =
     rw (
       ← c.leaves_once.ensures,
-      not-false c.leaves_once.result c.if-not-leaves_once.false,
+      c.if-not-leaves_once.false,
       ← c.count.ensures,
       ne_eqb _ _ c.if-count-ne1.true,
     )
@@ -24,11 +24,11 @@ returns-then-not-nodes_once c =
     rw (
       one_tree_by args.modes args.tree.now c.climb-root.result c.climb-root.ensures,
       ← c.leaves_once.ensures,
-      not-false c.leaves_once.result c.if-not-leaves_once.false,
+      c.if-not-leaves_once.false,
       ← c.count.ensures,
       eq-eqb _ _ c.if-count-ne1.false,
       ← c.nodes_once.ensures,
-      not-true c.nodes_once.result c.if-not-nodes_once.true,
+      c.if-not-nodes_once.true,
     )
 
 pub returns : goal.returns
@@ -37,10 +37,10 @@ returns c =
     rw (
       one_tree_by args.modes args.tree.now c.climb-root.result c.climb-root.ensures,
       ← c.leaves_once.ensures,
-      not-false c.leaves_once.result c.if-not-leaves_once.false,
+      c.if-not-leaves_once.false,
       ← c.count.ensures,
       eq-eqb _ _ c.if-count-ne1.false,
       ← c.nodes_once.ensures,
-      not-false c.nodes_once.result c.if-not-nodes_once.false,
+      c.if-not-nodes_once.false,
       ← c.all_reached.ensures,
     )

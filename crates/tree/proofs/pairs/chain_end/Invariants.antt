@@ -1,6 +1,6 @@
 -- The steps left from here end where all of them do; a code that is no node ends the chain.
 use mathlib.Core.Path.{◌≡◌}
-use Prim.Native.Nat.{◌≤◌, ◌-◌}
+use Prim.Native.Nat.{◌≤◌}
 use Rattle.tree.specs.Pairs.{chain_end}
 use Rattle.tree.proofs.pairs.chain_end.Given as goal
 

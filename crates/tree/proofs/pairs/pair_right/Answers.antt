@@ -1,10 +1,9 @@
 -- What is left to search gives the answer: the loop passes a node without the pair, and stops at the first with it.
 use mathlib.Core.Path.{◌∙◌, sym, ap}
-use Prim.Native.Nat.{◌-◌}
 use native.Mathlib.Omega.{arith}
 use Rattle.lists.specs.Members.{some_of}
 use Rattle.lists.proofs.Ranges.{some_on, some_found, some_done}
-use Rattle.tree.specs.Pairs.{pair_under, pair_right}
+use Rattle.tree.specs.Pairs.{pair_right}
 use Rattle.tree.proofs.TableSteps.{nodes_start}
 use Rattle.tree.proofs.pairs.pair_right.Goals as goal
 

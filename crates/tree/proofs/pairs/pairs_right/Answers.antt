@@ -1,6 +1,5 @@
 -- The right pairs passed and those ahead are all that lead: the loop passes a right pair, and stops at the first wrong one.
 use mathlib.Core.Path.{◌∙◌, sym, ap}
-use Prim.Native.Nat.{◌-◌}
 use native.Mathlib.Nat.{zero-add}
 use native.Mathlib.Omega.{arith}
 use Rattle.lists.specs.Members.{leading}

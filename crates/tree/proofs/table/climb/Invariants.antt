@@ -1,6 +1,5 @@
 -- The steps left from here arrive where all of them do.
 use mathlib.Core.Path.{◌≡◌}
-use Prim.Native.Nat.{◌-◌}
 use Rattle.tree.specs.Table.{climb}
 use Rattle.tree.proofs.table.climb.Given as goal
 

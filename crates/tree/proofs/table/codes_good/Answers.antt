@@ -1,6 +1,5 @@
 -- The good codes passed and those ahead are all that lead: the loop passes a good code, and stops at the first bad one.
 use mathlib.Core.Path.{◌∙◌, sym}
-use Prim.Native.Nat.{◌-◌}
 use native.Mathlib.Omega.{arith}
 use Rattle.tree.proofs.TableSteps.{codes_pass, codes_stop, codes_end}
 use Rattle.tree.proofs.table.codes_good.Goals as goal

@@ -1,5 +1,4 @@
 -- The occurrences counted and those ahead are all.
-use Prim.Native.Nat.{◌-◌}
 use native.Mathlib.Omega.{arith}
 use Rattle.lists.proofs.Steps.{occurrences_step, occurrences_end}
 use Rattle.tree.proofs.table.count.Goals as goal

@@ -1,6 +1,5 @@
 -- The other codes passed and the place from here on are the place: the loop stops where the code stands.
 use mathlib.Core.Path.{◌∙◌, sym}
-use Prim.Native.Nat.{◌-◌}
 use native.Mathlib.Omega.{arith}
 use Rattle.tree.proofs.TableSteps.{place_passes, place_found, place_ends}
 use Rattle.tree.proofs.table.place_of.Goals as goal
