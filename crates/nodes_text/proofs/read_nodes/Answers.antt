@@ -1,6 +1,5 @@
 -- The nodes passed and the lines ahead give the answer: each way out of a turn is one law.
 use mathlib.Core.Path.{sym, ◌∙◌}
-use Prim.Native.Nat.{◌-◌}
 use native.Mathlib.Omega.{arith}
 use Rattle.nodes_text.proofs.NodesAhead.{passing_starts, passing_cut, passing_none, passing_all, too_many, no_node, passing_goes}
 use Rattle.nodes_text.proofs.read_nodes.Goals as goal

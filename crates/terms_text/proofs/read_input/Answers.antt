@@ -19,14 +19,12 @@ pub returns-then-not-terms : goal.returns-then-not-terms
 returns-then-not-terms c =
     let line = c.line_end-start in
     let read = c.read_terms-terms in
-    let modes = c.modes-1.given in
-    reads_part 2048 c.args.text.now line.result (omega (arith, line.ensures.0)) modes.0.0 (sym c.read_modes.ensures ∙ modes.1) _ read.result
+    reads_part 2048 c.args.text.now line.result (omega (arith, line.ensures.0)) c.in-Are.modes (sym c.read_modes.ensures ∙ c.in-Are.is) _ read.result
     (rw (part_to_end c.args.text.now line.result) at read.ensures) line.ensures.1 c.if-not-terms.true
 
 pub returns : goal.returns
 returns c =
     let line = c.line_end-start in
     let read = c.read_terms-terms in
-    let modes = c.modes-1.given in
-    reads_all 2048 c.args.text.now line.result (omega (arith, line.ensures.0)) modes.0.0 (sym c.read_modes.ensures ∙ modes.1) _ read.result
+    reads_all 2048 c.args.text.now line.result (omega (arith, line.ensures.0)) c.in-Are.modes (sym c.read_modes.ensures ∙ c.in-Are.is) _ read.result
     (rw (part_to_end c.args.text.now line.result) at read.ensures) line.ensures.1 c.if-not-terms.false

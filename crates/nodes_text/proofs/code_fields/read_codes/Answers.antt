@@ -1,6 +1,5 @@
 -- What was read and what is left give the answer: each way out of a turn is one law of the record of fields read.
 use mathlib.Core.Path.{sym, ◌∙◌}
-use Prim.Native.Nat.{◌-◌}
 use native.Mathlib.Omega.{arith}
 use lib.ListN.{length, length-set}
 use Rattle.fields.proofs.ReadingFields.{reading_starts, reading_breaks, reading_goes, reading_within, reading_ends, reading_full, none}

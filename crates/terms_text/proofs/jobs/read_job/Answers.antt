@@ -29,12 +29,12 @@ slice_bounds-count_job-end-in-Given c = sym (length-take-le _ _ (room (goal.at.s
 
 pub returns-in-Malformed : goal.returns-in-Malformed
 unfolding job_said job_by
-returns-in-Malformed c =
+returns-in-Malformed c rule =
     reads_refusal rule (job_said 256 2048 (request rule c.args.text.now)) _ _
     (rw (sym (malformed_says 2048 c.args.text.now _ _ c.read_input.ensures _ c.in-Malformed.is)))
 
 pub returns-in-Given : goal.returns-in-Given
 unfolding job_said
-returns-in-Given c =
+returns-in-Given c rule =
     let says = given_says 2048 c.args.text.now _ _ c.read_input.ensures _ _ c.in-Given.is in
     reads_front rule (job_said 256 2048 (request rule c.args.text.now)) _ _ _ (room (goal.at.returns-in-Given c).In-Given) (rw says at (c.count_job.ensures rule))
