@@ -1,6 +1,7 @@
 -- The first line and the lines behind it say what the text says.
 use mathlib.Core.Path.{sym, ◌∙◌}
 use native.Mathlib.Omega.{arith}
+use borrow.Author.Tests.{not-true, not-false}
 use lib.Seq.{length-take-le}
 use Rattle.lists.proofs.Steps.{part_to_end}
 use Rattle.terms_text.proofs.InputSaid.{reads_none, reads_part, reads_all}
@@ -20,11 +21,11 @@ returns-then-not-terms c =
     let line = c.line_end-start in
     let read = c.read_terms-terms in
     reads_part 2048 c.args.text.now line.result (omega (arith, line.ensures.0)) c.in-Are.modes (sym c.read_modes.ensures ∙ c.in-Are.is) _ read.result
-    (rw (part_to_end c.args.text.now line.result) at read.ensures) line.ensures.1 c.if-not-terms.true
+    (rw (part_to_end c.args.text.now line.result) at read.ensures) line.ensures.1 (not-true _ c.if-not-terms.true)
 
 pub returns : goal.returns
 returns c =
     let line = c.line_end-start in
     let read = c.read_terms-terms in
     reads_all 2048 c.args.text.now line.result (omega (arith, line.ensures.0)) c.in-Are.modes (sym c.read_modes.ensures ∙ c.in-Are.is) _ read.result
-    (rw (part_to_end c.args.text.now line.result) at read.ensures) line.ensures.1 c.if-not-terms.false
+    (rw (part_to_end c.args.text.now line.result) at read.ensures) line.ensures.1 (not-false _ c.if-not-terms.false)

@@ -1,6 +1,5 @@
 -- The terms passed and the lines ahead give the answer: each way out of a turn is one law.
 use mathlib.Core.Path.{sym, ◌∙◌}
-use Prim.Native.Nat.{◌-◌}
 use native.Mathlib.Omega.{arith}
 use Rattle.terms_text.proofs.TermsAhead.{passing_starts, passing_ends, passing_stops, too_many, no_term, passing_goes}
 use Rattle.terms_text.proofs.read_terms.Goals as goal
