@@ -6,7 +6,7 @@ use Prim.Native.Nat.{ℕ, ◌+◌, ◌<◌}
 use native.Mathlib.Omega.{arith}
 use lib.ListN.{length}
 use Rattle.lists.specs.Counting.{sum, occurrences}
-use Rattle.lists.specs.Members.{every, keep, some_of, alike, firsts, firsts_after}
+use Rattle.lists.specs.Members.{keep, some_of, alike, firsts, firsts_after}
 use Rattle.lists.specs.Renewed.{renewed_after, renewed}
 use Rattle.lists.proofs.Sums.{sum_of}
 use Rattle.lists.proofs.Kept.{keep_joined}

@@ -13,10 +13,11 @@ term_at-requires c =
 
 pub find_like-requires : goal.find_like-requires
 find_like-requires c =
-    (
-      held_fewer 9 c.args.place (c.args.place + 1) c.args.rows.now (omega arith) c.requires.held,
-      (c.requires.chained.0, rw c.term_at.ensures c.requires.chained.1),
-    )
+    record {
+      held = held_fewer 9 c.args.place (c.args.place + 1) c.args.rows.now (omega arith) c.requires.held;
+      chained = c.requires.chained;
+      term_nonzero = rw c.term_at.ensures c.requires.nonzero;
+    }
 
 pub returns : goal.returns
 returns c =

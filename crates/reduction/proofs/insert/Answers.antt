@@ -1,6 +1,5 @@
 -- What is written, with the number put into what is ahead, is always the answer; the number stops before the first that is not smaller, or at the end.
 use mathlib.Core.Path.{◌≡◌, refl, ◌∙◌}
-use mathlib.Core.Bool.{true}
 use Prim.Native.Nat.{◌<◌, ◌-◌, ◌+◌}
 use native.Mathlib.Omega.{arith}
 use borrow.Author.Rules.{rules}

@@ -14,7 +14,7 @@ raise_count-requires c =
     let rows = c.args.rows.now in
     let held = c.requires.1.held in
     record {
-      work_width_in_bounds = rw (c.clear_row-count.ensures.value, c.clear_row-count.ensures.rows_after) (rw (cleared_length place rows held) (omega (arith, room_here place rows held, c.requires.0)));
+      work_width_in_bounds = rw c.clear_row-count.ensures.rows_after (rw (cleared_length place rows held) (omega (arith, room_here place rows held, c.requires.0)));
       more_bound = rw (c.clear_row-count.ensures.value, c.clear_row-count.ensures.rows_after) (counts_fit place rows held c.args.first c.requires.0 c.requires.1.few);
     }
 

@@ -1,6 +1,5 @@
 -- The rows passed are reduced, those ahead are as they were, and what was dropped is counted with them.
 use mathlib.Core.Path.{refl}
-use Prim.Native.Nat.{◌-◌}
 use native.Mathlib.Omega.{arith}
 use Rattle.terms.specs.Rows.{rows_of, terms_of}
 use Rattle.reduction.proofs.ChainedRows.{chained_starts}
@@ -15,11 +14,12 @@ loop-place-init c =
 
 pub reduce_row-dropped-requires : goal.reduce_row-dropped-requires
 reduce_row-dropped-requires c =
-    let args = c.args in (
-      next_worked args.rule args.selection args.parent args.count args.rows.now c.requires.worked _ _ _ c.loop-place.invariant.0
-          c.loop-place-test.true,
-      (c.loop-place.invariant.1, omega (arith, c.requires.count_le_most_terms)),
-    )
+    let args = c.args in record {
+      worked = next_worked args.rule args.selection args.parent args.count args.rows.now c.requires.worked _ _ _ c.loop-place.invariant.0
+          c.loop-place-test.true;
+      chained = c.loop-place.invariant.1;
+      place_lt_most_terms = omega (arith, c.requires.count_le_most_terms);
+    }
 
 pub overflow_add-dropped : goal.overflow_add-dropped
 overflow_add-dropped c =

@@ -47,11 +47,11 @@ pub returns-then-rows-from-eq0 : goal.returns-then-rows-from-eq0
 returns-then-rows-from-eq0 c =
     let args = c.args in
     let rows = args.rows.now in
-    let none = c.if-rows-from-eq0.true in (
-      stays_gone args.rule args.triple args.parent args.place rows c.requires.worked none,
-      row_gone 16384 2048 9 args.place rows args.chains.now c.requires.chained.0 c.requires.chained.1 rows
-          (rw (terms_more 9 args.place rows, gone_term args.rule args.triple args.parent args.place rows c.requires.worked none)),
-    )
+    let none = c.if-rows-from-eq0.true in record {
+      row_reduced = stays_gone args.rule args.triple args.parent args.place rows c.requires.worked none;
+      chained_2 = row_gone 16384 2048 9 args.place rows args.chains.now c.requires.chained c.requires.place_lt_most_terms rows
+          (rw (terms_more 9 args.place rows, gone_term args.rule args.triple args.parent args.place rows c.requires.worked none));
+    }
 
 pub rewrite_row-requires : goal.rewrite_row-requires
 rewrite_row-requires c =
@@ -68,13 +68,12 @@ settle_row-requires c =
     let worked = c.requires.worked in
     let some = c.if-rows-from-eq0.false in
     let row = c.rewrite_row.new.row in
-    rw (put_back (goal.at.settle_row-requires c).After-rewrite_row) (
-      between_worked args.rule args.triple args.parent args.place rows worked some row (whole_row (goal.at.settle_row-requires c).After-rewrite_row) (row_rewritten (goal.at.settle_row-requires c).After-rewrite_row),
-      (
-        rw (between_terms args.rule args.triple args.parent args.place rows worked some row (whole_row (goal.at.settle_row-requires c).After-rewrite_row) (row_rewritten (goal.at.settle_row-requires c).After-rewrite_row)) c.requires.chained.0,
-        (between_there args.rule args.triple args.parent args.place rows worked some row (whole_row (goal.at.settle_row-requires c).After-rewrite_row) (row_rewritten (goal.at.settle_row-requires c).After-rewrite_row), c.requires.chained.1),
-      ),
-    )
+    rw (put_back (goal.at.settle_row-requires c).After-rewrite_row) (record {
+      worked = between_worked args.rule args.triple args.parent args.place rows worked some row (whole_row (goal.at.settle_row-requires c).After-rewrite_row) (row_rewritten (goal.at.settle_row-requires c).After-rewrite_row);
+      chained = rw (between_terms args.rule args.triple args.parent args.place rows worked some row (whole_row (goal.at.settle_row-requires c).After-rewrite_row) (row_rewritten (goal.at.settle_row-requires c).After-rewrite_row)) c.requires.chained;
+      nonzero = between_there args.rule args.triple args.parent args.place rows worked some row (whole_row (goal.at.settle_row-requires c).After-rewrite_row) (row_rewritten (goal.at.settle_row-requires c).After-rewrite_row);
+      place_lt_most_terms = c.requires.place_lt_most_terms;
+    })
 
 pub returns : goal.returns
 returns c =

@@ -1,6 +1,6 @@
 -- From the end forward: what is passed is rewritten, what is ahead is as it was, and one more number is replaced and put in.
 use mathlib.Core.Path.{◌≡◌}
-use Prim.Native.Nat.{◌≤◌, ◌-◌}
+use Prim.Native.Nat.{◌≤◌}
 use lib.ListN.{length, take, drop}
 use Rattle.reduction.specs.Reduction.{rewriting}
 use Rattle.reduction.proofs.rewrite.Given as goal

@@ -21,29 +21,29 @@ returns-then-drops_at c =
     let place = c.args.place in
     let rows = c.args.rows.now in
     let held = c.requires.worked.held in
-    rw (c.wide.ensures.0, c.clear_row.ensures.value, c.clear_row.ensures.rows_after) (
-      row_drops place rows held c.args.rule c.args.parent (sym c.drops_at.ensures ∙ c.if-drops_at.true),
-      row_gone 16384 2048 9 place rows c.args.chains.now c.requires.chained.0 c.requires.chained.1.1 _ (cleared_terms place rows held),
-    )
+    rw (c.wide.ensures.0, c.clear_row.ensures.value, c.clear_row.ensures.rows_after) (record {
+      row_settled = row_drops place rows held c.args.rule c.args.parent (sym c.drops_at.ensures ∙ c.if-drops_at.true);
+      chained_2 = row_gone 16384 2048 9 place rows c.args.chains.now c.requires.chained c.requires.place_lt_most_terms _ (cleared_terms place rows held);
+    })
 
 pub first_like-first-requires : goal.first_like-first-requires
 first_like-first-requires c =
-    (c.requires.worked.held, (c.requires.chained.0, c.requires.chained.1.0))
+    record { held = c.requires.worked.held; chained = c.requires.chained; nonzero = c.requires.nonzero }
 
 pub returns-then-first-place : goal.returns-then-first-place
 returns-then-first-place c =
     let place = c.args.place in
     let rows = c.args.rows.now in
     let held = c.requires.worked.held in
-    let some = c.requires.chained.1.0 in
+    let some = c.requires.nonzero in
     let before = c.if-first-place.true in
     let is_first = c.first_like-first.ensures in
-    rw c.merge_row.ensures (
-      row_merges place rows held _ before some is_first c.args.rule c.args.parent
-          (sym c.drops_at.ensures ∙ c.if-drops_at.false),
-      row_gone 16384 2048 9 place rows c.args.chains.now c.requires.chained.0 c.requires.chained.1.1 _
-          (merged_terms place rows held _ before some is_first),
-    )
+    rw c.merge_row.ensures (record {
+      row_settled = row_merges place rows held _ before some is_first c.args.rule c.args.parent
+          (sym c.drops_at.ensures ∙ c.if-drops_at.false);
+      chained_2 = row_gone 16384 2048 9 place rows c.args.chains.now c.requires.chained c.requires.place_lt_most_terms _
+          (merged_terms place rows held _ before some is_first);
+    })
 
 pub term_at-requires : goal.term_at-requires
 term_at-requires c =
@@ -60,6 +60,6 @@ returns c =
       row_settled = row_stays place rows held c.args.rule c.args.parent
           (sym c.drops_at.ensures ∙ c.if-drops_at.false) none;
       chained_2 = rw (c.set_mark.ensures, c.term_at.ensures)
-          (row_chained 16384 2048 9 place rows c.args.chains.now c.requires.chained.0 c.requires.chained.1.1 (omega arith) c.requires.chained.1.0
+          (row_chained 16384 2048 9 place rows c.args.chains.now c.requires.chained c.requires.place_lt_most_terms (omega arith) c.requires.nonzero
           (none_like place rows held none));
     }

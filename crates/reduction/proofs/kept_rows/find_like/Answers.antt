@@ -15,8 +15,8 @@ use Rattle.reduction.proofs.kept_rows.find_like.Goals.{After-same, In-loop-at}
 row-there : (c : In-loop-at)
     → (c.loop-at.at - 1 < c.args.count) × (c.loop-at.at - 1 < 2048)
 row-there c =
-    let chained = c.requires.chained.0 in
-    let inside = place_inside _ _ _ _ chained _ c.requires.chained.1 _ c.loop-at.invariant c.loop-at-test.true in
+    let chained = c.requires.chained in
+    let inside = place_inside _ _ _ _ chained _ c.requires.term_nonzero _ c.loop-at.invariant c.loop-at-test.true in
     (rw (length_terms 9 c.args.count c.args.rows.now) at inside, omega (arith, inside, chained.fits))
 
 -- The comparison is with that row's term.
@@ -25,15 +25,15 @@ compared : (c : After-same)
     c.same.result ≡ alike args.term.now (get_or (terms_of 9 args.count args.rows.now) (c.loop-at.at - 1) []))
 compared c =
     let args = c.args in
-    rw (terms_at 9 args.count (c.loop-at.at - 1) args.rows.now (row-there c.before.before).0, ← c.term_at.ensures) c.same.ensures
+    rw (terms_at 9 args.count (c.loop-at.at - 1) args.rows.now (row-there (goal.at.After-same c).In-loop-at).0, ← c.term_at.ensures) c.same.ensures
 
 pub bounds-chains-mark : goal.bounds-chains-mark
 bounds-chains-mark c =
-    rw c.requires.chained.0.room (omega (arith, c.mark_of-mark.ensures.1))
+    rw c.requires.chained.room (omega (arith, c.mark_of-mark.ensures.1))
 
 pub loop-at-init : goal.loop-at-init
 loop-at-init c =
-    rw (c.wide-at.ensures.0, c.mark_of-mark.ensures.0) (seeking_starts _ _ _ _ c.requires.chained.0 _ c.requires.chained.1 (omega arith))
+    rw (c.wide-at.ensures.0, c.mark_of-mark.ensures.0) (seeking_starts _ _ _ _ c.requires.chained _ c.requires.term_nonzero (omega arith))
 
 pub term_at-requires : goal.term_at-requires
 term_at-requires c =
@@ -43,7 +43,7 @@ term_at-requires c =
 
 pub returns-then-same : goal.returns-then-same
 returns-then-same c =
-    seeking_found _ _ _ _ c.requires.chained.0 _ c.requires.chained.1 _ c.loop-at.invariant c.loop-at-test.true
+    seeking_found _ _ _ _ c.requires.chained _ c.requires.term_nonzero _ c.loop-at.invariant c.loop-at-test.true
     (sym (compared (goal.at.returns-then-same c).After-same) ∙ c.if-same.true)
 
 pub overflow_add-place : goal.overflow_add-place
@@ -51,20 +51,20 @@ overflow_add-place c = omega (arith, (row-there (goal.at.overflow_add-place c).I
 
 pub bounds-chains-place : goal.bounds-chains-place
 bounds-chains-place c =
-    rw c.requires.chained.0.room (omega (arith, (row-there (goal.at.bounds-chains-place c).In-loop-at).1))
+    rw c.requires.chained.room (omega (arith, (row-there (goal.at.bounds-chains-place c).In-loop-at).1))
 
 pub loop-at-smaller : goal.loop-at-smaller
 loop-at-smaller c =
     rw c.wide-at-in-loop-at.ensures.0
-    (chain_falls _ _ _ _ c.requires.chained.0 _ c.requires.chained.1 _ c.loop-at.invariant c.loop-at-test.true)
+    (chain_falls _ _ _ _ c.requires.chained _ c.requires.term_nonzero _ c.loop-at.invariant c.loop-at-test.true)
 
 pub loop-at-preserved : goal.loop-at-preserved
 loop-at-preserved c =
     rw c.wide-at-in-loop-at.ensures.0
-    (seeking_on _ _ _ _ c.requires.chained.0 _ c.requires.chained.1 _ c.loop-at.invariant c.loop-at-test.true
+    (seeking_on _ _ _ _ c.requires.chained _ c.requires.term_nonzero _ c.loop-at.invariant c.loop-at-test.true
     (sym (compared (goal.at.loop-at-preserved c).After-same) ∙ c.if-same.false))
 
 pub returns : goal.returns
 returns c =
     sym (length_terms 9 c.args.count c.args.rows.now)
-    ∙ seeking_ends _ _ _ _ c.requires.chained.0 _ c.requires.chained.1 _ c.loop-at.invariant (omega arith)
+    ∙ seeking_ends _ _ _ _ c.requires.chained _ c.requires.term_nonzero _ c.loop-at.invariant (omega arith)

@@ -1,5 +1,4 @@
 -- The number leads down the chain of the term's mark: the row that is like the term ends the search, any other is passed.
-use Prim.Native.Nat.{◌-◌}
 use Rattle.terms.specs.Rows.{terms_of}
 use Rattle.reduction.proofs.ChainedRows.{Seeking}
 use Rattle.reduction.proofs.kept_rows.find_like.Given as goal

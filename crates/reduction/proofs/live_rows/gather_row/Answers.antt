@@ -6,7 +6,7 @@ use Rattle.reduction.proofs.live_rows.gather_row.Goals as goal
 pub returns-then-rows-from-eq0 : goal.returns-then-rows-from-eq0
 returns-then-rows-from-eq0 c =
     record {
-      c = rw add-sub_cancel_left at c.put_row.ensures;
+      put = rw add-sub_cancel_left at c.put_row.ensures;
       gone = λ none. refl;
       there = λ some. absurd (some c.if-rows-from-eq0.true);
     }
@@ -14,7 +14,7 @@ returns-then-rows-from-eq0 c =
 pub returns : goal.returns
 returns c =
     record {
-      c = rw add-sub_cancel_left at c.put_row.ensures;
+      put = rw add-sub_cancel_left at c.put_row.ensures;
       gone = λ none. absurd (c.if-rows-from-eq0.false none);
       there = λ some. refl;
     }

@@ -1,5 +1,4 @@
 -- The rows gathered and those ahead that are there are all that are there; at the end nothing is ahead.
-use Prim.Native.Nat.{◌-◌}
 use native.Mathlib.Omega.{arith}
 use Rattle.reduction.proofs.LiveRows.{gathering_starts, here_room, live_room, gathered_on, gathering_ends}
 use Rattle.reduction.proofs.live_rows.put_live.Goals as goal
