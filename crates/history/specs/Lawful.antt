@@ -1,5 +1,5 @@
 -- "A lawful triple (x, y, z) is three different open entities where x's z-end is an even 2k below 2n and y's is 2k+1."
-use Rattle.std.specs.Prelude.{◌≡◌, Bool, true, not, ◌&&◌, ◌⊎◌, ℕ, ◌+◌, ◌-◌, ◌*◌, ◌%◌, ◌<◌, eqb, ltb}
+use Rattle.std.specs.Prelude.{◌≡◌, Bool, true, not, ◌&&◌, ◌⊎◌, ℕ, ◌+◌, ◌*◌, ◌%◌, ◌<◌, eqb, ltb}
 use mathlib.Core.List.{List, [], ◌∷◌, Memᴰ}
 use Rattle.lists.specs.Ordered.{Ascending}
 use Rattle.entities.specs.declared.Triple.{Triple}
