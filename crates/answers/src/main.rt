@@ -1,56 +1,59 @@
 // Asks the library every recorded case anew and prints, for each kind, how many cases there are and how many differ.
 #![tactic(auto)]
 
-use libc::STDOUT_FILENO;
 use replay::{Kind, Tally};
+use std::fs;
+use std::io;
+use std::io::Write;
 
 mod replay;
 
-// A tab and a number.
-fn print_count(count: usize) {
-    io::write_all(STDOUT_FILENO, b"\t");
-    io::print_decimal(STDOUT_FILENO, count as u64);
-}
-
-// The counts, and the number of the first case that differs where one does.
-fn print_tally(tally: Tally) {
-    print_count(tally.cases);
-    print_count(tally.different);
+// The counts, each behind a tab, and the number of the first case that differs where one does.
+fn print_tally<W: Write>(out: &mut W, tally: Tally) -> io::Result<()> {
+    let cases = tally.cases;
+    let different = tally.different;
+    write!(out, "\t{cases}\t{different}")?;
     if 0 < tally.different {
-        print_count(tally.first);
+        let first = tally.first;
+        write!(out, "\t{first}")?;
     }
-    io::write_all(STDOUT_FILENO, b"\n");
+    out.write_all(b"\n")
 }
 
 // The file's cases asked anew and counted; a file that isn't read whole gives no counts, so that it can't pass.
-fn replay_file(kind: Kind, name: &[u8], buffer: &mut [u8]) {
-    let file = os::open_read(name);
-    if file < 0 {
-        os::fail(name);
-        io::write_all(STDOUT_FILENO, b"\tnot opened\n");
-        return;
+fn replay_file(rt: &HostRuntime, kind: Kind, name: &str, buffer: &mut [u8]) -> io::Result<()> {
+    let mut out = rt.stdout();
+    let mut file = match fs::open(rt, name) {
+        Ok(file) => file,
+        Err(error) => {
+            eprintln!(rt; "{name}: {error}")?;
+            return out.write_all(b"\tnot opened\n");
+        }
+    };
+    let read = standard_input::read_input(&mut file, buffer);
+    if read.failed {
+        return out.write_all(b"\tnot read\n");
     }
-    let length = io::read_full(file, buffer);
-    libc::close(file);
+    let length = read.count;
     // a full buffer may hold only the front of the file
     if length == buffer.len() {
-        io::write_all(STDOUT_FILENO, b"\ttoo long\n");
-        return;
+        return out.write_all(b"\ttoo long\n");
     }
-    print_tally(replay::replay(kind, &buffer[..length]));
+    print_tally(&mut out, replay::replay(kind, &buffer[..length]))
 }
 
 // One line a kind, from one buffer.
-fn replay_files(buffer: &mut [u8]) {
-    io::write_all(STDOUT_FILENO, b"hatt");
-    replay_file(Kind::Hatt, b"hatt.txt", buffer);
-    io::write_all(STDOUT_FILENO, b"assign");
-    replay_file(Kind::Assign, b"assign.txt", buffer);
-    io::write_all(STDOUT_FILENO, b"tree");
-    replay_file(Kind::Tree, b"tree.txt", buffer);
+fn replay_files(rt: &HostRuntime, buffer: &mut [u8]) -> io::Result<()> {
+    let mut out = rt.stdout();
+    out.write_all(b"hatt")?;
+    replay_file(rt, Kind::Hatt, "hatt.txt", buffer)?;
+    out.write_all(b"assign")?;
+    replay_file(rt, Kind::Assign, "assign.txt", buffer)?;
+    out.write_all(b"tree")?;
+    replay_file(rt, Kind::Tree, "tree.txt", buffer)
 }
 
-fn main() {
+fn main(rt: HostRuntime) -> io::Result<()> {
     let mut buffer = [0u8; 262144];
-    replay_files(&mut buffer);
+    replay_files(&rt, &mut buffer)
 }

@@ -10,15 +10,19 @@ ghost use Rattle.strings_text.specs.Printing.{PrintsStrings};
 
 use fields::parts;
 use standard_input::Input;
+use std::fs;
+use std::io;
+use std::io::Write;
+use std::rt::{Env, Files};
 use steering::reasons;
 use terms::rules::Rule;
 use text::{Printed, journals};
 
-// The starter opens the file here: a journal, merges by hand or a tree.
-const FILE: i32 = 3;
+// The starter opens the file on descriptor 3: a journal, merges by hand or a tree.
+const FILE: &str = "/dev/fd/3";
 
 // The file that a command reads; `journal` reads none.
-fn read_file(name: &[u8], file: &mut [u8]) -> Input
+fn read_file<R: Files>(rt: &R, name: &[u8], file: &mut [u8]) -> Input
     ensures { IsPrefixLen result.count file.new }
 {
     if parts::same_bytes(name, b"journal") {
@@ -27,7 +31,13 @@ fn read_file(name: &[u8], file: &mut [u8]) -> Input
             failed: false,
         };
     }
-    standard_input::read_input(FILE, file)
+    match fs::open(rt, FILE) {
+        Ok(mut opened) => standard_input::read_input(&mut opened, file),
+        Err(_) => Input {
+            count: 0,
+            failed: true,
+        },
+    }
 }
 
 // The rule that a word names.
@@ -99,69 +109,92 @@ fn strings_answer(name: &[u8], rule: Rule, input: &[u8], file: &[u8]) -> strings
 }
 
 // An answer may be empty: the full stop tells it from none.
-fn write_answer(answer: &[u8]) {
-    io::write_all(libc::STDOUT_FILENO, answer);
-    io::write_all(libc::STDOUT_FILENO, b".");
+fn write_answer<W: Write>(out: &mut W, answer: &[u8]) -> io::Result<()> {
+    out.write_all(answer)?;
+    out.write_all(b".")
 }
 
 // A command's answer written.
-fn give_answer(name: &[u8], word: &[u8], rule: Rule, input: &[u8], file: &[u8]) {
+fn give_answer<W: Write>(
+    out: &mut W,
+    name: &[u8],
+    word: &[u8],
+    rule: Rule,
+    input: &[u8],
+    file: &[u8],
+) -> io::Result<()> {
     let printed = terms_answer(name, word, rule, input, file);
     let bytes = printed.bytes;
     let length = printed.count;
-    write_answer(&bytes[..length]);
+    write_answer(out, &bytes[..length])
 }
 
 // The same of a command that prints strings.
-fn give_strings(name: &[u8], rule: Rule, input: &[u8], file: &[u8]) {
+fn give_strings<W: Write>(out: &mut W, name: &[u8], rule: Rule, input: &[u8], file: &[u8]) -> io::Result<()> {
     let printed = strings_answer(name, rule, input, file);
     let bytes = printed.bytes;
     let length = printed.count;
-    write_answer(&bytes[..length]);
+    write_answer(out, &bytes[..length])
 }
 
 // A command by its name, its other word and its rule, for what was read.
-fn give(name: &[u8], word: &[u8], rule: Rule, input: &[u8], file: &[u8]) {
+fn give<W: Write>(
+    out: &mut W,
+    name: &[u8],
+    word: &[u8],
+    rule: Rule,
+    input: &[u8],
+    file: &[u8],
+) -> io::Result<()> {
     if parts::same_bytes(name, b"strings") {
-        return give_strings(name, rule, input, file);
+        return give_strings(out, name, rule, input, file);
     }
     if parts::same_bytes(name, b"hatt_strings") {
-        return give_strings(name, rule, input, file);
+        return give_strings(out, name, rule, input, file);
     }
-    give_answer(name, word, rule, input, file)
+    give_answer(out, name, word, rule, input, file)
 }
 
 // A command by its name, its other word and its rule's, in lent room for what it reads. One whose input failed says nothing, and its starter says why.
-fn run(name: &[u8], word: &[u8], last: &[u8], input: &mut [u8], file: &mut [u8]) {
-    let terms = standard_input::read_input(libc::STDIN_FILENO, input);
+fn run(
+    rt: &HostRuntime,
+    name: &[u8],
+    word: &[u8],
+    last: &[u8],
+    input: &mut [u8],
+    file: &mut [u8],
+) -> io::Result<()> {
+    let terms = standard_input::read_input(&mut rt.stdin(), input);
     if terms.failed {
-        return;
+        return Ok(());
     }
-    let read = read_file(name, file);
+    let read = read_file(rt, name, file);
     if read.failed {
-        return;
+        return Ok(());
     }
     let count = terms.count;
     let kept = read.count;
     let rule = rule_named(last);
-    give(name, word, rule, &input[..count], &file[..kept]);
+    give(&mut rt.stdout(), name, word, rule, &input[..count], &file[..kept])
 }
 
-fn main() {
+fn main(rt: HostRuntime) -> io::Result<()> {
     let mut name = [0u8; 16];
-    let length = os::arg(1, &mut name);
+    // none where it is missing or longer
+    let length = rt.arg(1, &mut name).unwrap_or(0);
     let mut word = [0u8; 16];
-    let width = os::arg(2, &mut word);
+    let width = rt.arg(2, &mut word).unwrap_or(0);
     let mut last = [0u8; 16];
-    let end = os::arg(3, &mut last);
+    let end = rt.arg(3, &mut last).unwrap_or(0);
     // more than any well-formed text has, as for `hatt`; and more than the starter lets through of a file
     let mut input = [0u8; 98304];
     let mut file = [0u8; 66000];
     run(
+        &rt,
         &name[..length],
         &word[..width],
         &last[..end],
         &mut input,
         &mut file,
-    );
+    )
 }

@@ -1,18 +1,20 @@
 // The program: standard input read, and its answer written to standard output.
 #![tactic(auto)]
 
+use std::io;
+use std::io::Write;
 
-fn main() {
+fn main(rt: HostRuntime) -> io::Result<()> {
     // more than any well-formed text has; what lies beyond alters no answer
     let mut input = [0u8; 98304];
-    let read = standard_input::read_input(libc::STDIN_FILENO, &mut input);
-    // a program has no exit status: one whose input failed says nothing, and its starter says why
+    let read = standard_input::read_input(&mut rt.stdin(), &mut input);
+    // one whose input failed says nothing, and its starter says why
     if read.failed {
-        return;
+        return Ok(());
     }
     let count = read.count;
     let printed = text::answer(&input[..count]);
     let bytes = printed.bytes;
     let length = printed.count;
-    io::write_all(1, &bytes[..length]);
+    rt.stdout().write_all(&bytes[..length])
 }

@@ -1,8 +1,10 @@
-// What a program reads, standard input or another open descriptor, read to its end; a read that fails is told apart from the end.
+// What a program reads, standard input or a file, read to its end; a read that fails is told apart from the end.
 #![tactic(auto)]
 
 ghost use Rattle.std.specs.Prelude.{◌+◌, ◌≤◌, ◌≡◌, length};
 ghost use Rattle.io.specs.Counts.{IsPrefixLen};
+
+use std::io::Read;
 
 // What reading came to: how many bytes stand at the front of the buffer, and whether a read failed behind them.
 #[derive(Clone, Copy)]
@@ -12,25 +14,29 @@ pub struct Input {
 }
 
 // One read into the buffer, from this place on; how many bytes came, all told, and whether it failed.
-fn read_on(descriptor: i32, bytes: &mut [u8], at: usize) -> Input
+fn read_on<R: Read>(from: &mut R, bytes: &mut [u8], at: usize) -> Input
     requires { at ≤ length bytes.old }
     ensures { (at ≤ result.count) × (result.count ≤ length bytes.new) × (length bytes.new ≡ length bytes.old) }
 {
-    let got = libc::read(descriptor, &mut bytes[at..]);
-    let more = io::count(got, &bytes[at..]);
-    Input {
-        count: at + more,
-        failed: got < 0,
+    match from.read(&mut bytes[at..]) {
+        Ok(more) => Input {
+            count: at + more,
+            failed: false,
+        },
+        Err(_) => Input {
+            count: at,
+            failed: true,
+        },
     }
 }
 
-// A descriptor read until it ends, the buffer is full or a read fails.
-pub fn read_input(descriptor: i32, bytes: &mut [u8]) -> Input
+// What is read until it ends, the buffer is full or a read fails.
+pub fn read_input<R: Read>(from: &mut R, bytes: &mut [u8]) -> Input
     ensures { IsPrefixLen result.count bytes.new }
 {
     let mut at = 0;
     while at < bytes.len() {
-        let read = read_on(descriptor, bytes, at);
+        let read = read_on(from, bytes, at);
         if read.failed {
             return read;
         }
