@@ -48,6 +48,7 @@ module _ (heuristic : ℕ) (like : ℕ → ℕ → Bool) (far : List ℕ) where
 -- The largest of a list is at least each of it, and one of it.
 pub largest_most : (f : ℕ → ℕ) (l : List ℕ) (v : ℕ) → Memᴰ v l → f v ≤ largest (map f l)
 unfolding largest
+largest_most f [] v m = elim m [ ]
 largest_most f (a ∷ l) v (Memᴰ.head e) = omega (arith, ap f e)
 largest_most f (a ∷ l) v (Memᴰ.tail m) = omega (arith, largest_most f l v m)
 

@@ -26,7 +26,9 @@ far-size c =
     let called = c.fill_far-count in
     let whole : length called.new.far ≡ 256 = called.auto.far in
     let few = called.ensures.0 in
-    let size = left-size c.before.before.before.before in
+    let left = c.fill_remaining-remaining in
+    let whole-left : length left.new.left ≡ 256 = left.auto.left in
+    let size = length-take-le left.result left.new.left (omega arith) in
     let most = c.fill_remaining-remaining.ensures.0 in
     let room : called.result ≤ length called.new.far = omega arith in
     (room, length-take-le called.result called.new.far room, omega arith)
@@ -40,7 +42,7 @@ fill_far-count-requires c =
     let size = left-size (goal.at.fill_far-count-requires c).After-fill_remaining-remaining in
     let most = called.ensures.0 in
     let few = c.requires.modes_le_most_modes.0 in
-    ((c.requires.distances.room, omega arith), rw called.ensures.1 (remaining_below c.args.modes c.args.tree.now c.args.assigned.now))
+    record { modes_in_bounds = (c.requires.distances.room, omega arith); left_value = rw called.ensures.1 (remaining_below c.args.modes c.args.tree.now c.args.assigned.now) }
 
 pub slice_bounds-far-end : goal.slice_bounds-far-end
 slice_bounds-far-end c = (far-size (goal.at.slice_bounds-far-end c).After-fill_far-count).0

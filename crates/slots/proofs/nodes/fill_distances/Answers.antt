@@ -1,5 +1,4 @@
 -- Each node passed has its distance; at the end that is every node.
-use Prim.Native.Nat.{◌-◌}
 use native.Mathlib.Omega.{arith}
 use lib.ListN.{length-set}
 use Rattle.lists.proofs.Writes.{agrees_next}

@@ -1,7 +1,7 @@
 -- The nodes gathered and the first of those ahead are all the firsts.
-use mathlib.Core.Bool.{not, Bool, true}
+use mathlib.Core.Bool.{not, Bool}
 use mathlib.Core.Path.{refl}
-use Prim.Native.Nat.{ℕ, ◌-◌}
+use Prim.Native.Nat.{ℕ}
 use native.Mathlib.Omega.{arith}
 use borrow.Author.Tests.{lt-ltb}
 use lib.ListN.{get_or, take}
@@ -20,7 +20,7 @@ loop-at-init c = (omega arith, omega arith, omega arith, refl, refl)
 pub has_like-seen-requires : goal.has_like-seen-requires
 has_like-seen-requires c =
     let low = below_at c.args.modes c.args.far.now c.loop-at.at 0 (omega arith) c.requires.far_value in
-    ((omega arith, omega arith, omega arith, low), (omega arith, c.loop-at.invariant.3))
+    record { modes_le_most_modes = (omega arith, omega arith, omega arith, low); count_in_bounds = omega arith; kept_value = c.loop-at.invariant.3 }
 
 pub loop-at-preserved : goal.loop-at-preserved
 loop-at-preserved c =
@@ -35,8 +35,8 @@ loop-at-preserved c =
       omega arith,
       omega (arith, put.ensures.0),
       omega arith,
-      rw put.ensures.1 (every_more (λ v. ltb v args.modes) (take c.loop-at.count c.loop-at.auto) (get_or args.far.now c.loop-at.at 0) (not seen.result) c.loop-at.invariant.3 (lt-ltb _ _ low)),
-      firsts_next like args.far.now c.loop-at.at 0 (take c.loop-at.count c.loop-at.auto) _ _ inside one c.loop-at.invariant.4,
+      rw put.ensures.1 (every_more (λ v. ltb v args.modes) (take c.loop-at.count c.loop-at.kept) (get_or args.far.now c.loop-at.at 0) (not seen.result) c.loop-at.invariant.3 (lt-ltb _ _ low)),
+      firsts_next like args.far.now c.loop-at.at 0 (take c.loop-at.count c.loop-at.kept) _ _ inside one c.loop-at.invariant.4,
     )
 
 pub returns : goal.returns

@@ -1,6 +1,5 @@
 -- Those ahead decide.
 use mathlib.Core.Path.{◌∙◌, sym}
-use Prim.Native.Nat.{◌-◌}
 use native.Mathlib.Omega.{arith}
 use lib.Seq.{get_or-take, length-take-le}
 use lib.ListN.{take}
@@ -12,8 +11,8 @@ pub alike_nodes-requires : goal.alike_nodes-requires
 alike_nodes-requires c =
     let at = c.loop-at.at in
     let kept = c.args.kept.now in
-    let size = length-take-le c.args.count kept c.requires.count_in_bounds.0 in
-    let low = rw (get_or-take c.args.count kept at 0 c.loop-at-test.true) at (below_at c.args.modes (take c.args.count kept) at 0 (omega arith) c.requires.count_in_bounds.1) in
+    let size = length-take-le c.args.count kept c.requires.count_in_bounds in
+    let low = rw (get_or-take c.args.count kept at 0 c.loop-at-test.true) at (below_at c.args.modes (take c.args.count kept) at 0 (omega arith) c.requires.kept_value) in
     (omega arith, omega arith, omega arith, omega arith, low)
 
 pub returns-then-alike_nodes : goal.returns-then-alike_nodes
@@ -21,7 +20,7 @@ returns-then-alike_nodes c =
     let args = c.args in
     let at = c.loop-at.at in
     let kept = args.kept.now in
-    let size = length-take-le args.count kept c.requires.count_in_bounds.0 in
+    let size = length-take-le args.count kept c.requires.count_in_bounds in
     let same = get_or-take args.count kept at 0 c.loop-at-test.true in
     sym (c.loop-at.invariant.1 ∙ some_stops _ (take args.count kept) at 0 (omega arith) (rw same (sym c.alike_nodes.ensures ∙ c.if-alike_nodes.true)))
 
@@ -30,7 +29,7 @@ loop-at-preserved c =
     let args = c.args in
     let at = c.loop-at.at in
     let kept = args.kept.now in
-    let size = length-take-le args.count kept c.requires.count_in_bounds.0 in
+    let size = length-take-le args.count kept c.requires.count_in_bounds in
     let same = get_or-take args.count kept at 0 c.loop-at-test.true in (
       omega arith,
       c.loop-at.invariant.1 ∙ some_passes _ (take args.count kept) at 0 (omega arith) (rw same (sym c.alike_nodes.ensures ∙ c.if-alike_nodes.false)),
@@ -39,5 +38,5 @@ loop-at-preserved c =
 pub returns : goal.returns
 returns c =
     let args = c.args in
-    let size = length-take-le args.count args.kept.now c.requires.count_in_bounds.0 in
+    let size = length-take-le args.count args.kept.now c.requires.count_in_bounds in
     sym (c.loop-at.invariant.1 ∙ some_ends _ (take args.count args.kept.now) c.loop-at.at (omega arith))

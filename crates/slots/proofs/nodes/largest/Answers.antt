@@ -1,5 +1,4 @@
 -- The largest so far and those ahead have the largest of all.
-use Prim.Native.Nat.{◌-◌}
 use native.Mathlib.Omega.{arith}
 use Rattle.lists.proofs.Every.{below_at}
 use Rattle.slots.specs.Nodes.{distance}
