@@ -1,6 +1,6 @@
 -- The bytes passed are written, and what is left of the number says the others.
 use mathlib.Core.Path.{◌≡◌, ap, ◌∙◌, sym}
-use Prim.Native.Nat.{◌+◌, ◌%◌, ◌-◌}
+use Prim.Native.Nat.{◌+◌, ◌%◌}
 use native.Mathlib.Omega.{arith}
 use lib.ListN.{set, length-set}
 use Rattle.lists.specs.Ranges.{listed}

@@ -1,7 +1,6 @@
 -- The bytes of the numbers passed stand at the front.
 use mathlib.Core.Path.{ap, ◌∙◌, sym}
 use mathlib.Core.List.{flat_map}
-use Prim.Native.Nat.{◌-◌}
 use native.Mathlib.Omega.{arith}
 use lib.Seq.{take_all}
 use Rattle.lists.specs.Written.{written_at}

@@ -1,13 +1,18 @@
 -- The numbers passed are what the bytes say.
 use mathlib.Core.Path.{◌≡◌, ap, ◌∙◌}
-use Prim.Native.Nat.{◌+◌, ◌-◌}
+use Prim.Native.Nat.{◌+◌}
 use native.Mathlib.Omega.{arith}
+use borrow.Author.Rules.{rules}
 use lib.ListN.{length, take, set, length-set}
 use Rattle.lists.specs.Ranges.{listed}
 use Rattle.lists.proofs.Writes.{all_of}
 use Rattle.call_bytes.specs.Bytes.{word_at}
 use Rattle.call_bytes.proofs.WordSteps.{word_next}
 use Rattle.call_bytes.proofs.words.read_words.Goals as goal
+
+pub loop-at-init : goal.loop-at-init
+unfolding listed
+loop-at-init c = search rules
 
 pub loop-at-preserved : goal.loop-at-preserved
 loop-at-preserved c =
