@@ -15,15 +15,15 @@ reached c = omega (arith, c.marked.ensures.entity_lt_entity_room c.if-not-marked
 
 pub returns-then-triple : goal.returns-then-triple
 unfolding free seek least
-returns-then-triple c = rw (eq-eqb _ _ c.if-triple.true)
+returns-then-triple c measure looked modes history within opens = rw (eq-eqb _ _ c.if-triple.true)
 
 pub returns-then-triple-2 : goal.returns-then-triple-2
 unfolding free seek least
-returns-then-triple-2 c = rw (ne_eqb _ _ c.if-triple.false, eq-eqb _ _ c.if-triple-2.true)
+returns-then-triple-2 c measure looked modes history within opens = rw (ne_eqb _ _ c.if-triple.false, eq-eqb _ _ c.if-triple-2.true)
 
 pub returns-then-not-marked : goal.returns-then-not-marked
 unfolding free seek least
-returns-then-not-marked c =
+returns-then-not-marked c measure looked modes history within opens =
     rw (
       ne_eqb _ _ c.if-triple.false,
       ne_eqb _ _ c.if-triple-2.false,
@@ -43,7 +43,7 @@ overflow_sub-weight c =
 
 pub returns : goal.returns
 unfolding free
-returns c =
+returns c measure looked modes history within opens =
     let args = c.args in
     let is = c.wide-at.ensures.0 in
     let told : args.all + get_or args.odds.now args.triple.z 0 ≡ measure args.triple + get_or args.less.now args.triple.z 0 =

@@ -8,9 +8,9 @@ use Rattle.tallying.proofs.RowsTallied.{looked_up}
 use Rattle.choosing.specs.code.Couples.{weight_here}
 use Rattle.choosing.proofs.SettledBest.{seek_idle, heavy_settles}
 use Rattle.choosing.proofs.choice.best_of_couple.Goals as goal
-use Rattle.choosing.proofs.choice.best_of_couple.Goals.{In-All-2}
+use Rattle.choosing.proofs.choice.best_of_couple.Goals.{In-All}
 
-module _ (c : In-All-2) where
+module _ (c : In-All) where
   few : c.in-All.all ≤ 2048
   few =
       let told = rw c.in-All.is at c.tally_couple.ensures in
@@ -23,7 +23,7 @@ module _ (c : In-All-2) where
   looked z h =
       let called = c.tally_couple in
       let told = rw c.in-All.is at called.ensures in
-      looked_up _ c.args.x c.args.y c.args.best.weight c.in-All.all c.in-All.bound 769 c.args.odds.now called.new.less c.requires.count_le_most_terms.1
+      looked_up _ c.args.x c.args.y c.args.best.weight c.in-All.all c.in-All.bound 769 c.args.odds.now called.new.less c.requires.odds_are
       called.auto.less told z h
 
   bounded : (z : ℕ)
@@ -34,7 +34,7 @@ module _ (c : In-All-2) where
 
 pub returns-in_default : goal.returns-in_default
 unfolding weight_here
-returns-in_default c =
+returns-in_default c modes history within opens =
     let called = c.tally_couple in
     let args = c.args in
     let heavy = rw c.in_default.is at called.ensures in
@@ -44,11 +44,11 @@ pub best_of_rest-requires : goal.best_of_rest-requires
 best_of_rest-requires c =
     let args = c.args in
     record {
-      all_le_most_terms = few c;
-      by_index = (weight_here args.count args.rows.now, looked c);
+      all_le_most_terms = few (goal.at.best_of_rest-requires c).In-All;
+      by_index = (weight_here args.count args.rows.now, looked (goal.at.best_of_rest-requires c).In-All);
     }
 
 pub returns : goal.returns
-returns c =
+returns c modes history within opens =
     let args = c.args in
-    c.best_of_rest.ensures (weight_here args.count args.rows.now) (looked c) (bounded c) modes history within opens
+    c.best_of_rest.ensures (weight_here args.count args.rows.now) (looked (goal.at.returns c).In-All) (bounded (goal.at.returns c).In-All) modes history within opens

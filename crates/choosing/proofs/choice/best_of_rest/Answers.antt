@@ -16,7 +16,7 @@ loop-z-init c =
 
 -- None of those to come is lighter than one that reaches the bound.
 pub returns-then-best-bound : goal.returns-then-best-bound
-returns-then-best-bound c =
+returns-then-best-bound c measure looked bounded modes history within opens =
     let args = c.args in
     let reached = c.if-best-bound.true in
     sym
@@ -38,7 +38,7 @@ loop-z-preserved c =
     )
 
 pub returns : goal.returns
-returns c =
+returns c measure looked bounded modes history within opens =
     let args = c.args in
     sym
     (c.loop-z.invariant.1 measure looked modes history within opens

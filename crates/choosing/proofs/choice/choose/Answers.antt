@@ -8,4 +8,9 @@ pub least_of_all-requires : goal.least_of_all-requires
 least_of_all-requires c =
     let counted = c.count_odds in
     let whole : length counted.new.table ≡ 769 = counted.auto.table in
-    (c.requires.held, (c.requires.count_le_most_terms.0, (c.requires.count_le_most_terms.1, λ n h. counted.ensures n (omega arith))))
+    record {
+      held = c.requires.held;
+      count_le_most_terms = c.requires.count_le_most_terms;
+      by_index = c.requires.by_index;
+      odds_are = λ n h. counted.ensures n (omega arith);
+    }

@@ -15,13 +15,17 @@ loop-a-init c =
     (search rules, λ history tied all. (rw (c.none_yet-best.ensures, candidates_all _ history, all), λ lower h. absurd (omega arith)))
 
 pub returns-then-best-eq0 : goal.returns-then-best-eq0
-returns-then-best-eq0 c =
+returns-then-best-eq0 c history tied all =
     sym ((c.loop-a.invariant.1 history tied all).0 ∙ seek_idle _ _ _ (nought_settles _ c.loop-a.best _ c.if-best-eq0.true))
 
 pub best_with-best-requires : goal.best_with-best-requires
 best_with-best-requires c =
-    let low = c.requires.count_le_most_terms.1.0 c.loop-a.a c.loop-a-test.true in
-    (c.requires.held, ((omega arith, omega arith, omega arith, low), c.requires.count_le_most_terms.1.1))
+    let low = c.requires.by_index c.loop-a.a c.loop-a-test.true in
+    record {
+      held = c.requires.held;
+      count_le_most_terms = (omega arith, omega arith, omega arith, low);
+      odds_are = c.requires.odds_are;
+    }
 
 pub loop-a-preserved : goal.loop-a-preserved
 loop-a-preserved c =
@@ -49,7 +53,7 @@ loop-a-preserved c =
     )
 
 pub returns : goal.returns
-returns c =
+returns c history tied all =
     let args = c.args in
     sym
     ((c.loop-a.invariant.1 history tied all).0

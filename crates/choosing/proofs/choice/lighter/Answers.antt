@@ -6,8 +6,8 @@ use Rattle.choosing.proofs.choice.lighter.Goals as goal
 
 pub returns-then-weight-best : goal.returns-then-weight-best
 unfolding seek least lighter weighed
-returns-then-weight-best c = rw (e, lt-ltb _ _ c.if-weight-best.true)
+returns-then-weight-best c measure e = rw (e, lt-ltb _ _ c.if-weight-best.true)
 
 pub returns : goal.returns
 unfolding seek least lighter weighed
-returns c = rw (e, le-ltb _ _ c.if-weight-best.false)
+returns c measure e = rw (e, le-ltb _ _ c.if-weight-best.false)

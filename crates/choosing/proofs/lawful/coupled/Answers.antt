@@ -7,11 +7,11 @@ use Rattle.choosing.proofs.lawful.coupled.Goals as goal
 
 pub returns-then-not-marked : goal.returns-then-not-marked
 unfolding coupled
-returns-then-not-marked c = rw (sym (c.marked.ensures.by_index _ history within opens) ∙ c.if-not-marked.true)
+returns-then-not-marked c history within opens ends = rw (sym (c.marked.ensures.by_index _ history within opens) ∙ c.if-not-marked.true)
 
 pub returns-then-not-marked-2 : goal.returns-then-not-marked-2
 unfolding coupled
-returns-then-not-marked-2 c =
+returns-then-not-marked-2 c history within opens ends =
     rw (
       sym (c.marked.ensures.by_index _ history within opens) ∙ c.if-not-marked.false,
       sym (c.marked-2.ensures.by_index _ history within opens) ∙ c.if-not-marked-2.true,
@@ -19,7 +19,7 @@ returns-then-not-marked-2 c =
 
 pub returns-then-x-y : goal.returns-then-x-y
 unfolding coupled
-returns-then-x-y c =
+returns-then-x-y c history within opens ends =
     rw (
       sym (c.marked.ensures.by_index _ history within opens) ∙ c.if-not-marked.false,
       sym (c.marked-2.ensures.by_index _ history within opens) ∙ c.if-not-marked-2.false,
@@ -34,7 +34,7 @@ ends_paired-requires c =
 
 pub returns : goal.returns
 unfolding coupled
-returns c =
+returns c history within opens ends =
     rw (
       sym (c.marked.ensures.by_index _ history within opens) ∙ c.if-not-marked.false,
       sym (c.marked-2.ensures.by_index _ history within opens) ∙ c.if-not-marked-2.false,

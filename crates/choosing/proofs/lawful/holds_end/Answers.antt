@@ -6,7 +6,7 @@ use Rattle.history.specs.computed.Pairs.{holder}
 use Rattle.choosing.proofs.lawful.holds_end.Goals as goal
 
 pub returns : goal.returns
-returns c =
+returns c modes history ends holders =
     let args = c.args in
     let end = c.end_of-end in
     let is = end.ensures.1 ∙ ends args.a (omega arith) in

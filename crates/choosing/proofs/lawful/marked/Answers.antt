@@ -8,10 +8,11 @@ use Rattle.choosing.proofs.lawful.marked.Goals as goal
 pub returns-then-at-ge769 : goal.returns-then-at-ge769
 returns-then-at-ge769 c =
     let e = c.wide-at.ensures.0 in
-    let beyond : 769 ≤ c.args.entity = rw e at c.if-at-ge769.true in (
-      λ wrong. let z : ◌≡◌ {A = ℕ} 0 1 = cc in omega arith,
-      λ modes history within opens. sym (closed_beyond modes history c.args.entity (omega arith)),
-    )
+    let beyond : 769 ≤ c.args.entity = rw e at c.if-at-ge769.true in
+    record {
+      entity_lt_entity_room = λ wrong. let z : ◌≡◌ {A = ℕ} 0 1 = cc in omega arith;
+      by_index = λ modes history within opens. sym (closed_beyond modes history c.args.entity (omega arith));
+    }
 
 pub returns : goal.returns
 returns c =

@@ -6,7 +6,7 @@ use Rattle.choosing.proofs.Couples.{named_even, named_odd}
 use Rattle.choosing.proofs.lawful.name_pair.Goals as goal
 
 pub returns-then-end-eq0 : goal.returns-then-end-eq0
-returns-then-end-eq0 c =
+returns-then-end-eq0 c modes history ends holders =
     let a = c.args.a in
     let end = c.end_of-end.result in
     let e = c.end_of-end.ensures.1 ∙ ends a (omega arith) in
@@ -14,7 +14,7 @@ returns-then-end-eq0 c =
     (names.0, holders (end + 1) (omega arith) ∙ names.1)
 
 pub returns-else-end-eq0 : goal.returns-else-end-eq0
-returns-else-end-eq0 c =
+returns-else-end-eq0 c modes history ends holders =
     let a = c.args.a in
     let end = c.end_of-end.result in
     let e = c.end_of-end.ensures.1 ∙ ends a (omega arith) in

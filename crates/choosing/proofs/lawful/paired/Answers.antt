@@ -6,20 +6,20 @@ use Rattle.choosing.proofs.lawful.paired.Goals as goal
 
 pub returns-then-triple : goal.returns-then-triple
 unfolding paired
-returns-then-triple c = rw (eq-eqb _ _ c.if-triple.true)
+returns-then-triple c history ends = rw (eq-eqb _ _ c.if-triple.true)
 
 pub returns-then-triple-2 : goal.returns-then-triple-2
 unfolding paired
-returns-then-triple-2 c = rw (ne_eqb _ _ c.if-triple.false, eq-eqb _ _ c.if-triple-2.true)
+returns-then-triple-2 c history ends = rw (ne_eqb _ _ c.if-triple.false, eq-eqb _ _ c.if-triple-2.true)
 
 pub returns-then-triple-3 : goal.returns-then-triple-3
 unfolding paired
-returns-then-triple-3 c =
+returns-then-triple-3 c history ends =
     rw (ne_eqb _ _ c.if-triple.false, ne_eqb _ _ c.if-triple-2.false, eq-eqb _ _ c.if-triple-3.true)
 
 pub returns : goal.returns
 unfolding paired ends_pair
-returns c =
+returns c history ends =
     rw (
       ne_eqb _ _ c.if-triple.false,
       ne_eqb _ _ c.if-triple-2.false,

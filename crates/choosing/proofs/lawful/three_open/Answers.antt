@@ -7,22 +7,22 @@ use Rattle.choosing.proofs.lawful.three_open.Goals as goal
 
 pub returns-then-not-marked : goal.returns-then-not-marked
 unfolding three_open
-returns-then-not-marked c = (
-  λ wrong. let z : ◌≡◌ {A = ℕ} 0 1 = cc in omega arith,
-  λ modes history within opens.
-      rw (sym (c.marked.ensures.by_index modes history within opens) ∙ c.if-not-marked.true),
-)
+returns-then-not-marked c = record {
+  x_lt_entity_room = λ wrong. let z : ◌≡◌ {A = ℕ} 0 1 = cc in omega arith;
+  by_index = λ modes history within opens.
+      rw (sym (c.marked.ensures.by_index modes history within opens) ∙ c.if-not-marked.true);
+}
 
 pub returns-then-not-marked-2 : goal.returns-then-not-marked-2
 unfolding three_open
-returns-then-not-marked-2 c = (
-  λ wrong. let z : ◌≡◌ {A = ℕ} 0 1 = cc in omega arith,
-  λ modes history within opens.
+returns-then-not-marked-2 c = record {
+  x_lt_entity_room = λ wrong. let z : ◌≡◌ {A = ℕ} 0 1 = cc in omega arith;
+  by_index = λ modes history within opens.
       rw (
         sym (c.marked.ensures.by_index modes history within opens) ∙ c.if-not-marked.false,
         sym (c.marked-2.ensures.by_index modes history within opens) ∙ c.if-not-marked-2.true,
-      ),
-)
+      );
+}
 
 pub returns : goal.returns
 unfolding three_open
