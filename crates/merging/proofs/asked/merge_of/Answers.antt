@@ -7,7 +7,7 @@ use Rattle.merging.proofs.asked.merge_of.Goals as goal
 use Rattle.merging.proofs.asked.merge_of.Goals.{Start}
 
 in_tables : (c : Start) → c.args.step < 256
-in_tables c = step_in 769 256 c.requires.0 c.requires.1.0 c.args.t1 c.requires.1.1.0 c.args.step c.requires.1.1.1
+in_tables c = step_in 769 256 c.requires.0 c.requires.1.0 c.args.run c.requires.1.1.0 c.args.step c.requires.1.1.1
 
 pub offset_bounds-run-step : goal.offset_bounds-run-step
 offset_bounds-run-step c = omega (arith, in_tables (goal.at.offset_bounds-run-step c).Start)
@@ -31,4 +31,4 @@ pub returns : goal.returns
 unfolding merge_at
 returns c =
     let pre = c.requires in
-    merge_noted 769 256 pre.0 pre.1.0 c.args.t1 pre.1.1.0 c.args.step pre.1.1.1
+    merge_noted 769 256 pre.0 pre.1.0 c.args.run pre.1.1.0 c.args.step pre.1.1.1

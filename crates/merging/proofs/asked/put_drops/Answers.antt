@@ -17,7 +17,7 @@ put_front-requires c =
     omega (arith, size, length_recorded run.xs run.ys run.zs run.step, c.requires.1.1.1)
 
 pub returns : goal.returns
-returns c =
+returns c job rows holds =
     let args = c.args in
     c.put_front.ensures.to_after
     ∙ ap (λ l. written_at 0 l args.drops.now) (drops_noted 769 256 job rows args.run holds)

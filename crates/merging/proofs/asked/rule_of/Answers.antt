@@ -2,4 +2,4 @@
 use Rattle.merging.proofs.asked.rule_of.Goals as goal
 
 pub returns : goal.returns
-returns c = holds.rule_is
+returns c job rows holds = holds.rule_is

@@ -3,6 +3,6 @@ use Rattle.merging.specs.code.State.{history_of}
 use Rattle.merging.proofs.asked.three_open.Goals as goal
 
 pub returns : goal.returns
-returns c =
-    let run = c.args.t1 in
+returns c job rows holds =
+    let run = c.args.run in
     c.three_open.ensures.by_index job.modes (history_of run) holds.tied.within holds.tied.opens_are

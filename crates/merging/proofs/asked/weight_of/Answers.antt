@@ -5,6 +5,6 @@ use Rattle.merging.proofs.asked.weight_of.Goals as goal
 
 pub returns : goal.returns
 unfolding weight_in
-returns c =
+returns c job holds =
     let args = c.args in
     rw (← terms_are 769 256 job args.rows.now args.run holds) c.weight.ensures.0

@@ -9,7 +9,7 @@ use Rattle.merging.proofs.run.fresh.Goals as goal
 
 pub returns : goal.returns
 unfolding recorded
-returns c =
+returns c numbers rows spread =
     let opens = c.leaves-opens.ensures in
     let ends = c.identity-ends.ensures in
     let holders = c.identity-holders.ensures in (

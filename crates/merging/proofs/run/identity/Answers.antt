@@ -1,6 +1,5 @@
 -- The entries written so far are those of the rule.
-use mathlib.Core.Path.{◌≡◌}
-use Prim.Native.Nat.{◌-◌}
+use mathlib.Core.Path.{◌≡◌, refl}
 use native.Mathlib.Nat.{zero-add}
 use native.Mathlib.Omega.{arith}
 use lib.ListN.{length-set}
@@ -8,6 +7,10 @@ use Rattle.lists.specs.Ranges.{listed}
 use Rattle.lists.proofs.Writes.{written_next, all_of}
 use Rattle.lists.proofs.Listed.{listed_more}
 use Rattle.merging.proofs.run.identity.Goals as goal
+
+pub loop-at-init : goal.loop-at-init
+unfolding listed
+loop-at-init c = (omega arith, refl, refl)
 
 pub loop-at-preserved : goal.loop-at-preserved
 loop-at-preserved c =

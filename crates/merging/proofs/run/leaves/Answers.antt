@@ -1,9 +1,14 @@
 -- Open up to the last leaf, closed from there on.
-use Prim.Native.Nat.{◌-◌}
+use mathlib.Core.Path.{refl}
 use native.Mathlib.Omega.{arith}
 use lib.ListN.{length-set}
+use Rattle.lists.specs.Ranges.{listed}
 use Rattle.merging.proofs.FirstOpen.{opened_next, closed_next, leaves_open}
 use Rattle.merging.proofs.run.leaves.Goals as goal
+
+pub loop-leaf-init : goal.loop-leaf-init
+unfolding listed
+loop-leaf-init c = (omega arith, refl, refl, refl)
 
 pub loop-leaf-preserved : goal.loop-leaf-preserved
 loop-leaf-preserved c =

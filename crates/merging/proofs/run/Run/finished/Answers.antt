@@ -1,6 +1,6 @@
 -- A step more leads to the same end.
 use mathlib.Core.Path.{◌≡◌, refl, ap, ◌∙◌}
-use Prim.Native.Nat.{◌-◌, ◌<◌, ◌≤◌}
+use Prim.Native.Nat.{◌<◌, ◌≤◌}
 use native.Mathlib.Omega.{arith}
 use lib.ListN.{length}
 use Rattle.merging.specs.declared.run.Run.{Run}
@@ -20,7 +20,7 @@ loop-run-init c =
 pub stepped-run-requires : goal.stepped-run-requires
 stepped-run-requires c =
     let pre = c.requires in
-    ((pre.0, (c.loop-run.invariant.1 pre.0 pre.1).0.holds), c.loop-run-test.true)
+    record { holds = (pre.0, (c.loop-run.invariant.1 pre.0 pre.1).0.holds); step_lt_modes = c.loop-run-test.true }
 
 pub loop-run-smaller : goal.loop-run-smaller
 loop-run-smaller c =
@@ -53,7 +53,7 @@ pub shape_of-rows : goal.shape_of-rows
 shape_of-rows c = c.loop-run.invariant.0
 
 pub returns : goal.returns
-returns c =
+returns c job holds =
     let run = c.loop-run.run in
     let so_far = c.loop-run.invariant.1 job holds in
     let left = c.loop-run-test.false in

@@ -8,7 +8,10 @@ use Rattle.merging.proofs.run.Run.merged.Goals as goal
 pub reduce_hamiltonian-dropped-requires : goal.reduce_hamiltonian-dropped-requires
 reduce_hamiltonian-dropped-requires c =
     let holds = c.requires.1.holds in
-    (rows_worked 769 256 c.requires.0 c.args.rows.now c.args.self holds, omega (arith, holds.light, holds.count_is))
+    record {
+      worked = rows_worked 769 256 c.requires.0 c.args.rows.now c.args.self holds;
+      count_le_most_terms = omega (arith, holds.light, holds.count_is);
+    }
 
 pub overflow_add-sum : goal.overflow_add-sum
 overflow_add-sum c =
@@ -38,7 +41,7 @@ entities_merged-requires c =
     }
 
 pub returns : goal.returns
-returns c =
+returns c job ready =
     let args = c.args in
     let merged = c.entities_merged.ensures in
     let noted = c.noted-next.ensures in

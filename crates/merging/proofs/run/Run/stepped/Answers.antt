@@ -15,7 +15,7 @@ use Rattle.merging.proofs.run.Run.stepped.Goals as goal
 use Rattle.merging.proofs.run.Run.stepped.Goals.{After-merged-arg-1}
 
 abbrev run_of : After-merged-arg-1 → Run
-run_of c = c.args.t1
+run_of c = c.args.self
 
 abbrev rows_of : After-merged-arg-1 → List ℕ
 rows_of c = c.args.rows.now
@@ -47,25 +47,24 @@ ready-best c job holds =
 pub put_live-kept-requires : goal.put_live-kept-requires
 put_live-kept-requires c =
     let holds = c.requires.holds.1 in
-    (holds.held, omega (arith, holds.light, holds.count_is))
+    record { held = holds.held; count_in_bounds = omega (arith, holds.light, holds.count_is) }
 
 pub choose-best-requires : goal.choose-best-requires
 choose-best-requires c =
     let holds = c.requires.holds.1 in
-    let run = c.args.t1 in
+    let run = c.args.self in
     let there = c.put_live-kept.ensures in
     let next = c.parent_number-next.ensures in
-    let low = ends_low 769 256 c.requires.holds.0 c.args.rows.now run holds in (
-      there.held,
-      (
-        (
-          omega (arith, there.at_most, holds.light, holds.count_is),
-          omega (arith, holds.few, holds.modes_are),
-          omega (arith, holds.few, holds.modes_are, next, c.requires.step_lt_modes),
-        ),
-        λ entity h. omega (arith, low entity (omega (arith, next)), holds.few),
-      ),
-    )
+    let low = ends_low 769 256 c.requires.holds.0 c.args.rows.now run holds in
+    record {
+      held = there.held;
+      count_le_most_terms = (
+        omega (arith, there.at_most, holds.light, holds.count_is),
+        omega (arith, holds.few, holds.modes_are),
+        omega (arith, holds.few, holds.modes_are, next, c.requires.step_lt_modes),
+      );
+      by_index = λ entity h. omega (arith, low entity (omega (arith, next)), holds.few);
+    }
 
 pub merged-requires : goal.merged-requires
 merged-requires c =
@@ -73,11 +72,11 @@ merged-requires c =
 
 pub returns : goal.returns
 unfolding weighed
-returns c =
+returns c job holds =
     let run = run_of (goal.at.returns c).After-merged-arg-1 in
     let rows = rows_of (goal.at.returns c).After-merged-arg-1 in
     let triple-is : c.choose-best.result.triple ≡ chosen job (history_of run) =
     ap (λ b. b.triple)
     (best_found (goal.at.returns c).After-merged-arg-1 job holds
     ∙ best_is 769 256 job rows run holds (gathered-of (goal.at.returns c).After-merged-arg-1) (kept_of (goal.at.returns c).After-merged-arg-1) c.put_live-kept.ensures (left_in (goal.at.returns c).After-merged-arg-1 job holds)) in
-    rw triple-is c (c.merged.ensures job (ready-best (goal.at.returns c).After-merged-arg-1 job holds))
+    rw triple-is at (c.merged.ensures job (ready-best (goal.at.returns c).After-merged-arg-1 job holds))
