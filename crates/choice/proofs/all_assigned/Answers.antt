@@ -1,7 +1,6 @@
 -- The modes ahead that no pair has are all of them.
 use mathlib.Core.Path.{refl, ap, ◌∙◌, sym}
 use mathlib.Core.Bool.{not}
-use Prim.Native.Nat.{◌-◌}
 use native.Mathlib.Nat.{sub-zero}
 use native.Mathlib.Omega.{arith}
 use borrow.Author.Tests.{ne_eqb}

@@ -9,7 +9,7 @@ use Rattle.choice.proofs.best_of_couple.Goals as goal
 
 pub returns : goal.returns
 unfolding with_z number_leaf
-returns c =
+returns c rows weighed =
     let args = c.args in
     let even : c.leaf_of.result ≡ 2 * args.mode = omega (arith, c.leaf_of.ensures) in
     let odd : c.leaf_of-2.result ≡ 2 * args.mode + 1 = omega (arith, c.leaf_of-2.ensures) in

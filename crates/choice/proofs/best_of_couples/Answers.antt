@@ -1,7 +1,7 @@
 -- The choices with the modes still to come give the answer.
 use mathlib.Core.List.{List, [], ◌∷◌, flat_map}
 use mathlib.Core.Path.{◌∙◌, sym, ap}
-use Prim.Native.Nat.{ℕ, ◌+◌, ◌-◌}
+use Prim.Native.Nat.{ℕ, ◌+◌}
 use native.Mathlib.Omega.{arith}
 use lib.ListN.{drop, get_or}
 use Rattle.lists.proofs.Every.{below_at}
@@ -36,6 +36,6 @@ loop-at-preserved c =
     )
 
 pub returns : goal.returns
-returns c =
+returns c rows weighed =
     let args = c.args in
     sym (c.loop-at.invariant.1 rows weighed ∙ rw (joined_end _ args.free.now c.loop-at.at (omega arith)) (sought_none _ _ _))

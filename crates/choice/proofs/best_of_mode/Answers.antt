@@ -17,7 +17,7 @@ reached c = omega (arith, c.wide-at.ensures.0, c.leaf_of.ensures)
 
 pub returns-then-mode-pair : goal.returns-then-mode-pair
 unfolding with_z
-returns-then-mode-pair c = rw (without_this _ _ c.if-mode-pair.true) (sym (sought_none _ _ _))
+returns-then-mode-pair c rows looked = rw (without_this _ _ c.if-mode-pair.true) (sym (sought_none _ _ _))
 
 pub bounds-odds-at : goal.bounds-odds-at
 bounds-odds-at c = let low = reached (goal.at.bounds-odds-at c).After-wide-at in omega arith
@@ -32,7 +32,7 @@ overflow_sub-weight c =
 
 pub returns : goal.returns
 unfolding with_z
-returns c =
+returns c rows looked =
     let args = c.args in
     let leaf = c.leaf_of.result in
     let is = c.wide-at.ensures.0 in

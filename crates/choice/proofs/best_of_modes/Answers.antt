@@ -1,7 +1,7 @@
 -- The choices with the modes still to come give the answer.
 use mathlib.Core.List.{map}
 use mathlib.Core.Path.{◌∙◌, sym, ap}
-use Prim.Native.Nat.{◌+◌, ◌-◌}
+use Prim.Native.Nat.{◌+◌}
 use native.Mathlib.Omega.{arith}
 use lib.ListN.{drop, drop_of_length-le}
 use Rattle.lists.specs.Members.{keep}
@@ -14,8 +14,8 @@ use Rattle.choice.proofs.best_of_modes.Goals as goal
 
 pub best_of_mode-best-requires : goal.best_of_mode-best-requires
 best_of_mode-best-requires c =
-    let low = below_at c.args.modes c.args.free.now c.loop-at.at 0 (omega arith) c.requires.all_le_most_terms.1 in
-    (c.requires.by_index, (omega arith, omega arith, low, omega arith, omega arith))
+    let low = below_at c.args.modes c.args.free.now c.loop-at.at 0 (omega arith) c.requires.free_value in
+    record { by_index = c.requires.by_index; all_le_most_terms = (omega arith, omega arith, low, omega arith, omega arith) }
 
 pub loop-at-preserved : goal.loop-at-preserved
 loop-at-preserved c =
@@ -29,6 +29,6 @@ loop-at-preserved c =
 
 pub returns : goal.returns
 unfolding with_z without keep
-returns c =
+returns c rows looked =
     let args = c.args in
     sym (c.loop-at.invariant.1 rows looked ∙ rw (drop_of_length-le args.free.now {i = c.loop-at.at} (omega arith)) (sought_none _ _ _))

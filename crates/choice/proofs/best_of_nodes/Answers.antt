@@ -1,6 +1,6 @@
 -- The choices of the nodes still to come give the answer.
 use mathlib.Core.Path.{◌∙◌, sym, ap, refl}
-use Prim.Native.Nat.{◌+◌, ◌-◌}
+use Prim.Native.Nat.{◌+◌}
 use native.Mathlib.Omega.{arith}
 use lib.ListN.{drop, drop_of_length-le}
 use Rattle.lists.proofs.Every.{below_at}
@@ -15,8 +15,8 @@ loop-at-init c = (omega arith, refl)
 
 pub best_at-best-requires : goal.best_at-best-requires
 best_at-best-requires c =
-    let low = below_at c.args.modes c.args.active.now c.loop-at.at 0 (omega arith) c.requires.count_le_most_terms.1.1 in
-    (c.requires.counted, ((omega arith, omega arith, omega arith, omega arith, low), c.requires.count_le_most_terms.1.0))
+    let low = below_at c.args.modes c.args.active.now c.loop-at.at 0 (omega arith) c.requires.active_value in
+    record { counted = c.requires.counted; count_le_most_terms = (omega arith, omega arith, omega arith, omega arith, low); free_value = c.requires.free_value }
 
 pub loop-at-preserved : goal.loop-at-preserved
 loop-at-preserved c =

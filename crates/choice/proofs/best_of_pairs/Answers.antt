@@ -1,7 +1,7 @@
 -- The choices with the pair's modes still to come give the answer.
 use mathlib.Core.List.{List, flat_map}
 use mathlib.Core.Path.{◌∙◌, sym, ap}
-use Prim.Native.Nat.{ℕ, ◌+◌, ◌-◌}
+use Prim.Native.Nat.{ℕ, ◌+◌}
 use native.Mathlib.Omega.{arith}
 use lib.ListN.{drop, get_or}
 use Rattle.lists.proofs.Every.{below_at}
@@ -17,8 +17,8 @@ use Rattle.choice.proofs.best_of_pairs.Goals as goal
 
 pub best_of_leaves-best-requires : goal.best_of_leaves-best-requires
 best_of_leaves-best-requires c =
-    let low = below_at c.args.modes c.args.free.now c.loop-at.at 0 (omega arith) c.requires.count_le_most_terms.1.1 in
-    (c.requires.counted, ((omega arith, omega arith, low), (c.requires.count_le_most_terms.1.0, c.requires.count_le_most_terms.1.1)))
+    let low = below_at c.args.modes c.args.free.now c.loop-at.at 0 (omega arith) c.requires.free_value in
+    record { counted = c.requires.counted; count_le_most_terms = (omega arith, omega arith, low); modes_bound = c.requires.modes_bound; free_value = c.requires.free_value }
 
 pub loop-at-preserved : goal.loop-at-preserved
 loop-at-preserved c =

@@ -17,7 +17,7 @@ slice_bounds-best_beside-end c =
 
 pub best_beside-requires : goal.best_beside-requires
 best_beside-requires c =
-    (c.requires.counted.held, ((omega arith, omega arith, room c.args.modes (omega arith), omega arith, omega arith), c.requires.count_le_most_terms.1.1))
+    record { held = c.requires.counted.held; count_le_most_terms = (omega arith, omega arith, room c.args.modes (omega arith), omega arith, omega arith); free_value = c.requires.free_value }
 
 pub returns-then-slots : goal.returns-then-slots
 unfolding numbered

@@ -6,6 +6,6 @@ use Rattle.choice.proofs.better_of.Goals as goal
 
 pub returns : goal.returns
 unfolding weighed
-returns c =
+returns c rows e =
     let args = c.args in
     rw e at c.combine.ensures ∙ sym (sought_one rows args.node args.best args.triple)

@@ -1,5 +1,4 @@
 -- The modes gathered and those ahead are all that no pair has.
-use Prim.Native.Nat.{◌-◌}
 use native.Mathlib.Nat.{sub-zero}
 use native.Mathlib.Omega.{arith}
 use lib.ListN.{take}
