@@ -13,5 +13,5 @@ returns c =
     let x = c.code in
     let wide = c.wide-at in
     let args = c.args in
-    rw (recorded_merge args.xs.now args.ys.now args.zs.now args.modes args.label (omega arith), ← c.requires.modes_in_bounds.1)
+    rw (recorded_merge args.xs.now args.ys.now args.zs.now args.modes args.label (omega arith), ← c.requires.end_value)
     (rw (x.ensures, y.ensures, z.ensures, wide.ensures.0))

@@ -22,7 +22,7 @@ all_noted run modes same all =
 pub write_rows-requires : goal.write_rows-requires
 unfolding absent_leaf
 write_rows-requires c =
-    let run = c.args.t1 in
+    let run = c.args.run in
     let holds = c.requires.1.1.0 in
     let few = holds.few in
     let same = holds.modes_are in
@@ -33,12 +33,15 @@ write_rows-requires c =
     omega (arith, length_recorded run.xs run.ys run.zs run.modes) in
     let lawful : LawfulHistory run.modes merges = rw (noted, ← same) at holds.lawful in
     let end : get_or run.ends (3 * run.modes) 0 ≡ z_end run.modes merges (2 * run.modes + length merges) =
-    rw root (rw (noted, ← same) at (holds.tied.ends_are (3 * run.modes) (omega arith))) in (
-      (omega (arith, holds.some), omega arith, omega (arith, c.requires.1.1.2)),
-      ((omega (arith, rest.xs), omega (arith, rest.ys), omega (arith, rest.zs)), (lawful, end)),
-    )
+    rw root (rw (noted, ← same) at (holds.tied.ends_are (3 * run.modes) (omega arith))) in
+    record {
+      le_modes = (omega (arith, holds.some), omega arith, omega (arith, c.requires.1.1.2));
+      modes_in_bounds = (omega (arith, rest.xs), omega (arith, rest.ys), omega (arith, rest.zs));
+      lawful_history = lawful;
+      end_value = end;
+    }
 
 pub returns : goal.returns
-returns c =
+returns c job own holds =
     let given = c.requires.1.1 in
-    rw (← holds.modes_are, all_noted c.args.t1 _ given.0.modes_are given.1) c.write_rows.ensures
+    rw (← holds.modes_are, all_noted c.args.run _ given.0.modes_are given.1) c.write_rows.ensures

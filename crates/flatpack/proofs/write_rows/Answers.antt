@@ -1,6 +1,6 @@
 -- The labels in front are the nodes met so far; those passed have their rows, and at the end they are all.
 use mathlib.Core.Path.{refl, sym, ◌∙◌}
-use Prim.Native.Nat.{◌≤◌, ◌<◌, ◌-◌}
+use Prim.Native.Nat.{◌≤◌, ◌<◌}
 use native.Mathlib.Omega.{arith}
 use lib.ListN.{length, get_or}
 use lib.Seq.{get_or-take, length-take-le}
@@ -19,9 +19,9 @@ next c =
     let args = c.args in
     let all = length_recorded args.xs.now args.ys.now args.zs.now args.modes in
     let room : loop.tail ≤ length loop.labels = omega arith in
-    let some = waiting _ _ _ _ _ _ loop.invariant.2 c.loop-head-test.true c.requires.modes_in_bounds.1.0 all (omega arith) in
+    let some = waiting _ _ _ _ _ _ loop.invariant.2 c.loop-head-test.true c.requires.lawful_history all (omega arith) in
     let ahead : loop.head < loop.tail = omega (arith, some, length-take-le loop.tail loop.labels room) in
-    let node = next_node _ _ _ _ _ _ loop.invariant.2 c.loop-head-test.true c.requires.modes_in_bounds.1.0 all (omega arith) in
+    let node = next_node _ _ _ _ _ _ loop.invariant.2 c.loop-head-test.true c.requires.lawful_history all (omega arith) in
     (ahead, rw (get_or-take loop.tail loop.labels loop.head 0 ahead) at node)
 
 pub loop-head-init : goal.loop-head-init
@@ -31,7 +31,11 @@ loop-head-init c =
 
 pub children-codes-requires : goal.children-codes-requires
 children-codes-requires c =
-    ((c.requires.le_modes.1, (next (goal.at.children-codes-requires c).In-loop-head).1), (c.requires.modes_in_bounds.0, c.requires.modes_in_bounds.1.1))
+    record {
+      modes_le_most_modes = (c.requires.le_modes.1, (next (goal.at.children-codes-requires c).In-loop-head).1);
+      modes_in_bounds = c.requires.modes_in_bounds;
+      end_value = c.requires.end_value;
+    }
 
 pub put_row-requires : goal.put_row-requires
 put_row-requires c =
@@ -53,7 +57,7 @@ loop-head-preserved c =
     let codes = c.children-codes in (
       queue.auto.labels ∙ loop.invariant.0,
       omega (arith, queue.ensures.1, loop.invariant.1),
-      walking_on _ _ _ _ _ _ loop.invariant.2 c.loop-head-test.true c.requires.modes_in_bounds.1.0
+      walking_on _ _ _ _ _ _ loop.invariant.2 c.loop-head-test.true c.requires.lawful_history
           (length_recorded args.xs.now args.ys.now args.zs.now args.modes) (omega arith)
           _ _ _ _ (get_or-take loop.tail loop.labels loop.head 0 (next (goal.at.loop-head-preserved c).In-loop-head).0) codes.ensures put.ensures queue.ensures.2,
     )
