@@ -1,3 +1,2 @@
 // No code: words about lists that several crates' definitions use, and the laws of those words.
 #![tactic(auto)]
-

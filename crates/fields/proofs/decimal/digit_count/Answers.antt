@@ -1,5 +1,4 @@
 -- So many digits are passed, and those of what is left are as many as are still to be counted.
-use Prim.Native.Nat.{◌-◌}
 use native.Mathlib.Omega.{arith}
 use Rattle.fields.proofs.Digits.{counting_starts, counting_ends, counting_goes, counting_full}
 use Rattle.fields.proofs.decimal.digit_count.Goals as goal

@@ -1,6 +1,5 @@
 -- What is kept of what is ahead, behind the bytes that are passed, is what is kept of all.
 use mathlib.Core.Path.{◌∙◌, sym, ap}
-use Prim.Native.Nat.{◌-◌}
 use native.Mathlib.Omega.{arith}
 use lib.ListN.{length}
 use Rattle.fields.proofs.LineSteps.{kept_none, kept_more}

@@ -1,6 +1,5 @@
 -- The lines ahead, with those that are passed, are all.
 use mathlib.Core.Path.{ap}
-use Prim.Native.Nat.{◌-◌}
 use native.Mathlib.Omega.{arith}
 use lib.ListN.{length}
 use Rattle.fields.proofs.LineSteps.{lines_none, lines_next}

@@ -1,6 +1,5 @@
 -- The line that is begun and what is ahead have the same lines as the whole; the LF ends the line, and without one there is none.
 use mathlib.Core.Path.{◌∙◌}
-use Prim.Native.Nat.{◌-◌}
 use native.Mathlib.Omega.{arith}
 use borrow.Author.Rules.{rules}
 use Rattle.fields.proofs.LineSteps.{scan_starts, scan_passes, scan_found, scan_ends}

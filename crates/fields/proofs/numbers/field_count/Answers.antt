@@ -1,5 +1,4 @@
 -- The tabs passed and the fields ahead are the fields of all.
-use Prim.Native.Nat.{◌-◌}
 use native.Mathlib.Omega.{arith}
 use Rattle.fields.proofs.FieldsCounted.{tab_passed, tabs_end}
 use Rattle.fields.proofs.numbers.field_count.Goals as goal

@@ -1,6 +1,5 @@
 -- What was read and what is left give the answer: each way out of a turn is one law of the record of numbers read.
 use mathlib.Core.Path.{sym, ◌∙◌}
-use Prim.Native.Nat.{◌-◌}
 use native.Mathlib.Omega.{arith}
 use lib.ListN.{length, length-set}
 use Rattle.fields.specs.Decimal.{is_number, value}

@@ -1,5 +1,4 @@
 -- The bytes passed are written, one behind the other.
-use Prim.Native.Nat.{◌-◌}
 use native.Mathlib.Omega.{arith}
 use Rattle.fields.proofs.PuttingBytes.{bytes_start, bytes_go, bytes_end}
 use Rattle.fields.proofs.parts.put_bytes.Goals as goal

@@ -1,6 +1,5 @@
 -- Lists of different lengths are not alike; of equal ones, what is left to compare gives the answer.
 use mathlib.Core.Path.{sym, ◌∙◌}
-use Prim.Native.Nat.{◌-◌}
 use native.Mathlib.Omega.{arith}
 use Rattle.lists.proofs.Alike.{alike_lengths}
 use Rattle.lists.proofs.Steps.{alike_passes, alike_stops, alike_ends}

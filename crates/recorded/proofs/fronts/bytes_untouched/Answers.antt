@@ -1,5 +1,4 @@
 -- Each turn looks at one byte more.
-use Prim.Native.Nat.{◌-◌}
 use Rattle.recorded.proofs.fronts.bytes_untouched.Goals as goal
 
 pub returns-then-bytes-at-ne-UNTOUCHED_BYTE : goal.returns-then-bytes-at-ne-UNTOUCHED_BYTE

@@ -1,6 +1,6 @@
 -- What is left to test gives the answer: the loop passes an index that neither descends nor reaches the bound, and stops at any other.
 use mathlib.Core.Path.{sym, ◌∙◌}
-use Prim.Native.Nat.{◌-◌, ◌*◌}
+use Prim.Native.Nat.{◌*◌}
 use native.Mathlib.Omega.{arith}
 use borrow.Author.Rules.{rules}
 use Rattle.terms.proofs.GoodSteps.{good_starts, good_passes, good_descends, good_beyond, good_ends}

@@ -4,7 +4,6 @@ use Prim.Native.Nat.{◌*◌, ◌+◌}
 use native.Mathlib.Numerals.{add-one}
 use native.Mathlib.Omega.{arith}
 use Rattle.lists.proofs.Steps.{part_to_end}
-use Rattle.terms.specs.Good.{good_indices}
 use Rattle.terms.proofs.GoodSteps.{row_empty, row_long, row_indices, row_zeros}
 use Rattle.terms.proofs.checking.good_row.Goals as goal
 

@@ -1,6 +1,6 @@
 -- The good rows passed and those ahead are all the good ones: the loop passes a good row, and stops at the first bad one.
 use mathlib.Core.Path.{◌∙◌, sym, ap}
-use Prim.Native.Nat.{◌-◌, ◌*◌}
+use Prim.Native.Nat.{◌*◌}
 use native.Mathlib.Omega.{arith}
 use borrow.Author.Rules.{rules}
 use lib.ListN.{length}

@@ -1,6 +1,5 @@
 -- The rows passed are work rows, and what stands behind them is as it was.
 use mathlib.Core.Path.{◌≡◌}
-use Prim.Native.Nat.{◌-◌}
 use native.Mathlib.Omega.{arith}
 use Rattle.terms.proofs.CountedRows.{spreading_starts, here_room, next_room, spreading_on}
 use Rattle.terms.proofs.counted.put_each_once.Goals as goal

@@ -1,5 +1,4 @@
 -- The parity so far and that of what is ahead give the whole.
-use Prim.Native.Nat.{◌-◌}
 use native.Mathlib.Omega.{arith}
 use Rattle.lists.proofs.Steps.{occurrences_step, occurrences_end}
 use Rattle.terms.proofs.weight.odd_in.Goals as goal

@@ -1,11 +1,10 @@
 -- Each count and what is ahead of it make all the occurrences; at the end the three counts decide the letter.
 use mathlib.Core.Path.{◌≡◌}
-use Prim.Native.Nat.{◌<◌, ◌≤◌, ◌-◌}
+use Prim.Native.Nat.{◌<◌, ◌≤◌}
 use native.Mathlib.Omega.{arith}
 use lib.ListN.{length}
 use Rattle.lists.specs.Counting.{occurrences}
 use Rattle.lists.proofs.Steps.{occurrences_step, occurrences_end}
-use Rattle.terms.specs.Letters.{counted_letter}
 use Rattle.terms.specs.Weight.{term_letter}
 use Rattle.terms.proofs.weight.qubit_term_weight.Goals as goal
 
