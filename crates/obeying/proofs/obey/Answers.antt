@@ -9,7 +9,7 @@ use Rattle.obeying.proofs.JournalObeyed.{text_begins, nothing_to_obey, header_re
 use Rattle.obeying.proofs.obey.Goals as goal
 
 pub returns-then-end-eq0 : goal.returns-then-end-eq0
-returns-then-end-eq0 c =
+returns-then-end-eq0 c numbers spread =
     let args = c.args in
     let rows = args.rows.now in
     let read = args.read.now in
@@ -24,7 +24,7 @@ slice_bounds-obey_header-end c =
     sym (length-take-le end.result c.args.read.now end.ensures.1)
 
 pub returns-in-Refused : goal.returns-in-Refused
-returns-in-Refused c =
+returns-in-Refused c numbers spread =
     let args = c.args in
     let rows = args.rows.now in
     let read = args.read.now in
@@ -48,7 +48,7 @@ obey_lines-requires c =
     }
 
 pub returns : goal.returns
-returns c =
+returns c numbers spread =
     let args = c.args in
     let rows = args.rows.now in
     let read = args.read.now in

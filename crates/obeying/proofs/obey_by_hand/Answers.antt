@@ -17,7 +17,7 @@ obey_lines-requires c =
 
 pub returns : goal.returns
 unfolding obeyed_by_hand
-returns c =
+returns c numbers spread =
     let args = c.args in
     let rows = args.rows.now in
     let first = c.fresh.ensures numbers rows spread in

@@ -12,7 +12,7 @@ merged-requires c =
     (job, rw c.wide.ensures.0 (line_ready job args.rows.now args.run holds args.by_hand args.bytes.now _ judged))
 
 pub returns-in-Obey : goal.returns-in-Obey
-returns-in-Obey c =
+returns-in-Obey c job holds same =
     let args = c.args in
     let rows = args.rows.now in
     let judged = sym c.in-Obey.is ∙ c.judge_line.ensures job holds same in
@@ -22,7 +22,7 @@ returns-in-Obey c =
     (merged.ensures job (rw c.wide.ensures.0 ready))
 
 pub returns-in-Refused : goal.returns-in-Refused
-returns-in-Refused c =
+returns-in-Refused c job holds same =
     let args = c.args in
     let judged = sym c.in-Refused.is ∙ c.judge_line.ensures job holds same in
     line_refused job args.rows.now args.run holds args.by_hand args.bytes.now _ judged

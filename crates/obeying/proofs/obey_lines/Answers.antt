@@ -1,6 +1,5 @@
 -- What the lines ahead come to stays the answer; each line that is fine takes one from them.
 use mathlib.Core.Path.{refl, ◌∙◌}
-use Prim.Native.Nat.{◌-◌}
 use native.Mathlib.Omega.{arith}
 use Rattle.fields.proofs.LineSteps.{lines_none, lines_next}
 use Rattle.obeying.proofs.LinesObeyed.{along_starts, along_ends, along_goes, along_stops}
@@ -15,7 +14,7 @@ loop-at-init c =
     )
 
 pub returns-then-end-at : goal.returns-then-end-at
-returns-then-end-at c =
+returns-then-end-at c job holds same =
     let rows = c.args.rows.now in
     let read = c.args.read.now in
     let end = c.line_end-end in
@@ -26,10 +25,10 @@ returns-then-end-at c =
 pub obey_line-next-requires : goal.obey_line-next-requires
 obey_line-next-requires c =
     let pre = c.requires in
-    (pre.0.0, ((c.loop-at.invariant.2 pre.0.0 pre.0.1.0 pre.0.1.1).so_far.holds, pre.0.1.1))
+    (pre.holds.0, ((c.loop-at.invariant.2 pre.holds.0 pre.holds.1.0 pre.holds.1.1).so_far.holds, pre.holds.1.1))
 
 pub returns-in-Refused : goal.returns-in-Refused
-returns-in-Refused c =
+returns-in-Refused c job holds same =
     let rows = c.args.rows.now in
     let read = c.args.read.now in
     let end = c.line_end-end in

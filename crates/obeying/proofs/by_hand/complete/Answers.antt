@@ -17,4 +17,4 @@ overflow_cast-result-2 c =
     omega (arith, weight_in_most job (history_of c.args.run) c.args.triple, holds.light, c.weight_of.ensures job holds)
 
 pub returns : goal.returns
-returns c = rw (c.merges.ensures, c.weight_of.ensures job holds)
+returns c job holds = rw (c.merges.ensures, c.weight_of.ensures job holds)

@@ -7,14 +7,14 @@ use Rattle.obeying.proofs.LineSaid.{hand_broken, hand_said}
 use Rattle.obeying.proofs.by_hand.read_by_hand.Goals as goal
 
 pub returns-then-not-read_line : goal.returns-then-not-read_line
-returns-then-not-read_line c =
+returns-then-not-read_line c job holds =
     let args = c.args in
     let line = args.line.now in
     let read = plain_read line 3 _ _ c.read_line.ensures in
     sym (hand_broken job (history_of args.run) line (sym read.good ∙ c.if-not-read_line.true))
 
 pub returns : goal.returns
-returns c =
+returns c job holds =
     let args = c.args in
     let line = args.line.now in
     let read = plain_read line 3 _ _ c.read_line.ensures in

@@ -15,7 +15,7 @@ one_left : (c : Else-modes-merges) (job : Job) → job.modes ≡ c.args.modes
 one_left c job same = omega (arith, same, c.if-modes-merges.false, c.merges.ensures)
 
 pub returns-then-modes-merges : goal.returns-then-modes-merges
-returns-then-modes-merges c =
+returns-then-modes-merges c job holds same =
     let args = c.args in
     let none_left : job.modes ≤ length (history_of args.run) = omega (arith, c.if-modes-merges.true, c.merges.ensures) in
     rw c.line_after-line.ensures (after_last args.by_hand job (history_of args.run) args.bytes.now none_left)
@@ -28,14 +28,14 @@ judge_merge-requires c =
     }
 
 pub returns-in-Is : goal.returns-in-Is
-returns-in-Is c =
+returns-in-Is c job holds same =
     let args = c.args in
     c.judge_merge.ensures job holds
     ∙ line_says args.by_hand job (history_of args.run) args.bytes.now (one_left (goal.at.returns-in-Is c).Else-modes-merges job same) _
     (sym (c.read_said.ensures job holds) ∙ c.in-Is.is)
 
 pub returns-in-Broken : goal.returns-in-Broken
-returns-in-Broken c =
+returns-in-Broken c job holds same =
     let args = c.args in
     rw c.line_after-line.ensures
     (line_broken args.by_hand job (history_of args.run) args.bytes.now (one_left (goal.at.returns-in-Broken c).Else-modes-merges job same)
