@@ -6,6 +6,7 @@ use mathlib.Core.List.{List, [], ◌∷◌, ◌++◌}
 use Prim.Native.Nat.{ℕ, zero, suc, ◌+◌, ◌-◌, ◌*◌, ◌<◌, ◌≤◌}
 use native.Mathlib.Numerals.{add-one}
 use native.Mathlib.Omega.{arith}
+use borrow.Author.Rules.{rules}
 use types.Run.{OneOf}
 use denote.Enum.Declared.{tag_of}
 use borrow.Author.Tests.{eq-eqb, ne_eqb, lt-ltb, le-ltb}
@@ -162,6 +163,12 @@ module _ {whole : Reading} {text numbers : List ℕ} {below : ℕ} {r : Part} {n
         → (whole ≡ next name (take (4 * closed) numbers) end) × ((end ≤ length text) × (closed ≤ below))
     unfolding meant follows end_of closed_of
     goes_behind e = (o.comes ∙ rw e, (rw e at o.within, rw e at o.few))
+
+-- What is no child is one of the other two.
+pub no_child : (r : Part) → ((name end closed : ℕ) → r ≡ Child name end closed → ⊥) → OneOf (1 ∷ (2 ∷ [])) (tag_of the_type r)
+no_child (Child name end closed) h = absurd (h name end closed refl)
+no_child (Stuck place) h = search rules
+no_child (Crowded place) h = search rules
 
 -- What a part that was read says of the reading.
 module _ {reading : Reading} {text numbers : List ℕ} {height : ℕ} {r : Part} (reads : Reads reading text numbers height r) where

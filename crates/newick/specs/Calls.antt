@@ -1,6 +1,6 @@
 -- "reading gives 19 …, or 1 at a 257th `(` if that stands first; then 15, …, 16, and 5 where the table is below 3n; writing gives 1, 13 to
 -- 16, then 5 where the text's exact length doesn't fit."
-use Rattle.std.specs.Prelude.{cond, List, [], ◌∷◌, map, ℕ, ◌*◌, leb, length}
+use Rattle.std.specs.Prelude.{cond, List, [], ◌∷◌, map, ℕ, ◌*◌, leb}
 use Rattle.lists.specs.Members.{every}
 use Rattle.lists.specs.Written.{written_at}
 use Rattle.refusal.specs.declared.Refusal.TheVariants.{Room, NotOneTree, NewickForm, TooManyNodes}

@@ -10,7 +10,7 @@ use Rattle.newick.proofs.digits.stands.Goals as goal
 
 pub returns-then-at-text : goal.returns-then-at-text
 unfolding byte_at
-returns-then-at-text c = (refl, λ e. omega arith)
+returns-then-at-text c = record { value = refl; at_in_bounds = λ e. omega arith }
 
 pub returns : goal.returns
 unfolding byte_at

@@ -1,5 +1,4 @@
 -- The length so far and what the modes ahead take up are always the whole length.
-use Prim.Native.Nat.{◌-◌}
 use native.Mathlib.Omega.{arith}
 use Rattle.lists.proofs.Ranges.{sum_on, sum_done}
 use Rattle.tree.proofs.TableSteps.{nodes_start}

@@ -2,7 +2,6 @@
 use mathlib.Core.Path.{sym, ◌∙◌}
 use Prim.Native.Nat.{◌*◌}
 use native.Mathlib.Omega.{arith}
-use borrow.Author.Tests.{not-false}
 use lib.ListN.{take}
 use Rattle.newick.specs.code.Promises.{meant, end_of, closed_of}
 use Rattle.newick.proofs.PartsRead.{named_missing, named_none, named_some, one_closed}
@@ -27,7 +26,7 @@ unfolding meant end_of closed_of
 returns-then-number-at c =
     let args = c.args in
     let stands = c.stands in
-    let there = not-false stands.result c.if-not-stands.false in
+    let there = c.if-not-stands.false in
     let read = c.read_digits-number in
     record {
       says =
@@ -43,7 +42,7 @@ unfolding meant end_of closed_of
 returns c =
     let args = c.args in
     let stands = c.stands in
-    let there = not-false stands.result c.if-not-stands.false in
+    let there = c.if-not-stands.false in
     let read = c.read_digits-number in
     let put = c.put_row in
     record {

@@ -17,10 +17,11 @@ pub returns-then-number-at : goal.returns-then-number-at
 unfolding meant end_of closed_of
 returns-then-number-at c =
     let read = c.read_digits-number in
-    let none = c.if-number-at.true in (
-      λ numbers. sym (numbered_none c.args.text.now c.args.at (leaf c.args.closed numbers) read.result read.ensures none),
-      (c.requires, omega arith),
-    )
+    let none = c.if-number-at.true in
+    record {
+      by_index = λ numbers. sym (numbered_none c.args.text.now c.args.at (leaf c.args.closed numbers) read.result read.ensures none);
+      result_in_bounds = (c.requires, omega arith);
+    }
 
 pub returns : goal.returns
 unfolding meant end_of closed_of leaf_name

@@ -5,7 +5,7 @@ use borrow.Author.Tests.{eq-eqb, ne_eqb}
 use lib.ListN.{length}
 use Rattle.newick.specs.Reading.{text_read}
 use Rattle.newick.specs.code.Promises.{meant, end_of, closed_of}
-use Rattle.newick.proofs.PartsRead.{Onward, onward, stops_there, goes_behind}
+use Rattle.newick.proofs.PartsRead.{Onward, onward, no_child, stops_there, goes_behind}
 use Rattle.newick.proofs.WholeText.{ends, text_by_root}
 use Rattle.newick.proofs.reading.read_text.Goals as goal
 use Rattle.newick.proofs.reading.read_text.Goals.{After-marked-part}
@@ -15,23 +15,21 @@ behind : (c : After-marked-part)
     → Onward (text_read 256 c.args.text.now) c.args.text.now c.read_node.new.rows 256 c.marked-part.result
     (ends c.args.text.now)
 behind c =
-    onward 59 (text_by_root 256 c.args.text.now) c.read_node.ensures c.marked-part.ensures
+    onward 59 (text_by_root 256 c.args.text.now) c.read_node.ensures (c.marked-part.ensures.by_index, c.marked-part.ensures.result_in_bounds)
 
 pub returns-in_default : goal.returns-in_default
-returns-in_default c = stops_there (behind (goal.at.returns-in_default c).After-marked-part) c.in-Child.keys2 (omega arith)
+returns-in_default c = stops_there (behind (goal.at.returns-in_default c).After-marked-part) (no_child c.marked-part.result c.in_default.not-Child) (omega arith)
 
 pub returns-then-end-text : goal.returns-then-end-text
 unfolding meant end_of closed_of
 returns-then-end-text c =
     let text = c.args.text.now in
-    let told = c.part-1.given in
-    let on = goes_behind (behind (goal.at.returns-then-end-text c).After-marked-part) told.1 in
-    record { says = sym (on.0 ∙ rw (ne_eqb told.0.1.0 (length text) c.if-end-text.true)); within = on.1.0; few = omega arith }
+    let on = goes_behind (behind (goal.at.returns-then-end-text c).After-marked-part) c.in-Child.is in
+    record { says = sym (on.0 ∙ rw (ne_eqb c.in-Child.end (length text) c.if-end-text.true)); within = on.1.0; few = omega arith }
 
 pub returns : goal.returns
 unfolding meant end_of closed_of
 returns c =
     let text = c.args.text.now in
-    let told = c.part-1.given in
-    let on = goes_behind (behind (goal.at.returns c).After-marked-part) told.1 in
-    record { says = sym (on.0 ∙ rw (eq-eqb told.0.1.0 (length text) c.if-end-text.false)); within = on.1.0; few = on.1.1 }
+    let on = goes_behind (behind (goal.at.returns c).After-marked-part) c.in-Child.is in
+    record { says = sym (on.0 ∙ rw (eq-eqb c.in-Child.end (length text) c.if-end-text.false)); within = on.1.0; few = on.1.1 }

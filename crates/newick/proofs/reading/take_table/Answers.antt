@@ -10,7 +10,7 @@ use Rattle.newick.proofs.reading.take_table.Goals as goal
 pub returns-then-table-tree : goal.returns-then-table-tree
 unfolding taken_as table_after
 returns-then-table-tree c =
-    (rw (lt-leb (3 * c.args.modes) (length c.args.table.now) (omega (arith, c.requires))), refl)
+    record { value = rw (lt-leb (3 * c.args.modes) (length c.args.table.now) (omega (arith, c.requires))); table_after = refl }
 
 pub returns : goal.returns
 unfolding taken_as table_after

@@ -1,29 +1,16 @@
 -- The codes fill the front of one array and the tree that of the other; each answer is one arm of the meaning.
 use mathlib.Core.Path.{◌≡◌, refl, ap, sym, ◌∙◌}
-use mathlib.Core.Bool.{true}
 use mathlib.Core.List.{List}
 use Prim.Native.Nat.{ℕ, ◌*◌}
 use native.Mathlib.Omega.{arith}
 use lib.ListN.{length}
 use lib.Seq.{length-take-le, take_at}
-use Rattle.lists.specs.Members.{every}
 use Rattle.tree.specs.Check.{tree_checked}
 use Rattle.newick.specs.Reading.{got}
-use Rattle.newick.specs.Names.{in_range}
 use Rattle.newick.specs.Calls.{table_in, taken_as, read_as, table_after}
 use Rattle.newick.proofs.TreeTaken.{table_is, out_of_range, all_in_range, laid_alike, front_fits, front_counts}
 use Rattle.newick.proofs.reading.take_tree.Goals as goal
-use Rattle.newick.proofs.reading.take_tree.Goals.{After-check_tree, After-lay_rows, After-put_codes, Else-not-put_codes, Start}
-
--- From the codes, and from the tree, back to the beginning.
-abbrev from-codes : After-put_codes → Start
-from-codes c = c.before.before.before.before
-
-abbrev coded : After-lay_rows → After-put_codes
-coded l = l.before.before.before.before.before
-
-abbrev from_tree : After-lay_rows → Start
-from_tree l = from-codes (coded l)
+use Rattle.newick.proofs.reading.take_tree.Goals.{After-check_tree, After-lay_rows, After-put_codes}
 
 -- What stands in the front of each array, and how many numbers that is.
 abbrev codes : After-put_codes → List ℕ
@@ -33,41 +20,39 @@ abbrev tree : After-lay_rows → List ℕ
 tree l = l.lay_rows.new.table
 
 abbrev codes_end : After-put_codes → ℕ
-codes_end c = 4 * (from-codes c).args.modes
+codes_end c = 4 * c.args.modes
 
 abbrev tree_end : After-lay_rows → ℕ
-tree_end l = 3 * (from_tree l).args.modes
+tree_end l = 3 * l.args.modes
 
 codes-size : (c : After-put_codes) → length (codes c) ≡ codes_end c
-codes-size c = c.put_codes.auto.codes ∙ length-take-le (codes_end c) _ (omega (arith, (from-codes c).requires.0))
+codes-size c = c.put_codes.auto.codes ∙ length-take-le (codes_end c) _ (omega (arith, c.requires.0))
 
 tree-size : (l : After-lay_rows) → length (tree l) ≡ tree_end l
-tree-size l = l.lay_rows.auto.table ∙ length-take-le (tree_end l) _ (omega (arith, (from_tree l).requires.0))
+tree-size l = l.lay_rows.auto.table ∙ length-take-le (tree_end l) _ (omega (arith, l.requires.0))
 
 -- All numbers are in range, so the tree is the table that the nodes make, and the answer is the check's of that table.
-in_order : (c : Else-not-put_codes) → let s = from-codes c.before.before in every (in_range s.args.modes) s.args.rows.now ≡ true
-in_order c = sym c.put_codes.ensures.good ∙ c.if-not-put_codes.false
+tree_is : (c : After-check_tree) → c.lay_rows.new.table ≡ table_in c.args.rows.now
+tree_is c =
+    let size : length c.put_codes.new.codes ≡ 4 * c.args.modes =
+    c.put_codes.auto.codes ∙ length-take-le (4 * c.args.modes) _ (omega (arith, c.requires.0)) in
+    c.lay_rows.ensures
+    ∙ laid_alike (length-take-le (3 * c.args.modes) _ (omega (arith, c.requires.0))) (take_at c.put_codes.new.codes _ (4 * c.args.modes) size)
+    ∙ table_is c.args.modes c.args.rows.now c.requires.1 c.put_codes.new.codes (c.put_codes.ensures.codes c.if-not-put_codes.false)
 
-tree_is : (l : After-lay_rows) → tree l ≡ table_in (from_tree l).args.rows.now
-tree_is l =
-    let s = from_tree l in
-    let put = (coded l).put-codes in
-    l.lay_rows.ensures
-    ∙ laid_alike (length-take-le (tree_end l) _ (omega (arith, s.pre.0))) (take_at (codes (coded l)) _ (codes_end (coded l)) (codes-size (coded l)))
-    ∙ table_is s.args.modes s.args.rows.now s.pre.1 (codes (coded l)) (put.ensures.codes (l.if-not-put_codes.false))
-
-checked : (c : After-check_tree)
-    → let s = from_tree c.before.before.before in c.check_tree.result ≡ tree_checked 256 s.args.modes (table_in s.args.rows.now)
+checked : (c : After-check_tree) → c.check_tree.result ≡ tree_checked 256 c.args.modes (table_in c.args.rows.now)
 checked c =
-    c.check_tree.ensures.answer ∙ ap (tree_checked 256 (from_tree c.before.before.before).args.modes) (take_at (tree c.before.before.before) _ (tree_end c.before.before.before) (tree-size c.before.before.before) ∙ tree_is c.before.before.before)
+    let size : length c.lay_rows.new.table ≡ 3 * c.args.modes =
+    c.lay_rows.auto.table ∙ length-take-le (3 * c.args.modes) _ (omega (arith, c.requires.0)) in
+    c.check_tree.ensures.answer ∙ ap (tree_checked 256 c.args.modes) (take_at c.lay_rows.new.table _ (3 * c.args.modes) size ∙ tree_is c)
 
 -- What the nodes are read as is what is taken of the check's answer.
 read_is : (c : After-check_tree) (name at room : ℕ)
-    → let s = from_tree c.before.before.before in taken_as c.check_tree.result s.args.modes room ≡ read_as 256 (got name s.args.rows.now at) room
+    → taken_as c.check_tree.result c.args.modes room ≡ read_as 256 (got name c.args.rows.now at) room
 read_is c name at room =
-    let s = from_tree c.before.before.before in
-    ap (λ w. taken_as w s.args.modes room) (checked c)
-    ∙ sym (all_in_range s.args.modes s.args.rows.now s.pre.1 256 name at room (in_order c.before.before.before.before.before.before))
+    ap (λ w. taken_as w c.args.modes room) (checked c)
+    ∙ sym
+    (all_in_range c.args.modes c.args.rows.now c.requires.1 256 name at room (sym c.put_codes.ensures.good ∙ c.if-not-put_codes.false))
 
 pub slice_bounds-put_codes-end : goal.slice_bounds-put_codes-end
 slice_bounds-put_codes-end c =
@@ -80,9 +65,11 @@ put_codes-requires c =
 pub returns-then-not-put_codes : goal.returns-then-not-put_codes
 unfolding table_after
 returns-then-not-put_codes c =
-    let s = from-codes (goal.at.returns-then-not-put_codes c).After-put_codes in
     let out = sym c.put_codes.ensures.good ∙ c.if-not-put_codes.true in
-    (λ name at. sym (out_of_range s.args.modes s.args.rows.now s.pre.1 256 name at (length s.args.table.now) out), refl)
+    record {
+      by_index = λ name at. sym (out_of_range c.args.modes c.args.rows.now c.requires.1 256 name at (length c.args.table.now) out);
+      table_after = refl;
+    }
 
 pub slice_bounds-codes-end-2 : goal.slice_bounds-codes-end-2
 slice_bounds-codes-end-2 c =
@@ -93,9 +80,7 @@ slice_bounds-lay_rows-end c =
     sym (front_counts (codes (goal.at.slice_bounds-lay_rows-end c).After-put_codes) _ (codes_end (goal.at.slice_bounds-lay_rows-end c).After-put_codes) (codes-size (goal.at.slice_bounds-lay_rows-end c).After-put_codes))
 
 pub slice_bounds-lay_rows-end-2 : goal.slice_bounds-lay_rows-end-2
-slice_bounds-lay_rows-end-2 c =
-    let s = from-codes (goal.at.slice_bounds-lay_rows-end-2 c).After-put_codes in
-    sym (length-take-le (3 * s.args.modes) _ (omega (arith, s.pre.0)))
+slice_bounds-lay_rows-end-2 c = sym (length-take-le (3 * c.args.modes) _ (omega (arith, c.requires.0)))
 
 pub slice_bounds-tree-end-2 : goal.slice_bounds-tree-end-2
 slice_bounds-tree-end-2 c =
@@ -120,18 +105,21 @@ take_table-requires c =
 pub returns-in-Refused : goal.returns-in-Refused
 unfolding table_after taken_as
 returns-in-Refused c =
-    let s = from_tree (goal.at.returns-in-Refused c).After-lay_rows in
-    let room = length s.args.table.now in
-    let told = sym c.in-Refused.is in
-    (λ name at. ap (λ w. taken_as w s.args.modes room) told ∙ read_is (goal.at.returns-in-Refused c).After-check_tree name at room, refl)
+    let here = (goal.at.returns-in-Refused c).After-check_tree in
+    let room = length c.args.table.now in
+    record {
+      by_index = λ name at. ap (λ w. taken_as w c.args.modes room) (sym c.in-Refused.is) ∙ read_is here name at room;
+      table_after = refl;
+    }
 
 pub returns-in-Accepted : goal.returns-in-Accepted
 returns-in-Accepted c =
-    let s = from_tree (goal.at.returns-in-Accepted c).After-lay_rows in
-    let room = length s.args.table.now in
+    let here = (goal.at.returns-in-Accepted c).After-check_tree in
+    let room = length c.args.table.now in
     let take = c.take_table in
-    let told = sym c.in-Accepted.is in
-    let front = take_at (tree (goal.at.returns-in-Accepted c).After-lay_rows) _ (tree_end (goal.at.returns-in-Accepted c).After-lay_rows) (tree-size (goal.at.returns-in-Accepted c).After-lay_rows) ∙ tree_is (goal.at.returns-in-Accepted c).After-lay_rows in (
-      λ name at. take.ensures.value ∙ ap (λ w. taken_as w s.args.modes room) told ∙ read_is (goal.at.returns-in-Accepted c).After-check_tree name at room,
-      take.ensures.table_after ∙ ap (λ t. table_after take.result t s.args.table.now) front,
-    )
+    let tree = (goal.at.returns-in-Accepted c).After-lay_rows in
+    let front = take_at c.lay_rows.new.table _ (3 * c.args.modes) (tree-size tree) ∙ tree_is here in
+    record {
+      by_index = λ name at. take.ensures.value ∙ ap (λ w. taken_as w c.args.modes room) (sym c.in-Accepted.is) ∙ read_is here name at room;
+      table_after = take.ensures.table_after ∙ ap (λ t. table_after take.result t c.args.table.now) front;
+    }

@@ -15,7 +15,7 @@ returns-then-code c =
     let args = c.args in
     let text = end_absent args.modes args.code c.if-code.true in
     let room = rw text at c.requires.code_in_bounds in
-    rw text (omega arith, set_written args.text.now args.at 101 (omega arith))
+    record { value = rw text (omega arith); text_after = rw text (set_written args.text.now args.at 101 (omega arith)) }
 
 pub put_name-requires : goal.put_name-requires
 put_name-requires c =

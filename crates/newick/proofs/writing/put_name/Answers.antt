@@ -38,6 +38,6 @@ shape_of-text c =
 
 pub returns : goal.returns
 returns c = record {
-      value = omega (arith, c.put_number.ensures.value.0);
-      text_after = written (goal.at.returns c).After-put_number;
-    }
+  value = omega (arith, c.put_number.ensures.value.0);
+  text_after = written (goal.at.returns c).After-put_number;
+}

@@ -21,7 +21,7 @@ size c = accepted_length 256 c.args.modes c.args.tree.now (omega (arith, (parts 
 -- Where the code goes on there is room.
 room : (c : After-climb-root)
     → let args = c.args in length (newick_text args.modes args.tree.now) ≤ length args.text.now
-room c = omega (arith, size c.before.before.before.before.before, c.text_length-length.ensures.0)
+room c = omega (arith, size c.before.before.before.before.before.before, c.text_length-length.ensures.0)
 
 pub text_length-length-requires : goal.text_length-length-requires
 text_length-length-requires c = (parts (goal.at.text_length-length-requires c).Start).few
@@ -29,10 +29,13 @@ text_length-length-requires c = (parts (goal.at.text_length-length-requires c).S
 pub returns-then-text-length : goal.returns-then-text-length
 unfolding text_after
 returns-then-text-length c =
-    let args = c.args in (
-      short_answer (newick_text args.modes args.tree.now) (length args.text.now) (omega (arith, size (goal.at.returns-then-text-length c).Start, c.text_length-length.ensures.0)),
-      refl,
-    )
+    let args = c.args in
+    record {
+      value =
+          short_answer (newick_text args.modes args.tree.now) (length args.text.now)
+          (omega (arith, size (goal.at.returns-then-text-length c).Start, c.text_length-length.ensures.0));
+      text_after = refl;
+    }
 
 pub overflow_add-modes : goal.overflow_add-modes
 overflow_add-modes c = omega (arith, (parts (goal.at.overflow_add-modes c).Start).few)
@@ -41,7 +44,7 @@ pub put_child-end-requires : goal.put_child-end-requires
 put_child-end-requires c =
     let args = c.args in
     let fits = tree_room args.modes args.tree.now c.climb-root.result c.climb-root.ensures args.text.now (room (goal.at.put_child-end-requires c).After-climb-root) in
-    ((parts (goal.at.put_child-end-requires c).Start).whole, omega (arith, fits))
+    record { tree_len = (parts (goal.at.put_child-end-requires c).Start).whole; code_in_bounds = omega (arith, fits) }
 
 pub bounds-text-end : goal.bounds-text-end
 bounds-text-end c =
