@@ -1,6 +1,6 @@
 -- Each count and what is ahead of it make all the edges of its kind; at the end the three counts decide the letter.
 use mathlib.Core.Path.{◌≡◌, ◌∙◌, ap}
-use Prim.Native.Nat.{◌<◌, ◌≤◌, ◌-◌, ◌*◌}
+use Prim.Native.Nat.{◌<◌, ◌≤◌, ◌*◌}
 use native.Mathlib.Numerals.{add-one}
 use native.Mathlib.Omega.{arith}
 use lib.ListN.{length}
@@ -12,15 +12,15 @@ use Rattle.tree_weight.proofs.node_letter.Goals as goal
 
 pub overflow_add-modes-in-loop-at : goal.overflow_add-modes-in-loop-at
 overflow_add-modes-in-loop-at c =
-    let below = below_at (2 * c.args.modes) c.args.term.now c.loop-at.at 0 (omega arith) c.requires.tree_len.1 in
+    let below = below_at (2 * c.args.modes) c.args.term.now c.loop-at.at 0 (omega arith) c.requires.term_value in
     let e = c.wide.ensures.0 in
     omega arith
 
 pub edge_under-edge-requires : goal.edge_under-edge-requires
 edge_under-edge-requires c =
-    let below = below_at (2 * c.args.modes) c.args.term.now c.loop-at.at 0 (omega arith) c.requires.tree_len.1 in
+    let below = below_at (2 * c.args.modes) c.args.term.now c.loop-at.at 0 (omega arith) c.requires.term_value in
     let e = c.wide.ensures.0 in
-    (c.requires.places, omega arith)
+    record { places = c.requires.places; code_in_bounds = omega arith }
 
 pub loop-at-preserved : goal.loop-at-preserved
 loop-at-preserved c =

@@ -1,6 +1,5 @@
 -- The weight at the nodes passed and at those ahead is the weight at all.
 use mathlib.Core.Path.{◌≡◌, ◌∙◌, sym, ap}
-use Prim.Native.Nat.{◌-◌}
 use native.Mathlib.Nat.{zero-add}
 use native.Mathlib.Omega.{arith}
 use Rattle.lists.proofs.Ranges.{sum_on, sum_done}
@@ -16,7 +15,7 @@ loop-node-init c =
 
 pub node_letter-requires : goal.node_letter-requires
 node_letter-requires c =
-    c.requires
+    record { places = c.requires.places; tree_len = c.requires.tree_len; term_value = c.requires.term_value }
 
 pub loop-node-preserved : goal.loop-node-preserved
 unfolding node_weight

@@ -1,6 +1,6 @@
 -- The weight of the rows passed and of those ahead is the weight of all.
 use mathlib.Core.Path.{◌∙◌, sym, ap}
-use Prim.Native.Nat.{◌-◌, ◌*◌}
+use Prim.Native.Nat.{◌*◌}
 use native.Mathlib.Nat.{zero-add}
 use native.Mathlib.Omega.{arith}
 use borrow.Author.Rules.{rules}
@@ -16,18 +16,18 @@ loop-place-init c = (omega arith, omega arith, zero-add _ ∙ sym (ap (listed_we
 
 pub term_at-requires : goal.term_at-requires
 term_at-requires c =
-    let rows = c.requires.tree_len.1 in
+    let rows = c.requires.rows_below in
     (omega (arith, rows.held.room), omega (arith, rows.held.within c.loop-place.place (omega arith)))
 
 pub row_weight-sum-requires : goal.row_weight-sum-requires
 row_weight-sum-requires c =
     let args = c.args in
-    let below = every_term_at (every (λ index. ltb index (2 * args.modes))) 9 args.count c.loop-place.place args.terms.now c.requires.tree_len.1.below (omega arith) in
-    (c.requires.places, (c.requires.tree_len.0.0, rw c.term_at.ensures below))
+    let below = every_term_at (every (λ index. ltb index (2 * args.modes))) 9 args.count c.loop-place.place args.terms.now c.requires.rows_below.below (omega arith) in
+    record { places = c.requires.places; tree_len = c.requires.tree_len.0; term_value = rw c.term_at.ensures below }
 
 pub overflow_add-sum : goal.overflow_add-sum
 overflow_add-sum c =
-    let few = c.requires.tree_len.1.few in
+    let few = c.requires.rows_below.few in
     search rules
 
 pub loop-place-preserved : goal.loop-place-preserved

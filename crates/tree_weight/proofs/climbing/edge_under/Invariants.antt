@@ -1,6 +1,6 @@
 -- The steps left from here find the edge that all of them do; each place read is the code's.
 use mathlib.Core.Path.{◌≡◌}
-use Prim.Native.Nat.{◌<◌, ◌-◌}
+use Prim.Native.Nat.{◌<◌}
 use lib.ListN.{length}
 use Rattle.tree_weight.specs.Weight.{edge_under}
 use Rattle.tree_weight.proofs.climbing.edge_under.Given as goal

@@ -1,5 +1,4 @@
 -- Each code passed has its place; at the end that is every code.
-use Prim.Native.Nat.{◌-◌}
 use native.Mathlib.Omega.{arith}
 use lib.ListN.{length-set}
 use Rattle.lists.proofs.Writes.{agrees_next}

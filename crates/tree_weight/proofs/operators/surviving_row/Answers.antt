@@ -1,6 +1,5 @@
 -- The walk of WalkedRow, index by index; its end is the row, or zeros where nothing is left.
 use mathlib.Core.Path.{◌≡◌, refl, sym}
-use Prim.Native.Nat.{◌-◌}
 use native.Mathlib.Omega.{arith}
 use Rattle.tree_weight.proofs.WalkedRow.{walk_starts, walk_on, walk_ends, walk_ends_empty}
 use Rattle.tree_weight.proofs.operators.surviving_row.Goals as goal
