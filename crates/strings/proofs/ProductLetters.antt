@@ -1,12 +1,11 @@
 -- A term's strings multiplied give the letters of the term, and so weigh what it weighs.
-use mathlib.Core.Path.{◌≡◌, refl, ap, ◌∙◌, sym}
+use mathlib.Core.Path.{◌≡◌, refl, ap, ◌∙◌}
 use mathlib.Core.Bool.{Bool, true, false, not}
 use mathlib.Core.List.{List, [], ◌∷◌, map}
-use Prim.Native.Nat.{ℕ, zero, suc, ◌+◌, ◌*◌, ◌%◌}
+use Prim.Native.Nat.{ℕ, zero, suc, ◌+◌, ◌%◌}
 use native.Mathlib.Nat.{zero-add}
 use native.Mathlib.Omega.{arith}
 use borrow.Author.Tests.{eqb-true, eqb-false, eq-eqb, ne_eqb}
-use lib.Dec.{eqb}
 use Rattle.lists.specs.Counting.{sum, same, occurrences}
 use Rattle.lists.specs.Members.{firsts, firsts_after, some_of}
 use Rattle.lists.proofs.Sums.{sum_map, same_none}
@@ -14,7 +13,7 @@ use Rattle.terms.specs.declared.letters.Letter.{Letter}
 use Rattle.terms.specs.declared.letters.Letter.TheVariants.{None, X, Y, Z}
 use Rattle.terms.specs.Letters.{letter_of, odd, counted_letter, not_none}
 use Rattle.tree.specs.Table.{nodes}
-use Rattle.tree_weight.specs.Operators.{surviving, operators}
+use Rattle.tree_weight.specs.Operators.{operators}
 use Rattle.tree_weight.specs.Weight.{edge_under, edges, node_letter, node_weight, row_weight, tree_weight}
 use Rattle.tree_weight.proofs.SurvivingWeigh.{surviving_weighs}
 use Rattle.strings.specs.Strings.{edge_letter, majorana_letter, string}

@@ -1,6 +1,5 @@
 -- The text has the length that was asked for, so all lines fit.
 use mathlib.Core.Path.{◌≡◌, refl}
-use Prim.Native.Nat.{◌≤◌}
 use native.Mathlib.Omega.{arith}
 use lib.ListN.{length}
 use Rattle.tree.specs.Writing.{text_after}
@@ -9,7 +8,7 @@ use Rattle.tree.proofs.WritingAnswered.{short_answer, whole_answer}
 use Rattle.strings.specs.Text.{strings_text, strings_length}
 use Rattle.strings.proofs.LinesWritten.{text_long}
 use Rattle.strings.proofs.put_strings.Goals as goal
-use Rattle.strings.proofs.put_strings.Goals.{After-places-1, Start}
+use Rattle.strings.proofs.put_strings.Goals.{Start}
 
 parts : (c : Start) → AcceptedParts 256 c.args.modes c.args.tree.now
 parts c = accepted_parts 256 c.args.modes c.args.tree.now c.requires
@@ -17,28 +16,28 @@ parts c = accepted_parts 256 c.args.modes c.args.tree.now c.requires
 size : (c : Start) → length (strings_text c.args.modes c.args.tree.now) ≡ strings_length c.args.modes
 size c = text_long c.args.modes c.args.tree.now
 
--- Where the code goes on there is room.
-room : (c : After-places-1)
-    → let args = c.args in length (strings_text args.modes args.tree.now) ≤ length args.text.now
-room c = omega (arith, size c.before.before.before.before.before, c.strings_length-length.ensures)
-
 pub strings_length-length-requires : goal.strings_length-length-requires
 strings_length-length-requires c = (parts (goal.at.strings_length-length-requires c).Start).few
 
 pub returns-then-text-length : goal.returns-then-text-length
 unfolding text_after
 returns-then-text-length c =
-    let args = c.args in (
-      short_answer (strings_text args.modes args.tree.now) (length args.text.now) (omega (arith, size (goal.at.returns-then-text-length c).Start, c.strings_length-length.ensures)),
-      refl,
-    )
+    let args = c.args in
+    record {
+      value = short_answer (strings_text args.modes args.tree.now) (length args.text.now) (omega (arith, size (goal.at.returns-then-text-length c).Start, c.strings_length-length.ensures));
+      text_after = refl;
+    }
 
 pub fill_places-requires : goal.fill_places-requires
 fill_places-requires c = omega (arith, (parts (goal.at.fill_places-requires c).Start).few, (parts (goal.at.fill_places-requires c).Start).whole)
 
 pub put_lines-requires : goal.put_lines-requires
 put_lines-requires c =
-    (c.fill_places.ensures, (((parts (goal.at.put_lines-requires c).Start).whole, (parts (goal.at.put_lines-requires c).Start).few), room (goal.at.put_lines-requires c).After-places-1))
+    record {
+      places = c.fill_places.ensures;
+      tree_len = ((parts (goal.at.put_lines-requires c).Start).whole, (parts (goal.at.put_lines-requires c).Start).few);
+      tree_in_bounds = omega (arith, size (goal.at.put_lines-requires c).Start, c.strings_length-length.ensures);
+    }
 
 pub returns : goal.returns
 unfolding text_after
@@ -46,6 +45,6 @@ returns c =
     let args = c.args in
     let counted = c.strings_length-length in
     record {
-      value = whole_answer (strings_text args.modes args.tree.now) (length args.text.now) counted.result (omega (arith, counted.ensures, size (goal.at.returns c).Start)) (room (goal.at.returns c).After-places-1);
+      value = whole_answer (strings_text args.modes args.tree.now) (length args.text.now) counted.result (omega (arith, counted.ensures, size (goal.at.returns c).Start)) (omega (arith, size (goal.at.returns c).Start, c.strings_length-length.ensures));
       text_after = c.put_lines.ensures;
     }

@@ -14,11 +14,11 @@ put_strings-requires c =
 
 pub returns-in-Refused : goal.returns-in-Refused
 unfolding strings_written tree_written written_as text_after
-returns-in-Refused c = (tells (rw (sym c.check_tree.ensures.answer ∙ c.in-Refused.is)), refl)
+returns-in-Refused c = record { tells = tells (rw (sym c.check_tree.ensures.answer ∙ c.in-Refused.is)); text_after = refl }
 
 pub returns-in-Accepted : goal.returns-in-Accepted
 unfolding strings_written tree_written
 returns-in-Accepted c =
     let told : tree_checked 256 c.args.modes c.args.tree.now ≡ Accepted = cc in
     let put = c.put_strings.ensures in
-    (tells (rw told put.value), put.text_after)
+    record { tells = tells (rw told put.value); text_after = put.text_after }

@@ -1,5 +1,5 @@
 -- The length so far and what the lines ahead take up are always the whole length.
-use Prim.Native.Nat.{◌-◌, ◌*◌}
+use Prim.Native.Nat.{◌*◌}
 use native.Mathlib.Omega.{arith}
 use Rattle.lists.proofs.Ranges.{listed_start, sum_on, sum_done}
 use Rattle.strings.specs.Text.{majoranas, line_length, strings_length}

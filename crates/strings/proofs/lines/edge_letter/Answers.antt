@@ -18,4 +18,4 @@ unfolding edge_letter
 returns-in-2 c = rw c.in-2.is
 
 pub returns-in_default : goal.returns-in_default
-returns-in_default c = let not-these = c.in-0.rest in sym (no_edge_lettered c.args.edge (omega (arith, not-these)))
+returns-in_default c = sym (no_edge_lettered c.args.edge (omega arith))

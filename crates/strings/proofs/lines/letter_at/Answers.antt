@@ -1,6 +1,6 @@
 -- The edge under which the leaf stands has the letter, and the letter the byte.
 use native.Mathlib.Numerals.{add-one}
-use Rattle.strings.specs.Strings.{edge_letter, majorana_letter}
+use Rattle.strings.specs.Strings.{majorana_letter}
 use Rattle.strings.specs.Text.{string_sign}
 use Rattle.strings.proofs.lines.letter_at.Goals as goal
 

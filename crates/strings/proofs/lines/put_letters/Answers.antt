@@ -1,6 +1,5 @@
 -- The letters of the nodes passed are written; at the end that is all of them.
 use mathlib.Core.Path.{refl}
-use Prim.Native.Nat.{◌-◌}
 use native.Mathlib.Omega.{arith}
 use lib.ListN.{length-set}
 use Rattle.strings.proofs.LinesWritten.{bytes_start, bytes_next, bytes_end}

@@ -1,5 +1,4 @@
 -- The lines written and those ahead are always the whole text.
-use Prim.Native.Nat.{◌-◌}
 use native.Mathlib.Omega.{arith}
 use Rattle.strings.proofs.LinesWritten.{lines_start, line_room, lines_next, lines_same, lines_end}
 use Rattle.strings.proofs.lines.put_lines.Goals as goal
@@ -12,13 +11,12 @@ loop-majorana-init c =
 pub put_line-at-requires : goal.put_line-at-requires
 put_line-at-requires c =
     let args = c.args in
-    let room = c.requires.tree_len.1 in (
-      c.requires.places,
-      (
-        (c.requires.tree_len.0.0, c.requires.tree_len.0.1, omega arith),
-        line_room args.modes args.tree.now args.text.now room c.loop-majorana.majorana (c.loop-majorana.invariant.1 room) (omega arith),
-      ),
-    )
+    let room = c.requires.tree_in_bounds in
+    record {
+      places = c.requires.places;
+      tree_len = (c.requires.tree_len.0, c.requires.tree_len.1, omega arith);
+      majorana_in_bounds = line_room args.modes args.tree.now args.text.now room c.loop-majorana.majorana (c.loop-majorana.invariant.1 room) (omega arith);
+    }
 
 pub loop-majorana-preserved : goal.loop-majorana-preserved
 loop-majorana-preserved c =
@@ -28,10 +26,10 @@ loop-majorana-preserved c =
 
 pub shape_of-text : goal.shape_of-text
 shape_of-text c =
-    let room = c.requires.tree_len.1 in
+    let room = c.requires.tree_in_bounds in
     lines_same c.args.modes c.args.tree.now c.args.text.now room c.loop-majorana.majorana (c.loop-majorana.invariant.1 room)
 
 pub returns : goal.returns
 returns c =
-    let room = c.requires.tree_len.1 in
+    let room = c.requires.tree_in_bounds in
     lines_end c.args.modes c.args.tree.now c.args.text.now room c.loop-majorana.majorana (c.loop-majorana.invariant.1 room) (omega arith)
