@@ -6,7 +6,7 @@ use Rattle.journal.proofs.new_lines.put_first.Goals as goal
 
 pub returns-then-kept-ne0 : goal.returns-then-kept-ne0
 unfolding written_at
-returns-then-kept-ne0 c = rw (no_header job c.args.kept c.if-kept-ne0.true) (refl, refl)
+returns-then-kept-ne0 c job sized ruled = rw (no_header job c.args.kept c.if-kept-ne0.true) (refl, refl)
 
 pub put_header-requires : goal.put_header-requires
 put_header-requires c =
@@ -15,5 +15,5 @@ put_header-requires c =
     rw (header_first job c.args.kept c.if-kept-ne0.false, c.requires.sized.1.1.0, sized.modes_are, sized.count_is) at c.requires.sized.1.1.1
 
 pub returns : goal.returns
-returns c =
-    rw (header_first job c.args.kept c.if-kept-ne0.false, ruled, sized.modes_are, sized.count_is) c.put_header.ensures
+returns c job sized ruled =
+    rw (header_first job c.args.kept c.if-kept-ne0.false, ruled, sized.modes_are, sized.count_is) (c.put_header.ensures.value, c.put_header.ensures.out_after)

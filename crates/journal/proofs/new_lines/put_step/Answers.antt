@@ -12,18 +12,15 @@ use Rattle.obeying.specs.LineForms.{merge_text}
 use Rattle.journal.specs.code.NewLines.{noted_line, StepFits}
 use Rattle.journal.proofs.NotedLines.{noted_as}
 use Rattle.journal.proofs.new_lines.put_step.Goals as goal
-use Rattle.journal.proofs.new_lines.put_step.Goals.{After-step_weight-weight, Start}
-
-abbrev start_of : After-step_weight-weight → Start
-start_of c = c.before.before.before
+use Rattle.journal.proofs.new_lines.put_step.Goals.{After-step_weight-weight}
 
 -- What the run was asked makes the step's line, whatever the job.
 line_is : (c : After-step_weight-weight) (job : Job) (own : List ℕ)
-    → StepFits job own (start_of c).args.run (start_of c).args.step (start_of c).args.at (length (start_of c).args.journal.now)
-    → merge_text (start_of c).args.step c.merge_of-triple.result c.step_weight-weight.result
-    ≡ noted_line job (history_of (start_of c).args.run) (start_of c).args.step
+    → StepFits job own c.args.run c.args.step c.args.at (length c.args.journal.now)
+    → merge_text c.args.step c.merge_of-triple.result c.step_weight-weight.result
+    ≡ noted_line job (history_of c.args.run) c.args.step
 line_is c job own fits =
-    noted_as job (history_of (start_of c).args.run) (start_of c).args.step _ _ fits.made c.merge_of-triple.ensures
+    noted_as job (history_of c.args.run) c.args.step _ _ fits.made c.merge_of-triple.ensures
     (c.step_weight-weight.ensures job own fits.holds)
 
 pub merge_of-triple-requires : goal.merge_of-triple-requires
@@ -49,7 +46,7 @@ overflow_add-result c =
     omega (arith, pre.1.1.fits, c.put_merge.ensures.value, ap length (line_is (goal.at.overflow_add-result c).After-step_weight-weight pre.0 pre.1.0 pre.1.1))
 
 pub returns : goal.returns
-returns c =
+returns c job own fits =
     let args = c.args in
     let put = c.put_merge.ensures in
     let line = line_is (goal.at.returns c).After-step_weight-weight job own fits in

@@ -1,6 +1,6 @@
 -- The lines of the steps passed stand behind the start; at the end they are all.
 use mathlib.Core.List.{List}
-use Prim.Native.Nat.{ℕ, ◌-◌, ◌<◌, ◌≤◌}
+use Prim.Native.Nat.{ℕ, ◌<◌, ◌≤◌}
 use native.Mathlib.Omega.{arith}
 use lib.ListN.{length}
 use Rattle.terms.specs.Job.{Job}
@@ -26,7 +26,7 @@ step_fits c job own fits =
     }
 
 pub loop-step-init : goal.loop-step-init
-loop-step-init c =
+loop-step-init c job own fits =
     let args = c.args in
     putting_starts job (history_of args.run) args.from args.start args.journal.now fits.fits fits.begun
 
@@ -36,7 +36,7 @@ put_step-at-requires c =
     (pre.0, (pre.1.0, step_fits (goal.at.put_step-at-requires c).After-put_step-arg-1 pre.0 pre.1.0 pre.1.1))
 
 pub loop-step-preserved : goal.loop-step-preserved
-loop-step-preserved c =
+loop-step-preserved c job own fits =
     let args = c.args in
     let line = step_fits (goal.at.loop-step-preserved c).After-put_step-arg-1 job own fits in
     let put = c.put_step-at.ensures job own line in
@@ -51,7 +51,7 @@ shape_of-journal c =
     (c.loop-step.invariant c.requires.0 c.requires.1.0 fits)
 
 pub returns : goal.returns
-returns c =
+returns c job own fits =
     let args = c.args in
     let all : length (history_of args.run) ≤ c.loop-step.step = omega (arith, c.loop-step-test.false, c.merges-all.ensures) in
     putting_ends job (history_of args.run) args.from args.start args.journal.now fits.fits _ _ _ (c.loop-step.invariant job own fits) all

@@ -13,7 +13,10 @@ pub put_first-start-requires : goal.put_first-start-requires
 put_first-start-requires c =
     let text = c.requires.1.1 in
     let ruled = sym (c.rule_of.ensures _ _ text.holds) in
-    ((text.few, text.light), (c.requires.0, (text.sized, (ruled, header_fits _ _ c.args.run _ _ _ _ _ text))))
+    record {
+      modes_bound = (text.few, text.light);
+      sized = (c.requires.0, (text.sized, (ruled, header_fits _ _ c.args.run _ _ _ _ _ text)));
+    }
 
 pub put_steps-requires : goal.put_steps-requires
 put_steps-requires c =
@@ -24,7 +27,7 @@ put_steps-requires c =
     (c.requires.0, (c.requires.1.0, rw put.auto.journal (steps_fit _ _ c.args.run _ _ _ _ _ text _ first.0)))
 
 pub returns : goal.returns
-returns c =
+returns c job own text =
     let args = c.args in
     let put = c.put_first-start in
     let front = header_behind job args.kept in

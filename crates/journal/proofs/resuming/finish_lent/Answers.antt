@@ -18,7 +18,7 @@ finish_run-requires c =
     (c.requires.0, in_work c.requires.0 _ _ _ c.args.own.now _ c.requires.1 _ put.to_after put.to_after_2)
 
 pub returns : goal.returns
-returns c =
+returns c job bytes from kept_is =
     let args = c.args in
     let given = lent args.work.now args.rows.now args.journal.now args.drops.now in
     let put = c.put_front.ensures in

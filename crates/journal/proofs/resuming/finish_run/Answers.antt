@@ -58,7 +58,7 @@ trial_total-requires c =
     omega (arith, c.requires.1.few)
 
 pub returns : goal.returns
-returns c =
+returns c job bytes given kept_is =
     let args = c.args in
     let finished = c.finished-end in
     let gone = finished.ensures job given.holds in

@@ -11,7 +11,11 @@ pub resume_own-requires : goal.resume_own-requires
 resume_own-requires c =
     let terms = c.args.terms.now in
     let good = accepted c.args.modes terms c.args.count c.requires.le_modes.2 in
-    ((c.requires.le_modes.0, c.requires.le_modes.1, good.at_most), ((terms, c.own_rows-own.ensures.1), c.requires.count_value))
+    record {
+      le_modes = (c.requires.le_modes.0, c.requires.le_modes.1, good.at_most);
+      by_index = (terms, c.own_rows-own.ensures.1);
+      count_value = c.requires.count_value;
+    }
 
 pub returns : goal.returns
 returns c =

@@ -30,19 +30,19 @@ accepted modes rule count numbers now_own run given holds few light room =
     }
 
 pub obey-found-requires : goal.obey-found-requires
-obey-found-requires c = (c.requires.le_modes, c.requires.by_index.0)
+obey-found-requires c = record { le_modes = c.requires.le_modes; by_index = c.requires.by_index }
 
 pub finish_lent-requires : goal.finish_lent-requires
 finish_lent-requires c =
     let args = c.args in
-    let numbers = c.requires.by_index.0.0 in
-    let obey = c.obey-found.ensures numbers c.requires.by_index.0.1 in (
+    let numbers = c.requires.by_index.0 in
+    let obey = c.obey-found.ensures numbers c.requires.by_index.1 in (
       job_of args.modes args.rule args.count numbers,
-      accepted args.modes args.rule args.count numbers _ _ _ obey.went.holds c.requires.le_modes.1 c.requires.le_modes.2 c.requires.by_index.1,
+      accepted args.modes args.rule args.count numbers _ _ _ obey.went.holds c.requires.le_modes.1 c.requires.le_modes.2 c.requires.count_value,
     )
 
 pub returns-in-Refused : goal.returns-in-Refused
-returns-in-Refused c =
+returns-in-Refused c numbers spread =
     let args = c.args in
     let job = job_of args.modes args.rule args.count numbers in
     let obey = c.obey-found in
@@ -51,12 +51,12 @@ returns-in-Refused c =
     (obey.ensures numbers spread).comes_to _ c.in-Refused.is)
 
 pub returns-in-Fine : goal.returns-in-Fine
-returns-in-Fine c =
+returns-in-Fine c numbers spread =
     let args = c.args in
     let job = job_of args.modes args.rule args.count numbers in
     let obey = c.obey-found in
     let told = obey.ensures numbers spread in
-    let from = accepted args.modes args.rule args.count numbers _ _ _ told.went.holds c.requires.le_modes.1 c.requires.le_modes.2 c.requires.by_index.1 in
+    let from = accepted args.modes args.rule args.count numbers _ _ _ told.went.holds c.requires.le_modes.1 c.requires.le_modes.2 c.requires.count_value in
     answers_so _ (lent args.work.now args.rows.now args.journal.now args.drops.now) _ _ _
     (journal_obeyed job args.read.now (obeyed job args.read.now) obey.result.verdict obey.result.run told.comes_to c.in-Fine.is)
     (c.finish_lent.ensures job args.read.now from c.kept_bytes-kept.ensures.0)

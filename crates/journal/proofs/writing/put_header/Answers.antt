@@ -25,7 +25,7 @@ returns c =
     let front = c.put_opening-front.ensures in
     let all = header_wrote args.rule args.modes args.terms args.out.now c.requires
     (record { behind = omega (arith, front.value, length_opening args.rule); written = front.out_after })
-    c.put_field-at.ensures c.put_field.ensures in
+    (c.put_field-at.ensures.value, c.put_field-at.ensures.out_after) (c.put_field.ensures.value, c.put_field.ensures.out_after) in
     record {
       value = omega (arith, all.behind);
       out_after = all.written;

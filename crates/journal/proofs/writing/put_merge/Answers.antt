@@ -31,8 +31,8 @@ put_field-requires c =
 pub returns : goal.returns
 returns c =
     let args = c.args in
-    let all = merge_wrote args.step args.triple args.weight args.out.now c.requires c.put_field-at.ensures
-    c.put_field-at-2.ensures c.put_field-at-3.ensures c.put_field-at-4.ensures c.put_field.ensures in
+    let all = merge_wrote args.step args.triple args.weight args.out.now c.requires (c.put_field-at.ensures.value, c.put_field-at.ensures.out_after)
+    (c.put_field-at-2.ensures.value, c.put_field-at-2.ensures.out_after) (c.put_field-at-3.ensures.value, c.put_field-at-3.ensures.out_after) (c.put_field-at-4.ensures.value, c.put_field-at-4.ensures.out_after) (c.put_field.ensures.value, c.put_field.ensures.out_after) in
     record {
       value = omega (arith, all.behind);
       out_after = all.written;
