@@ -8,14 +8,17 @@ use std::io::Write;
 
 mod replay;
 
-// The counts, each behind a tab, and the number of the first case that differs where one does.
+// A tab and a number.
+fn print_count<W: Write>(out: &mut W, count: usize) -> io::Result<()> {
+    write!(out, "\t{count}")
+}
+
+// The counts, and the number of the first case that differs where one does.
 fn print_tally<W: Write>(out: &mut W, tally: Tally) -> io::Result<()> {
-    let cases = tally.cases;
-    let different = tally.different;
-    write!(out, "\t{cases}\t{different}")?;
+    print_count(out, tally.cases)?;
+    print_count(out, tally.different)?;
     if 0 < tally.different {
-        let first = tally.first;
-        write!(out, "\t{first}")?;
+        print_count(out, tally.first)?;
     }
     out.write_all(b"\n")
 }
