@@ -11,10 +11,11 @@ pub assign_rows-weight-requires : goal.assign_rows-weight-requires
 assign_rows-weight-requires c =
     let put = c.put_each_once in
     let args = c.args in
-    let pre = c.requires in (
-      (pre.0.0, pre.0.1, pre.0.2, pre.0.3, pre.1.1.1),
-      spread_worked args.count args.terms.now put.new.rows put.ensures.spread pre.0.2,
-    )
+    let pre = c.requires.le_modes in
+    record {
+      le_modes = (pre.0, pre.1, pre.2, pre.3, c.requires.count_in_bounds.1);
+      worked = spread_worked args.count args.terms.now put.new.rows put.ensures.spread pre.2;
+    }
 
 pub returns : goal.returns
 returns c =

@@ -14,4 +14,4 @@ pub assign_pairs-requires : goal.assign_pairs-requires
 assign_pairs-requires c =
     let modes = c.args.modes in
     let pre = c.requires.le_modes in
-    ((pre.0, pre.1, pre.2, pre.3, take_replicate modes 256 modes pre.1, pre.4), (c.fill_distances.ensures, c.requires.worked))
+    record { le_modes = (pre.0, pre.1, pre.2, pre.3, take_replicate modes 256 modes pre.1, pre.4); distances = c.fill_distances.ensures; worked = c.requires.worked }

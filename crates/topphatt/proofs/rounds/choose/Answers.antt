@@ -43,16 +43,13 @@ pub select-requires : goal.select-requires
 select-requires c =
     let free = c.fill_unassigned-unassigned in
     let nodes = c.fill_active-nodes in
-    let pre = c.requires in (
-      pre.held,
-      (
-        (pre.fits, pre.ready.few, pre.ready.pairs, pre.ready.whole),
-        (
-          free.ensures.1,
-          rw nodes.ensures.1 (active_below c.args.modes c.args.tree.now c.args.heuristic c.args.assigned.now),
-        ),
-      ),
-    )
+    let pre = c.requires in
+    record {
+      held = pre.held;
+      count_le_most_terms = (pre.fits, pre.ready.few, pre.ready.pairs, pre.ready.whole);
+      free_value = free.ensures.1;
+      active_value = rw nodes.ensures.1 (active_below c.args.modes c.args.tree.now c.args.heuristic c.args.assigned.now);
+    }
 
 pub returns : goal.returns
 unfolding choice_of

@@ -1,5 +1,6 @@
 -- A leaf that isn't fixed stands within the table of pairs.
 use mathlib.Core.Path.{◌≡◌, ◌∙◌, sym}
+use mathlib.Core.Bool.{true}
 use native.Mathlib.Omega.{arith}
 use lib.ListN.{length-set}
 use Rattle.slots.specs.Slots.{pair_of, slot, unfixed}
@@ -7,7 +8,7 @@ use Rattle.slots.proofs.SlotCases.{Without, edge_without}
 use Rattle.slots.proofs.SlotNumbers.{edge_number_unfixed}
 use Rattle.topphatt.proofs.FixedSteps.{fixed_not, fixed_set}
 use Rattle.topphatt.proofs.rounds.fix.Goals as goal
-use Rattle.topphatt.proofs.rounds.fix.Goals.{After-unfixed, Else-not-unfixed}
+use Rattle.topphatt.proofs.rounds.fix.Goals.{After-unfixed}
 
 -- What the test says of the slot.
 tested : (c : After-unfixed)
@@ -21,13 +22,13 @@ tested c =
     (rw (← c.child-code.ensures) c.slot_of.ensures.0)
 
 -- A leaf that isn't fixed.
-unfixed-leaf : (c : Else-not-unfixed)
+unfixed-leaf : (c : After-unfixed) → c.unfixed.result ≡ true
     → let args = c.args in
     Without args.modes args.assigned.now c.child-code.result
-unfixed-leaf c =
+unfixed-leaf c e =
     let args = c.args in
     rw c.child-code.ensures
-    (edge_without args.modes args.tree.now args.assigned.now args.node args.edge (sym (tested c.before) ∙ c.if-not-unfixed.false))
+    (edge_without args.modes args.tree.now args.assigned.now args.node args.edge (sym (tested c) ∙ e))
 
 pub returns-then-not-unfixed : goal.returns-then-not-unfixed
 returns-then-not-unfixed c =
@@ -37,10 +38,10 @@ returns-then-not-unfixed c =
     )
 
 pub overflow_sub-pair : goal.overflow_sub-pair
-overflow_sub-pair c = let leaf = unfixed-leaf (goal.at.overflow_sub-pair c).Else-not-unfixed in omega arith
+overflow_sub-pair c = let leaf = unfixed-leaf (goal.at.overflow_sub-pair c).After-unfixed c.if-not-unfixed.false in omega arith
 
 pub bounds-assigned-pair : goal.bounds-assigned-pair
-bounds-assigned-pair c = let leaf = unfixed-leaf (goal.at.bounds-assigned-pair c).Else-not-unfixed in omega arith
+bounds-assigned-pair c = let leaf = unfixed-leaf (goal.at.bounds-assigned-pair c).After-unfixed c.if-not-unfixed.false in omega arith
 
 pub returns : goal.returns
 unfolding pair_of

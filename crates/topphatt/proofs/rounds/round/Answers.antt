@@ -16,7 +16,7 @@ use Rattle.topphatt.proofs.rounds.round.Goals as goal
 
 pub put_live-kept-requires : goal.put_live-kept-requires
 put_live-kept-requires c =
-    (c.requires.going.worked.held, omega (arith, c.requires.going.fits))
+    record { held = c.requires.going.worked.held; count_in_bounds = omega (arith, c.requires.going.fits) }
 
 pub choose-selection-requires : goal.choose-selection-requires
 choose-selection-requires c =
@@ -44,8 +44,8 @@ overflow_add-result c =
     let turn = c.requires.round_lt_modes in
     omega arith
 
-pub UNKNOWN-overflow-add-t30 : goal.UNKNOWN-overflow-add-t30
-UNKNOWN-overflow-add-t30 c =
+pub overflow_add-result-2 : goal.overflow_add-result-2
+overflow_add-result-2 c =
     let pre = c.requires.going in
     let less = c.chosen_weight-weight.ensures.1 in
     omega (arith, pre.light, pre.fits, pre.ready.few, c.requires.round_lt_modes, less, c.put_live-kept.ensures.at_most)

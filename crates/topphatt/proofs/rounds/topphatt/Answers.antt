@@ -1,7 +1,7 @@
 -- The rounds that are left end where all do.
 use mathlib.Core.Path.{refl, sym, ◌∙◌, ap}
 use mathlib.Core.List.{List}
-use Prim.Native.Nat.{ℕ, ◌-◌}
+use Prim.Native.Nat.{ℕ}
 use native.Mathlib.Omega.{arith}
 use lib.ListN.{length-replicate}
 use Rattle.terms.specs.declared.rules.Rule.{Rule}
@@ -23,11 +23,11 @@ loop-progress-init c =
           some = pre.0;
           few = pre.1;
           whole = pre.3;
-          far = c.requires.distances.0;
+          far = c.requires.distances;
           pairs = rw pre.4 (length-replicate _ _);
         };
         fits = pre.2;
-        worked = c.requires.distances.1;
+        worked = c.requires.worked;
         light = omega arith;
       },
       omega arith,
@@ -51,7 +51,7 @@ returns-then-all_assigned c =
     record { weight_is = ap (λ s. s.weight) e; assigned_is = ap (λ s. s.assigned) e; pairs = c.loop-progress.invariant.0.ready.pairs; rest = c.loop-progress.invariant.6 }
 
 pub round-progress-requires : goal.round-progress-requires
-round-progress-requires c = (c.loop-progress.invariant.0, c.loop-progress-test.true)
+round-progress-requires c = record { going = c.loop-progress.invariant.0; round_lt_modes = c.loop-progress-test.true }
 
 pub loop-progress-smaller : goal.loop-progress-smaller
 loop-progress-smaller c =
