@@ -172,4 +172,5 @@ sequence_kept (merge ∷ history) rest =
     λ i. ap (λ n. get_or (front ++ (three ++ rest)) (n + i) 0) (sym long) ∙ get_or-append-add front (three ++ rest) i 0 in
     let first : get_or (front ++ (three ++ rest)) (3 * length history) 0 ≡ merge.x =
     ap (λ n. get_or (front ++ (three ++ rest)) n 0) (sym (add-zero (3 * length history))) ∙ at 0 in
-    rw (append_assoc front three rest) (rw (first, at 1, at 2, sequence_kept history (three ++ rest)))
+    ap (λ l. history_in l (suc (length history))) (append_assoc front three rest)
+    ∙ rw (first, at 1, at 2, sequence_kept history (three ++ rest))

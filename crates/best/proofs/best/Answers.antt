@@ -18,7 +18,11 @@ returns-then-sequence-modes c =
 pub find-requires : goal.find-requires
 find-requires c =
     let args = c.args in
-    (cc, ((omega (arith, c.if-modes-eq0.false), c.if-modes-gt4.false), c.if-sequence-modes.false))
+    record {
+      terms_value = cc;
+      le_modes = (omega (arith, c.if-modes-eq0.false), c.if-modes-gt4.false);
+      modes_in_bounds = c.if-sequence-modes.false;
+    }
 
 pub returns-in-Refused : goal.returns-in-Refused
 returns-in-Refused c =

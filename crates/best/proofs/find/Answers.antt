@@ -17,11 +17,17 @@ both e f = rw (e, f)
 pub own_operators-own-requires : goal.own_operators-own-requires
 own_operators-own-requires c =
     let rows = accepted c.args.modes c.args.terms.now c.args.count c.requires.terms_value in
-    (omega arith, record { few = rows.at_most; held = rows.given.held; good = rows.good })
+    record {
+      modes_le_most_modes = omega arith;
+      good_rows = record { few = rows.at_most; held = rows.given.held; good = rows.good };
+    }
 
 pub search-lead-requires : goal.search-lead-requires
 search-lead-requires c =
-    ((record { some = c.requires.le_modes.0.0; few = c.requires.le_modes.0.1 }, c.requires.le_modes.1), c.own_operators-own.ensures.below)
+    record {
+      few = (record { some = c.requires.le_modes.0; few = c.requires.le_modes.1 }, c.requires.modes_in_bounds);
+      rows_below = c.own_operators-own.ensures.below;
+    }
 
 pub returns : goal.returns
 returns c =

@@ -1,6 +1,6 @@
 -- The merges from the newest back: the first that has the entity, as its parent or as one of its three, decides; a leaf that none has is open.
 use mathlib.Core.Path.{◌≡◌}
-use Prim.Native.Nat.{◌-◌, ◌≤◌}
+use Prim.Native.Nat.{◌≤◌}
 use Rattle.history.specs.History.{is_open}
 use Rattle.best.specs.code.Numbered.{history_in}
 use Rattle.best.proofs.lawful.is_open.Given as goal

@@ -1,6 +1,6 @@
 -- The merges from the newest back: where the entity is a merge's parent its z takes over.
 use mathlib.Core.Path.{◌≡◌}
-use Prim.Native.Nat.{◌-◌, ◌≤◌}
+use Prim.Native.Nat.{◌≤◌}
 use Rattle.history.specs.History.{z_end}
 use Rattle.best.specs.code.Numbered.{history_in}
 use Rattle.best.proofs.lawful.z_end.Given as goal

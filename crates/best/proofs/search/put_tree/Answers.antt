@@ -1,5 +1,5 @@
 -- Each place passed has its number's code.
-use Prim.Native.Nat.{◌*◌, ◌-◌}
+use Prim.Native.Nat.{◌*◌}
 use native.Mathlib.Omega.{arith}
 use lib.ListN.{get_or, length-set}
 use Rattle.lists.proofs.Writes.{agrees_next}
@@ -19,6 +19,6 @@ loop-at-preserved c =
 
 pub returns : goal.returns
 returns c = record {
-      by_index = λ k h. c.loop-at.invariant.2 k (omega arith);
-      tree_len_unchanged = c.loop-at.invariant.1;
-    }
+  by_index = λ k h. c.loop-at.invariant.2 k (omega arith);
+  tree_len_unchanged = c.loop-at.invariant.1;
+}

@@ -1,6 +1,6 @@
 -- One sequence after the other; the first leads before any was met.
 use mathlib.Core.Path.{◌≡◌, ◌∙◌}
-use Prim.Native.Nat.{◌-◌, ◌<◌}
+use Prim.Native.Nat.{◌<◌}
 use native.Mathlib.Omega.{arith}
 use lib.ListN.{length}
 use Rattle.best.specs.Sequences.{sequences}
@@ -12,7 +12,7 @@ pub sequence_count-total-requires : goal.sequence_count-total-requires
 sequence_count-total-requires c = c.requires.few.0.few
 
 pub start-lead-requires : goal.start-lead-requires
-start-lead-requires c = (c.requires.few, c.requires.rows_below)
+start-lead-requires c = record { few = c.requires.few; rows_below = c.requires.rows_below }
 
 pub loop-number-init : goal.loop-number-init
 loop-number-init c = (omega arith, c.start-lead.ensures.led, front_same _ _)
@@ -21,7 +21,11 @@ pub meet-lead-requires : goal.meet-lead-requires
 meet-lead-requires c =
     let long = c.loop-number.invariant.2.long ∙ c.start-lead.ensures.front_only.long in
     let more : c.loop-number.number < length (sequences c.args.modes) = omega (arith, c.sequence_count-total.ensures.0, sequences_counted c.args.modes) in
-    ((c.requires.few.0, omega (arith, long)), (c.requires.rows_below, (more, c.loop-number.invariant.1)))
+    record {
+      few = (c.requires.few.0, omega (arith, long));
+      rows_below = c.requires.rows_below;
+      number_in_bounds = (more, c.loop-number.invariant.1);
+    }
 
 pub loop-number-preserved : goal.loop-number-preserved
 loop-number-preserved c =

@@ -5,7 +5,12 @@ use Rattle.best.proofs.LeadOn.{lead_starts}
 use Rattle.best.proofs.search.start.Goals as goal
 
 pub weigh_next-weight-requires : goal.weigh_next-weight-requires
-weigh_next-weight-requires c = ((c.requires.few.0, omega arith), (c.requires.rows_below, sequences_there c.args.modes))
+weigh_next-weight-requires c =
+    record {
+      few = (c.requires.few.0, omega arith);
+      rows_below = c.requires.rows_below;
+      number_in_bounds = sequences_there c.args.modes;
+    }
 
 pub returns : goal.returns
 returns c =

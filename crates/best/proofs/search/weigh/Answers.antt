@@ -17,7 +17,7 @@ operators_weight-requires c =
     let put = c.put_tree in
     record {
       tree_len = (omega (arith, length-take (3 * c.args.modes) put.new.tree, put.ensures.tree_len_unchanged), omega arith);
-      rows_below = c.requires.all_merged.1;
+      rows_below = c.requires.rows_below;
     }
 
 pub returns : goal.returns
@@ -26,4 +26,4 @@ returns c =
     let put = c.put_tree in
     c.operators_weight.ensures
     ∙ ap (own_weight args.modes args.count args.own.now)
-    (tree_kept args.modes args.merges.now put.new.tree c.requires.all_merged.0 (omega (arith, put.ensures.tree_len_unchanged)) put.ensures.by_index)
+    (tree_kept args.modes args.merges.now put.new.tree c.requires.all_merged (omega (arith, put.ensures.tree_len_unchanged)) put.ensures.by_index)

@@ -9,13 +9,17 @@ pub weigh-requires : goal.weigh-requires
 weigh-requires c =
     let args = c.args in
     let put = c.put_sequence.ensures in
-    ((omega arith, omega (arith, put.1)), (numbered_merged args.modes args.number c.requires.rows_below.1 _ put.0 c.requires.few.0, c.requires.rows_below.0))
+    record {
+      modes_le_most_to_try = (omega arith, omega (arith, put.1));
+      all_merged = numbered_merged args.modes args.number c.requires.number_in_bounds _ put.0 c.requires.few.0;
+      rows_below = c.requires.rows_below;
+    }
 
 pub returns : goal.returns
 returns c =
     let args = c.args in
     let put = c.put_sequence.ensures in
-    let same = numbered_is args.modes args.number c.requires.rows_below.1 _ put.0 in
+    let same = numbered_is args.modes args.number c.requires.number_in_bounds _ put.0 in
     record {
       merges = same;
       long = put.1;

@@ -1,13 +1,13 @@
 -- The lawful triples from here on, without the first `passes` of them, begin with the triple that is sought.
 use mathlib.Core.Path.{ap, ◌∙◌, sym}
-use mathlib.Core.Logic.{⊎_elim}
-use Prim.Native.Nat.{◌+◌, ◌-◌}
+use Prim.Native.Nat.{◌+◌}
 use native.Mathlib.Omega.{arith}
 use lib.ListN.{get_or}
 use Rattle.history.specs.computed.Pairs.{is_lawful}
 use Rattle.best.specs.code.Numbered.{no_merge, history_in}
 use Rattle.best.proofs.LawfulNumbered.{lawful_from, lawful_start, lawful_met, unlawful_met, lawful_end, next_of}
 use Rattle.best.proofs.sequence.nth_lawful.Goals as goal
+use Rattle.best.proofs.sequence.nth_lawful.Goals.{then-is_lawful+else-passes-eq0, else-is_lawful}
 
 pub loop-at-init : goal.loop-at-init
 loop-at-init c =
@@ -33,19 +33,19 @@ loop-at-preserved c =
     let history = history_in args.merges.now args.steps in
     let rest = lawful_from args.modes args.merges.now args.steps end (at + 1) in
     let tested = ap (is_lawful args.modes history) (sym c.triple_at-triple.ensures) ∙ sym c.is_lawful.ensures in
-    ⊎_elim
-    (λ w. (
-      omega arith,
-      ap (λ n. get_or rest n no_merge) w.2
-          ∙ next_of _ rest c.loop-at.passes no_merge (omega (arith, w.1.left))
-          ∙ (rw (lawful_met args.modes args.merges.now args.steps end at (omega arith) (tested ∙ w.0.taken)) at c.loop-at.invariant.1),
-    ))
-    (λ w. (
-      omega arith,
-      ap (λ n. get_or rest n no_merge) w.1
-          ∙ (rw (unlawful_met args.modes args.merges.now args.steps end at (omega arith) (tested ∙ w.0.left)) at c.loop-at.invariant.1),
-    ))
-    c.if-is_lawful.branch
+    elim c.if-is_lawful.branch [
+      | then-is_lawful+else-passes-eq0 w ↦ (
+        omega arith,
+        ap (λ n. get_or rest n no_merge) w.passes-is
+            ∙ next_of _ rest c.loop-at.passes no_merge (omega (arith, w.if-passes-eq0.false))
+            ∙ (rw (lawful_met args.modes args.merges.now args.steps end at (omega arith) (tested ∙ w.if-is_lawful.true)) at c.loop-at.invariant.1),
+      )
+      | else-is_lawful w ↦ (
+        omega arith,
+        ap (λ n. get_or rest n no_merge) w.passes-is
+            ∙ (rw (unlawful_met args.modes args.merges.now args.steps end at (omega arith) (tested ∙ w.if-is_lawful.false)) at c.loop-at.invariant.1),
+      )
+    ]
 
 pub returns : goal.returns
 returns c =
