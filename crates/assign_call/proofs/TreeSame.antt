@@ -8,11 +8,8 @@ use lib.ListN.{length, take, length-append}
 use lib.Seq.{length-take-le, take_at}
 use Rattle.lists.specs.Ranges.{listed}
 use Rattle.lists.proofs.Listed.{length_listed}
-use Rattle.refusal.specs.declared.Refusal.TheVariants.{Modes}
 use Rattle.terms.specs.Good.{modes_good}
-use Rattle.tree.specs.Check.{tree_checked}
-use Rattle.tree.specs.declared.TreeChecked.TheVariants.{Refused as BadTree}
-use Rattle.topphatt.specs.Answer.{asked, with_tree, outcome}
+use Rattle.topphatt.specs.Answer.{asked, outcome}
 use Rattle.call_bytes.specs.Bytes.{word_at, words}
 use Rattle.assign_call.specs.code.Handing.{tree_numbers}
 use Rattle.assign_call.specs.code.Reading.{TreeRead}
