@@ -9,14 +9,12 @@ pub returns-in-Refused : goal.returns-in-Refused
 unfolding continue_text new_printed
 returns-in-Refused c =
     let run = c.run_front in
-    let told = c.refusal-1.given in
-    let known = run_refused 256 _ _ _ _ run.ensures _ told.1 in
+    let known = run_refused 256 _ _ _ _ run.ensures _ c.in-Refused.is in
     rw known.is (rw (ap (λ l. l.journal) known.leaves) at c.put_refusal.ensures)
 
 pub returns-in-Done : goal.returns-in-Done
 unfolding continue_text new_printed
 returns-in-Done c =
     let run = c.run_front in
-    let told = c.run-1.given in
-    let known = run_done 256 _ _ _ _ run.ensures _ told.1 in
+    let known = run_done 256 _ _ _ _ run.ensures _ c.in-Done.is in
     rw known.is (record { count = known.new; fits = omega (arith, known.new, known.fits); bytes = known.journal })

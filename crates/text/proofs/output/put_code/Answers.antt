@@ -7,7 +7,10 @@ use Rattle.text.proofs.output.put_code.Goals as goal
 pub returns-then-code-eq-ABSENT : goal.returns-then-code-eq-ABSENT
 returns-then-code-eq-ABSENT c =
     let put = c.put_bytes.ensures in
-    rw (code_absent c.args.code c.if-code-eq-ABSENT.true) ((put.value, omega arith), put.out_after)
+    record {
+      value = rw (code_absent c.args.code c.if-code-eq-ABSENT.true) ((put.value, omega arith));
+      out_after = rw (code_absent c.args.code c.if-code-eq-ABSENT.true) put.out_after;
+    }
 
 pub put_field-requires : goal.put_field-requires
 put_field-requires c =

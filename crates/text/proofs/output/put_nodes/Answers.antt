@@ -1,5 +1,4 @@
 -- The lines of the rows passed stand behind the start; at the end they are all.
-use Prim.Native.Nat.{◌-◌}
 use native.Mathlib.Omega.{arith}
 use Rattle.text.proofs.PrintedLines.{rows_start, rows_go, rows_end}
 use Rattle.text.proofs.output.put_nodes.Goals as goal

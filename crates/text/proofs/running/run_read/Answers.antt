@@ -21,22 +21,19 @@ slice_bounds-run_given-end c =
 pub slice_bounds-run_given-end-in-Given : goal.slice_bounds-run_given-end-in-Given
 slice_bounds-run_given-end-in-Given c =
     let read = c.read_input in
-    let told = c.modes-1.given in
-    let room : 8 * told.0.1.0 ≤ length read.new.numbers =
+    let room : 8 * c.in-Given.count ≤ length read.new.numbers =
     omega (arith, given_few 2048 c.args.input.now _ _ c.read_input.ensures _ _ c.in-Given.is, read.auto, c.requires.0) in
-    sym (length-take-le (8 * told.0.1.0) read.new.numbers room)
+    sym (length-take-le (8 * c.in-Given.count) read.new.numbers room)
 
 pub returns-in-Malformed : goal.returns-in-Malformed
 unfolding drops_then
 returns-in-Malformed c =
     let args = c.args in
-    let told = c.line-1.given in
-    let is = malformed_ran 2048 args.input.now _ _ c.read_input.ensures _ told.1 program_rooms args.rule args.read.now refl in
-    (record { is = is; leaves = refl }, rw is)
+    let is = malformed_ran 2048 args.input.now _ _ c.read_input.ensures _ c.in-Malformed.is program_rooms args.rule args.read.now refl in
+    record { runs = record { is = is; leaves = refl }; drops_after = rw is }
 
 pub returns-in-Given : goal.returns-in-Given
 returns-in-Given c =
     let args = c.args in
-    let told = c.modes-1.given in
-    rw (given_ran 2048 args.input.now _ _ c.read_input.ensures _ _ told.1 program_rooms args.rule args.read.now refl) at
+    rw (given_ran 2048 args.input.now _ _ c.read_input.ensures _ _ c.in-Given.is program_rooms args.rule args.read.now refl) at
     c.run_given.ensures

@@ -20,10 +20,10 @@ returns-in-Refused c =
     let args = c.args in
     let rooms = same_rooms args.work.now args.rows.now args.journal.now args.drops.now c.requires.0 c.requires.1 c.requires.2 c.requires.3 in
     let told = rw c.number.ensures at c.resume.ensures in
-    let refusal = c.refusal-1.given in (
-      refused_runs args.modes (rule_number args.rule) args.numbers.now args.read.now _ _ _ rooms told refusal.0.0 refusal.1,
-      drops_left args.modes (rule_number args.rule) args.numbers.now args.read.now _ _ _ rooms told,
-    )
+    record {
+      runs = refused_runs args.modes (rule_number args.rule) args.numbers.now args.read.now _ _ _ rooms told c.in-Refused.refusal c.in-Refused.is;
+      drops_after = drops_left args.modes (rule_number args.rule) args.numbers.now args.read.now _ _ _ rooms told;
+    }
 
 pub returns-in-Done : goal.returns-in-Done
 unfolding ran_by
@@ -31,8 +31,9 @@ returns-in-Done c =
     let args = c.args in
     let rooms = same_rooms args.work.now args.rows.now args.journal.now args.drops.now c.requires.0 c.requires.1 c.requires.2 c.requires.3 in
     let told = rw c.number.ensures at c.resume.ensures in
-    let found = c.found-1.given in (
-      done_runs args.modes (rule_number args.rule) args.numbers.now args.read.now _ _ _ rooms told found.0.0
-          c.resume.auto.journal found.1,
-      drops_left args.modes (rule_number args.rule) args.numbers.now args.read.now _ _ _ rooms told,
-    )
+    record {
+      runs =
+          done_runs args.modes (rule_number args.rule) args.numbers.now args.read.now _ _ _ rooms told c.in-Done.found
+          c.resume.auto.journal c.in-Done.is;
+      drops_after = drops_left args.modes (rule_number args.rule) args.numbers.now args.read.now _ _ _ rooms told;
+    }
