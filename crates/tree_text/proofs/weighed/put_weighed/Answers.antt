@@ -12,6 +12,5 @@ returns-in-Unweighed c = rw c.in-Unweighed.is c.put_refusal.ensures
 pub returns-in-Weight : goal.returns-in-Weight
 unfolding weigh_printed
 returns-in-Weight c =
-    let told = c.found-in-Weight-1.given in
     let put = c.put_value.ensures in
-    rw (told.1, ← weight_parts told.0.0) (wrote_puts (record { behind = put.value.0; written = put.out_after }) (omega (arith, put.value.1, c.requires)))
+    rw (c.in-Weight.is, ← weight_parts c.in-Weight.weight) (wrote_puts (record { behind = put.value.0; written = put.out_after }) (omega (arith, put.value.1, c.requires)))
