@@ -28,7 +28,11 @@ pub steer_job-requires : goal.steer_job-requires
 steer_job-requires c =
     let fits = ((c.read_job.ensures c.args.rule).is_job _ _ c.in-Is.is).1 in
     let terms = accepted _ _ _ fits.good in
-    ((fits.some, fits.few, terms.at_most), ((_, c.own_rows-own.ensures.1), c.requires.1))
+    record {
+      le_modes = (fits.some, fits.few, terms.at_most);
+      by_index = (_, c.own_rows-own.ensures.1);
+      out_len = c.requires.1;
+    }
 
 pub returns-in-Refused : goal.returns-in-Refused
 unfolding steer_text steered steered_by steer_printed

@@ -17,7 +17,7 @@ overflow_add-merges c =
 
 pub returns-then-kept_bytes-merges : goal.returns-then-kept_bytes-merges
 unfolding steer_printed
-returns-then-kept_bytes-merges c =
+returns-then-kept_bytes-merges c job holds sized =
     let kept = c.kept_bytes in
     let merges = c.merges in
     let line : merges.result + 1 ≡ line_after (history_of c.args.run) = omega (arith, merges.ensures) in
@@ -31,7 +31,7 @@ write_new-requires c =
 
 pub returns : goal.returns
 unfolding steer_printed
-returns c =
+returns c job holds sized =
     let run = c.args.run in
     let kept = c.kept_bytes in
     let enough : 5392 ≤ length c.args.out.now = omega (arith, c.requires.out_len) in

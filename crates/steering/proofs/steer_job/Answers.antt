@@ -14,21 +14,21 @@ sized : (modes : ℕ) (rule : Rule) (count : ℕ) (numbers : List ℕ) → Sized
 sized modes rule count numbers = record { modes_are = refl; count_is = length_terms 8 count numbers }
 
 pub obey_by_hand-found-requires : goal.obey_by_hand-found-requires
-obey_by_hand-found-requires c = (c.requires.le_modes, c.requires.by_index.0)
+obey_by_hand-found-requires c = record { le_modes = c.requires.le_modes; by_index = c.requires.by_index }
 
 pub put_journal-requires : goal.put_journal-requires
 put_journal-requires c =
     let args = c.args in
-    let numbers = c.requires.by_index.0.0 in
-    let obeys = c.obey_by_hand-found.ensures numbers c.requires.by_index.0.1 in
+    let numbers = c.requires.by_index.0 in
+    let obeys = c.obey_by_hand-found.ensures numbers c.requires.by_index.1 in
     record {
       holds = (job_of args.modes args.rule args.count numbers, (obeys.went.holds, sized args.modes args.rule args.count numbers));
-      out_len = c.requires.by_index.1;
+      out_len = c.requires.out_len;
     }
 
 pub returns-in-Refused : goal.returns-in-Refused
 unfolding steer_printed
-returns-in-Refused c =
+returns-in-Refused c numbers spread =
     let args = c.args in
     let job = job_of args.modes args.rule args.count numbers in
     let obey = c.obey_by_hand-found in
@@ -36,7 +36,7 @@ returns-in-Refused c =
     c.put_refusal.ensures
 
 pub returns-in-Fine : goal.returns-in-Fine
-returns-in-Fine c =
+returns-in-Fine c numbers spread =
     let args = c.args in
     let job = job_of args.modes args.rule args.count numbers in
     let obey = c.obey_by_hand-found in

@@ -29,7 +29,11 @@ pub reason_job-requires : goal.reason_job-requires
 reason_job-requires c =
     let fits = ((c.read_job.ensures c.args.rule).is_job _ _ c.in-Is.is).1 in
     let terms = accepted _ _ _ fits.good in
-    ((fits.some, fits.few, terms.at_most), ((_, c.own_rows-own.ensures.1), c.requires.1))
+    record {
+      le_modes = (fits.some, fits.few, terms.at_most);
+      by_index = (_, c.own_rows-own.ensures.1);
+      out_len = c.requires.1;
+    }
 
 pub returns-in-Refused : goal.returns-in-Refused
 unfolding reason_text reason_by

@@ -7,7 +7,7 @@ use Rattle.steering.proofs.ReasonTold.{line_puts, due_told, closed_told, weight_
 use Rattle.steering.proofs.reasons.put_reason.Goals as goal
 
 pub returns-then-number-eq8 : goal.returns-then-number-eq8
-returns-then-number-eq8 c =
+returns-then-number-eq8 c job holds =
     let args = c.args in
     let put = c.put_value in
     let made = c.merges.ensures in
@@ -16,7 +16,7 @@ returns-then-number-eq8 c =
     put.ensures.out_after)
 
 pub returns-then-number-eq9 : goal.returns-then-number-eq9
-returns-then-number-eq9 c =
+returns-then-number-eq9 c job holds =
     let args = c.args in
     let put = c.put_value-then-number-eq9 in
     let closed = c.first_closed.ensures job _ holds in
@@ -25,7 +25,7 @@ returns-then-number-eq9 c =
     put.ensures.value.0 put.ensures.out_after)
 
 pub returns-then-number-eq11 : goal.returns-then-number-eq11
-returns-then-number-eq11 c =
+returns-then-number-eq11 c job holds =
     let args = c.args in
     let put = c.put_value-then-number-eq11 in
     let weighs = c.weight_of.ensures job holds in
@@ -34,7 +34,7 @@ returns-then-number-eq11 c =
     put.ensures.value.0 put.ensures.out_after)
 
 pub returns : goal.returns
-returns c =
+returns c job holds =
     let args = c.args in
     rw (nothing_told job (history_of args.run) args.number args.triple c.if-number-eq8.false c.if-number-eq9.false c.if-number-eq11.false)
     (puts_none args.out.now)

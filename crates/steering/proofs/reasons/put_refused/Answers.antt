@@ -6,7 +6,7 @@ use Rattle.steering.proofs.reasons.put_refused.Goals as goal
 
 pub returns-in-Is : goal.returns-in-Is
 unfolding reason_in reason_said
-returns-in-Is c =
+returns-in-Is c job holds =
     let line = c.line_at-line.ensures in
     let place = c.place.ensures in
     rw (← place, ← line, sym c.read_merge.ensures ∙ c.in-Is.is, ← c.number.ensures)
@@ -14,7 +14,7 @@ returns-in-Is c =
 
 pub returns-in-Broken : goal.returns-in-Broken
 unfolding reason_in reason_said
-returns-in-Broken c =
+returns-in-Broken c job holds =
     let args = c.args in
     let line = c.line_at-line.ensures in
     let place = c.place.ensures in
