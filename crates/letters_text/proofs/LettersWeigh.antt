@@ -9,7 +9,7 @@ use Rattle.lists.specs.Counting.{sum}
 use Rattle.lists.specs.Members.{every, keep}
 use Rattle.lists.proofs.Every.{every_cons}
 use Rattle.entities.specs.declared.Triple.{Triple}
-use Rattle.fields.specs.Lines.{is_line, lines}
+use Rattle.fields.specs.Lines.{is_line}
 use Rattle.fields.proofs.LinesJoined.{lines_read_back}
 use Rattle.terms.specs.Weight.{term_letter, term_weight, weight_of}
 use Rattle.reduction.specs.Reduction.{is_there}

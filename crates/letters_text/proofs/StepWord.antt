@@ -15,7 +15,6 @@ use Rattle.fields.specs.Fields.{fields_after, tabbed}
 use Rattle.fields.specs.code.Reading.{fields_good, NumbersRead}
 use Rattle.fields.proofs.Numerals.{numeral}
 use Rattle.fields.proofs.Tabbed.{no_tab, tabbed_fields, fields_tabbed}
-use Rattle.letters_text.specs.declared.steps.Asked.{Asked}
 use Rattle.letters_text.specs.declared.steps.Asked.TheVariants.{Step, NoStep}
 use Rattle.letters_text.specs.Lettering.{asked}
 

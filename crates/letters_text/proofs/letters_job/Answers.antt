@@ -14,10 +14,12 @@ own_rows-again-requires c =
 
 pub letters_own-requires : goal.letters_own-requires
 letters_own-requires c =
-    let good = accepted c.args.modes c.args.terms.now c.args.count c.requires.le_modes.2 in (
-      (c.requires.le_modes.0, c.requires.le_modes.1, good.at_most),
-      ((c.args.terms.now, (c.own_rows-own.ensures.1, c.own_rows-again.ensures.1)), c.requires.out_len),
-    )
+    let good = accepted c.args.modes c.args.terms.now c.args.count c.requires.le_modes.2 in
+    record {
+      le_modes = (c.requires.le_modes.0, c.requires.le_modes.1, good.at_most);
+      by_index = (c.args.terms.now, (c.own_rows-own.ensures.1, c.own_rows-again.ensures.1));
+      out_len = c.requires.out_len;
+    }
 
 pub returns : goal.returns
 returns c =

@@ -5,35 +5,35 @@ use Rattle.letters_text.proofs.RunFinished.{run_finished, refused_lettered, fine
 use Rattle.letters_text.proofs.letters_own.Goals as goal
 
 pub obey-found-requires : goal.obey-found-requires
-obey-found-requires c = (c.requires.le_modes, (c.requires.by_index.0.0, c.requires.by_index.0.1.0))
+obey-found-requires c = record { le_modes = c.requires.le_modes; by_index = (c.requires.by_index.0, c.requires.by_index.1.0) }
 
 pub finished-requires : goal.finished-requires
 finished-requires c =
-    let obeys = c.obey-found.ensures c.requires.by_index.0.0 c.requires.by_index.0.1.0 in
+    let obeys = c.obey-found.ensures c.requires.by_index.0 c.requires.by_index.1.0 in
     (_, obeys.went.holds)
 
 pub put_asked-requires : goal.put_asked-requires
 put_asked-requires c =
     let args = c.args in
-    let numbers = c.requires.by_index.0.0 in
-    let obeys = c.obey-found.ensures numbers c.requires.by_index.0.1.0 in
+    let numbers = c.requires.by_index.0 in
+    let obeys = c.obey-found.ensures numbers c.requires.by_index.1.0 in
     let finished = c.finished.ensures _ obeys.went.holds in
     let job = job_of args.modes args.rule args.count numbers in
     record {
-      by_index = (job, (_, run_finished args.modes args.rule args.count numbers args.again.now _ _ _ _ obeys.went.holds finished c.requires.by_index.0.1.1));
-      out_len = c.requires.by_index.1;
+      by_index = (job, (_, run_finished args.modes args.rule args.count numbers args.again.now _ _ _ _ obeys.went.holds finished c.requires.by_index.1.1));
+      out_len = c.requires.out_len;
     }
 
 pub returns-in-Refused : goal.returns-in-Refused
 unfolding letters_printed
-returns-in-Refused c =
+returns-in-Refused c numbers spread again =
     let args = c.args in
     let job = job_of args.modes args.rule args.count numbers in
     let obey = c.obey-found in
     rw (refused_lettered job args.word.now _ _ _ (obey.ensures numbers spread).comes_to _ c.in-Refused.is) c.put_refusal.ensures
 
 pub returns-in-Fine : goal.returns-in-Fine
-returns-in-Fine c =
+returns-in-Fine c numbers spread again =
     let args = c.args in
     let job = job_of args.modes args.rule args.count numbers in
     let told = c.obey-found.ensures numbers spread in

@@ -18,12 +18,12 @@ put_step-requires c =
 
 pub returns-in-Step : goal.returns-in-Step
 unfolding lettered_at
-returns-in-Step c =
+returns-in-Step c job own finished =
     rw (ap (λ n. asked n c.args.word.now) finished.modes_are ∙ sym c.asked_step.ensures ∙ c.in-Step.is) (c.put_step.ensures job own finished)
 
 pub returns-in-NoStep : goal.returns-in-NoStep
 unfolding lettered_at
-returns-in-NoStep c =
+returns-in-NoStep c job own finished =
     let put = c.put_value in
     let none : lettered_at job (history_of c.args.run) (asked job.modes c.args.word.now) ≡ no_step c.args.modes =
     rw (ap (λ n. asked n c.args.word.now) finished.modes_are ∙ sym c.asked_step.ensures ∙ c.in-NoStep.is) (ap no_step finished.modes_are) in

@@ -25,6 +25,6 @@ put_letters-requires c =
 
 pub returns : goal.returns
 unfolding letters_printed step_lines
-returns c =
+returns c job own finished =
     let rows = c.rows_before.ensures job own finished in
     rw (← c.merge_of-triple.ensures, ← terms_replayed job _ _ rows, finished.count_is) c.put_letters.ensures

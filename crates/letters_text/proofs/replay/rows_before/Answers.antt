@@ -1,6 +1,6 @@
 -- The rows before each step in turn: a merge takes them to those before the next.
 use mathlib.Core.Path.{◌≡◌, refl, ap, ◌∙◌, sym}
-use Prim.Native.Nat.{◌-◌, ◌<◌}
+use Prim.Native.Nat.{◌<◌}
 use native.Mathlib.Omega.{arith}
 use lib.ListN.{length}
 use Rattle.entities.specs.Parents.{parent_number}
@@ -46,6 +46,6 @@ loop-at-preserved c =
     )
 
 pub returns : goal.returns
-returns c =
+returns c job own finished =
     let last : c.loop-at.at ≡ c.args.step = omega arith in
     rw last at (c.loop-at.invariant.2 job own finished)

@@ -8,10 +8,18 @@ use Rattle.letters_text.proofs.row_lines.put_row.Goals as goal
 pub returns-then-term-eq0 : goal.returns-then-term-eq0
 returns-then-term-eq0 c =
     let args = c.args in
-    rw (gone_line args.triple args.place args.term.now c.if-term-eq0.true) ((omega arith, omega arith), sym (nothing_written args.at args.out.now))
+    let none = gone_line args.triple args.place args.term.now c.if-term-eq0.true in
+    record {
+      value = rw none (omega arith, omega arith);
+      out_after = rw none (sym (nothing_written args.at args.out.now));
+    }
 
 pub returns : goal.returns
 returns c =
     let args = c.args in
     let put = c.put_letter in
-    rw (there_line args.triple args.place args.term.now c.if-term-eq0.false, ← c.qubit_term_weight.ensures) put.ensures
+    let line = there_line args.triple args.place args.term.now c.if-term-eq0.false in
+    record {
+      value = rw (line, ← c.qubit_term_weight.ensures) put.ensures.value;
+      out_after = rw (line, ← c.qubit_term_weight.ensures) put.ensures.out_after;
+    }
