@@ -1,5 +1,4 @@
 -- The lines of the steps passed stand at the front; at the end they are all.
-use Prim.Native.Nat.{◌-◌}
 use native.Mathlib.Omega.{arith}
 use Rattle.lists.proofs.Behind.{Wrote}
 use Rattle.text.proofs.PrintedLines.{wrote_puts}
