@@ -2,9 +2,8 @@
 #![tactic(auto)]
 
 use replay::{Kind, Tally};
-use std::fs;
-use std::io;
 use std::io::Write;
+use std::{fs, io};
 
 mod replay;
 

@@ -1,5 +1,4 @@
 -- Each turn looks at one row more; the count of rows is a quarter of their numbers.
-use Prim.Native.Nat.{◌-◌}
 use Rattle.recorded_assign.proofs.same_table.Goals as goal
 
 pub returns-then-rows-ne0 : goal.returns-then-rows-ne0

@@ -1,5 +1,4 @@
 -- Each turn takes one step's drops from the terms that are left.
-use Prim.Native.Nat.{◌-◌}
 use Rattle.recorded_hatt.proofs.all_dropped.Goals as goal
 
 pub returns-then-drops-modes : goal.returns-then-drops-modes
