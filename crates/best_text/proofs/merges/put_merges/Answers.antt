@@ -1,5 +1,4 @@
 -- The lines of the merges passed stand behind the start; at the end they are all.
-use Prim.Native.Nat.{◌-◌}
 use native.Mathlib.Omega.{arith}
 use Rattle.best.specs.code.Numbered.{merge_in}
 use Rattle.best_text.proofs.MergesPrinted.{merges_start, merges_go, merges_end}
