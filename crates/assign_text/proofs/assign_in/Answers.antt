@@ -26,5 +26,4 @@ unfolding found_text
 returns-in-Weight c =
     let args = c.args in
     let assign = c.assign in
-    let told = c.weight-1.given in
-    ap (found_text (Weight told.0.0)) c.assign_rows.ensures ∙ done_printed args.modes args.rule args.heuristic args.table.now args.numbers.now args.rows.now (lent args.work.now args.assigned.now) (lent assign.new.work assign.new.table) assign.result c.requires.work_len.0 c.requires.work_len.1 assign.ensures _ told.1 c.requires.rows_fit.1
+    ap (found_text (Weight c.in-Weight.weight)) c.assign_rows.ensures ∙ done_printed args.modes args.rule args.heuristic args.table.now args.numbers.now args.rows.now (lent args.work.now args.assigned.now) (lent assign.new.work assign.new.table) assign.result c.requires.work_len.0 c.requires.work_len.1 assign.ensures _ c.in-Weight.is c.requires.rows_fit.1

@@ -16,9 +16,8 @@ returns-in-Unassigned c = rw c.in-Unassigned.is c.put_refusal.ensures
 pub returns-in-Weight : goal.returns-in-Weight
 unfolding found_text modes_in
 returns-in-Weight c =
-    let told = c.found-in-Weight-1.given in
     let value = c.put_value-end.ensures in
     let lines = c.put_nodes.ensures in
-    rw told.1
-    (found_wrote told.0.0 c.args.rows.now c.args.out.now (record { behind = value.value.0; written = value.out_after })
+    rw c.in-Weight.is
+    (found_wrote c.in-Weight.weight c.args.rows.now c.args.out.now (record { behind = value.value.0; written = value.out_after })
     (record { behind = lines.value.0; written = lines.out_after }) (omega (arith, value.value.1, c.requires)) (omega (arith, value.value.1, lines.value.1, c.requires)))

@@ -1,5 +1,4 @@
 -- The rows written anew and those ahead give the answer.
-use Prim.Native.Nat.{◌-◌}
 use native.Mathlib.Omega.{arith}
 use Rattle.tree.specs.Laying.{modes_in}
 use Rattle.assign_text.proofs.AssignedRows.{anew_starts, anew_goes, anew_ends}
