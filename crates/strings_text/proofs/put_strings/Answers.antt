@@ -9,16 +9,14 @@ pub returns-in-Unwritten : goal.returns-in-Unwritten
 returns-in-Unwritten c =
     let args = c.args in
     let write = c.write_strings in
-    let told = c.refusal-1.given in
-    let says = sym told.1 ∙ write.ensures.tells.answer in
-    let after = write.ensures.text_after ∙ ap (λ r. text_after r (strings_text args.modes args.tree.now) args.out.now) told.1 in
-    refused_strings args.modes args.tree.now args.out.now c.requires told.0.0 write.new.text says after c.put_refusal.ensures
+    let says = sym c.in-Unwritten.is ∙ write.ensures.tells.answer in
+    let after = write.ensures.text_after ∙ ap (λ r. text_after r (strings_text args.modes args.tree.now) args.out.now) c.in-Unwritten.is in
+    refused_strings args.modes args.tree.now args.out.now c.requires c.in-Unwritten.refusal write.new.text says after c.put_refusal.ensures
 
 pub returns-in-Written : goal.returns-in-Written
 returns-in-Written c =
     let args = c.args in
     let write = c.write_strings in
-    let told = c.count-1.given in
-    let says = sym told.1 ∙ write.ensures.tells.answer in
-    let after = write.ensures.text_after ∙ ap (λ r. text_after r (strings_text args.modes args.tree.now) args.out.now) told.1 in
-    written_strings args.modes args.tree.now args.out.now c.requires told.0.0 write.new.text says after
+    let says = sym c.in-Written.is ∙ write.ensures.tells.answer in
+    let after = write.ensures.text_after ∙ ap (λ r. text_after r (strings_text args.modes args.tree.now) args.out.now) c.in-Written.is in
+    written_strings args.modes args.tree.now args.out.now c.requires c.in-Written.count write.new.text says after
