@@ -10,10 +10,9 @@ ghost use Rattle.strings_text.specs.Printing.{PrintsStrings};
 
 use fields::parts;
 use standard_input::Input;
-use std::fs;
-use std::io;
 use std::io::Write;
 use std::rt::{Env, Files};
+use std::{fs, io};
 use steering::reasons;
 use terms::rules::Rule;
 use text::{Printed, journals};
@@ -130,7 +129,13 @@ fn give_answer<W: Write>(
 }
 
 // The same of a command that prints strings.
-fn give_strings<W: Write>(out: &mut W, name: &[u8], rule: Rule, input: &[u8], file: &[u8]) -> io::Result<()> {
+fn give_strings<W: Write>(
+    out: &mut W,
+    name: &[u8],
+    rule: Rule,
+    input: &[u8],
+    file: &[u8],
+) -> io::Result<()> {
     let printed = strings_answer(name, rule, input, file);
     let bytes = printed.bytes;
     let length = printed.count;
@@ -175,7 +180,14 @@ fn run(
     let count = terms.count;
     let kept = read.count;
     let rule = rule_named(last);
-    give(&mut rt.stdout(), name, word, rule, &input[..count], &file[..kept])
+    give(
+        &mut rt.stdout(),
+        name,
+        word,
+        rule,
+        &input[..count],
+        &file[..kept],
+    )
 }
 
 fn main(rt: HostRuntime) -> io::Result<()> {
