@@ -1,5 +1,5 @@
 /* The program's arguments for a program of the kit, on a processor other than x86-64, for which the kit has its library os compiled:
-   the two functions of that library's C that our programs call. glibc hands the arguments to every function that it runs before main. */
+   the three functions of that library's C that our programs call. glibc hands the arguments to every function that it runs before main. */
 #include <errno.h>
 #include <stddef.h>
 #include <stdint.h>
@@ -28,4 +28,9 @@ ptrdiff_t rattle_arg(size_t i, uint8_t *buffer, size_t room)
 void rattle_set_errno(int32_t error)
 {
     errno = error;
+}
+
+int32_t rattle_errno(void)
+{
+    return errno;
 }
