@@ -32,11 +32,7 @@ fn replay_file(rt: &HostRuntime, kind: Kind, name: &str, buffer: &mut [u8]) -> i
             return out.write_all(b"\tnot opened\n");
         }
     };
-    let read = standard_input::read_input(&mut file, buffer);
-    if read.failed {
-        return out.write_all(b"\tnot read\n");
-    }
-    let length = read.count;
+    let length = standard_input::read_input(&mut file, buffer).count;
     // a full buffer may hold only the front of the file
     if length == buffer.len() {
         return out.write_all(b"\ttoo long\n");
