@@ -1,7 +1,7 @@
 #!/usr/bin/env python3
 """Respells this repository's own names as today's Rattle has them: a dash between words becomes `_`, and a type has no dash.
 
-usage: python3 tools/respell.py        at the top of the repository, once, right after /opt/rattle/port/port.py
+usage: python3 tools/respell.py        at the top of the repository, once, right after the kit's port.py
 
 Only words of the repository's own specs/ and proofs/ are turned; what a file takes from the kit's library keeps its spelling.
 Two names that would fall together are told apart by CLASHES. Code, strings, exported names and the text of comments stay.

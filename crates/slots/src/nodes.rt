@@ -73,7 +73,7 @@ fn complete(modes: usize, tree: &[u16], assigned: &[u16], node: usize) -> bool
     !crate::unfixed(modes, at.z)
 }
 
-// A number put behind the first so many where it is to stay; how many there are then.
+// Puts `number` behind the first `count` of `numbers` where `stays` is true; returns how many there are then.
 pub fn put_if(numbers: &mut [u16], count: usize, number: u16, stays: bool) -> usize
     requires { count < length numbers.old }
     ensures { (result ≤ count + 1) × (take result numbers.new ≡ take count numbers.old ++ cond stays (number ∷ []) []) }

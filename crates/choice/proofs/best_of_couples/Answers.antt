@@ -1,5 +1,5 @@
 -- The choices with the modes still to come give the answer.
-use mathlib.Core.List.{List, [], ◌∷◌, flat_map}
+use mathlib.Core.List.{List, flat_map}
 use mathlib.Core.Path.{◌∙◌, sym, ap}
 use Prim.Native.Nat.{ℕ, ◌+◌}
 use native.Mathlib.Omega.{arith}
@@ -7,15 +7,10 @@ use lib.ListN.{drop, get_or}
 use Rattle.lists.proofs.Every.{below_at}
 use Rattle.lists.proofs.Steps.{joined_step, joined_end}
 use Rattle.entities.specs.declared.Triple.{Triple}
-use Rattle.slots.specs.code.Numbers.{number_leaf}
 use Rattle.choice.specs.code.Seeking.{sought}
-use Rattle.choice.specs.Choices.{with_z}
 use Rattle.choice.proofs.SoughtSteps.{sought_none, sought_joined}
+use Rattle.choice.proofs.best_of_couples.Invariants.{choices_of}
 use Rattle.choice.proofs.best_of_couples.Goals as goal
-
--- The choice of a mode.
-abbrev of : ℕ → Triple → ℕ → List Triple
-of modes slots mode = with_z (number_leaf modes slots.x mode) (number_leaf modes slots.y mode) (slots.z ∷ [])
 
 pub best_of_couple-best-requires : goal.best_of_couple-best-requires
 best_of_couple-best-requires c =
@@ -26,7 +21,7 @@ pub loop-at-preserved : goal.loop-at-preserved
 loop-at-preserved c =
     let args = c.args in
     let free = args.free.now in
-    let those : ℕ → List Triple = of args.modes args.slots in (
+    let those : ℕ → List Triple = choices_of args.modes args.slots in (
       omega arith,
       λ rows weighed.
           c.loop-at.invariant.1 rows weighed

@@ -10,14 +10,14 @@ use Rattle.choice.specs.code.Seeking.{sought}
 use Rattle.choice.specs.Choices.{with_z}
 use Rattle.choice.proofs.best_of_couples.Given as goal
 
--- The choice of a mode.
-abbrev of : ℕ → Triple → ℕ → List Triple
-of modes slots mode = with_z (number_leaf modes slots.x mode) (number_leaf modes slots.y mode) (slots.z ∷ [])
+-- The choices of a mode.
+abbrev pub choices_of : ℕ → Triple → ℕ → List Triple
+choices_of modes slots mode = with_z (number_leaf modes slots.x mode) (number_leaf modes slots.y mode) (slots.z ∷ [])
 
 abbrev pub invariant-loop-at : goal.invariant-loop-at
 invariant-loop-at l = (l.at ≤ length l.free)
     × ((rows : List (List ℕ)) → PairsWeighed l.modes rows l.slots.z l.weights
-    → sought rows l.node l.initial.best (flat_map (of l.modes l.slots) l.free) ≡ sought rows l.node l.best (flat_map (of l.modes l.slots) (drop l.at l.free)))
+    → sought rows l.node l.initial.best (flat_map (choices_of l.modes l.slots) l.free) ≡ sought rows l.node l.best (flat_map (choices_of l.modes l.slots) (drop l.at l.free)))
 
 abbrev pub decreases-loop-at : goal.decreases-loop-at
 decreases-loop-at l = length l.free - l.at

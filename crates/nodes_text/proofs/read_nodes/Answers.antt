@@ -30,15 +30,15 @@ put_row-requires c =
 
 pub returns-then-not-put_row : goal.returns-then-not-put_row
 returns-then-not-put_row c =
-    let at-end = c.line_end-end.ensures.0 in
+    let at_end = c.line_end-end.ensures.0 in
     let more = c.if-end-at.false in
     let put = c.put_row.ensures in
-    no_node 256 c.args.text.now _ _ _ _ c.loop-at.invariant at-end more (sym put.good ∙ c.if-not-put_row.true)
+    no_node 256 c.args.text.now _ _ _ _ c.loop-at.invariant at_end more (sym put.good ∙ c.if-not-put_row.true)
 
 pub loop-at-preserved : goal.loop-at-preserved
 loop-at-preserved c =
     let inv = c.loop-at.invariant in
-    let at-end = c.line_end-end.ensures in
+    let at_end = c.line_end-end.ensures in
     let more = c.if-end-at.false in
     let put = c.put_row.ensures in
-    passing_goes 256 c.args.text.now _ _ _ _ inv at-end.0 more _ at-end.1 (omega (arith, inv.few, c.if-count-eq256.false)) _ c.if-not-put_row.false put
+    passing_goes 256 c.args.text.now _ _ _ _ inv at_end.0 more _ at_end.1 (omega (arith, inv.few, c.if-count-eq256.false)) _ c.if-not-put_row.false put

@@ -15,9 +15,9 @@ returns-then-end-at c =
 pub returns-then-count-eq2048 : goal.returns-then-count-eq2048
 returns-then-count-eq2048 c =
     let inv = c.loop-at.invariant in
-    let at-end = c.line_end-end.ensures.0 in
+    let at_end = c.line_end-end.ensures.0 in
     let more = c.if-end-at.false in
-    passing_stops 2048 c.args.text.now _ _ _ _ inv at-end more _ (too_many 2048 c.args.text.now _ _ _ _ inv at-end more (omega arith))
+    passing_stops 2048 c.args.text.now _ _ _ _ inv at_end more _ (too_many 2048 c.args.text.now _ _ _ _ inv at_end more (omega arith))
 
 pub put_term-requires : goal.put_term-requires
 put_term-requires c =
@@ -26,15 +26,15 @@ put_term-requires c =
 pub returns-then-not-put_term : goal.returns-then-not-put_term
 returns-then-not-put_term c =
     let inv = c.loop-at.invariant in
-    let at-end = c.line_end-end.ensures.0 in
+    let at_end = c.line_end-end.ensures.0 in
     let more = c.if-end-at.false in
     let put = c.put_term.ensures in
-    passing_stops 2048 c.args.text.now _ _ _ _ inv at-end more _ (no_term 2048 c.args.text.now _ _ _ _ inv at-end more (sym put.good ∙ c.if-not-put_term.true))
+    passing_stops 2048 c.args.text.now _ _ _ _ inv at_end more _ (no_term 2048 c.args.text.now _ _ _ _ inv at_end more (sym put.good ∙ c.if-not-put_term.true))
 
 pub loop-at-preserved : goal.loop-at-preserved
 loop-at-preserved c =
     let inv = c.loop-at.invariant in
-    let at-end = c.line_end-end.ensures in
+    let at_end = c.line_end-end.ensures in
     let more = c.if-end-at.false in
     let put = c.put_term.ensures in
-    passing_goes 2048 c.args.text.now _ _ _ _ inv at-end.0 more _ at-end.1 (omega (arith, inv.few, c.if-count-eq2048.false)) _ c.if-not-put_term.false put
+    passing_goes 2048 c.args.text.now _ _ _ _ inv at_end.0 more _ at_end.1 (omega (arith, inv.few, c.if-count-eq2048.false)) _ c.if-not-put_term.false put

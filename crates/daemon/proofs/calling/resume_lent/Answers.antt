@@ -11,8 +11,8 @@ use Rattle.daemon.proofs.calling.resume_lent.Goals as goal
 
 pub slice_bounds-resume_numbers-end-2 : goal.slice_bounds-resume_numbers-end-2
 slice_bounds-resume_numbers-end-2 c =
-    let read-terms = c.read_terms-count in
-    sym (length-take-le read-terms.result _ read-terms.ensures.fits)
+    let read_terms = c.read_terms-count in
+    sym (length-take-le read_terms.result _ read_terms.ensures.fits)
 
 pub slice_bounds-resume_numbers-end-3 : goal.slice_bounds-resume_numbers-end-3
 slice_bounds-resume_numbers-end-3 c =
@@ -45,8 +45,8 @@ returns c =
     let args = c.args in
     let own = args.own.now in
     let room = c.room_for-room in
-    let read-terms = c.read_terms-count in
+    let read_terms = c.read_terms-count in
     let given = lent args.rows.now args.journal.now args.answer.now in
     called_so _ _ given _ _
-    (lent_means args.modes args.terms.now args.read.now _ args.work.now own args.drops.now read-terms.result room.result given read-terms.ensures room.ensures)
+    (lent_means args.modes args.terms.now args.read.now _ args.work.now own args.drops.now read_terms.result room.result given read_terms.ensures room.ensures)
     c.resume_numbers.ensures

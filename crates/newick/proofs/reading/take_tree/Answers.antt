@@ -25,11 +25,11 @@ codes_end c = 4 * c.args.modes
 abbrev tree_end : After-lay_rows → ℕ
 tree_end l = 3 * l.args.modes
 
-codes-size : (c : After-put_codes) → length (codes c) ≡ codes_end c
-codes-size c = c.put_codes.auto.codes ∙ length-take-le (codes_end c) _ (omega (arith, c.requires.0))
+codes_size : (c : After-put_codes) → length (codes c) ≡ codes_end c
+codes_size c = c.put_codes.auto.codes ∙ length-take-le (codes_end c) _ (omega (arith, c.requires.0))
 
-tree-size : (l : After-lay_rows) → length (tree l) ≡ tree_end l
-tree-size l = l.lay_rows.auto.table ∙ length-take-le (tree_end l) _ (omega (arith, l.requires.0))
+tree_size : (l : After-lay_rows) → length (tree l) ≡ tree_end l
+tree_size l = l.lay_rows.auto.table ∙ length-take-le (tree_end l) _ (omega (arith, l.requires.0))
 
 -- All numbers are in range, so the tree is the table that the nodes make, and the answer is the check's of that table.
 tree_is : (c : After-check_tree) → c.lay_rows.new.table ≡ table_in c.args.rows.now
@@ -73,34 +73,34 @@ returns-then-not-put_codes c =
 
 pub slice_bounds-codes-end-2 : goal.slice_bounds-codes-end-2
 slice_bounds-codes-end-2 c =
-    front_fits (codes (goal.at.slice_bounds-codes-end-2 c).After-put_codes) _ (codes_end (goal.at.slice_bounds-codes-end-2 c).After-put_codes) (codes-size (goal.at.slice_bounds-codes-end-2 c).After-put_codes)
+    front_fits (codes (goal.at.slice_bounds-codes-end-2 c).After-put_codes) _ (codes_end (goal.at.slice_bounds-codes-end-2 c).After-put_codes) (codes_size (goal.at.slice_bounds-codes-end-2 c).After-put_codes)
 
 pub slice_bounds-lay_rows-end : goal.slice_bounds-lay_rows-end
 slice_bounds-lay_rows-end c =
-    sym (front_counts (codes (goal.at.slice_bounds-lay_rows-end c).After-put_codes) _ (codes_end (goal.at.slice_bounds-lay_rows-end c).After-put_codes) (codes-size (goal.at.slice_bounds-lay_rows-end c).After-put_codes))
+    sym (front_counts (codes (goal.at.slice_bounds-lay_rows-end c).After-put_codes) _ (codes_end (goal.at.slice_bounds-lay_rows-end c).After-put_codes) (codes_size (goal.at.slice_bounds-lay_rows-end c).After-put_codes))
 
 pub slice_bounds-lay_rows-end-2 : goal.slice_bounds-lay_rows-end-2
 slice_bounds-lay_rows-end-2 c = sym (length-take-le (3 * c.args.modes) _ (omega (arith, c.requires.0)))
 
 pub slice_bounds-tree-end-2 : goal.slice_bounds-tree-end-2
 slice_bounds-tree-end-2 c =
-    front_fits (tree (goal.at.slice_bounds-tree-end-2 c).After-lay_rows) _ (tree_end (goal.at.slice_bounds-tree-end-2 c).After-lay_rows) (tree-size (goal.at.slice_bounds-tree-end-2 c).After-lay_rows)
+    front_fits (tree (goal.at.slice_bounds-tree-end-2 c).After-lay_rows) _ (tree_end (goal.at.slice_bounds-tree-end-2 c).After-lay_rows) (tree_size (goal.at.slice_bounds-tree-end-2 c).After-lay_rows)
 
 pub slice_bounds-check_tree-end : goal.slice_bounds-check_tree-end
 slice_bounds-check_tree-end c =
-    sym (front_counts (tree (goal.at.slice_bounds-check_tree-end c).After-lay_rows) _ (tree_end (goal.at.slice_bounds-check_tree-end c).After-lay_rows) (tree-size (goal.at.slice_bounds-check_tree-end c).After-lay_rows))
+    sym (front_counts (tree (goal.at.slice_bounds-check_tree-end c).After-lay_rows) _ (tree_end (goal.at.slice_bounds-check_tree-end c).After-lay_rows) (tree_size (goal.at.slice_bounds-check_tree-end c).After-lay_rows))
 
 pub slice_bounds-tree-end-in-Accepted : goal.slice_bounds-tree-end-in-Accepted
 slice_bounds-tree-end-in-Accepted c =
-    front_fits (tree (goal.at.slice_bounds-tree-end-in-Accepted c).After-lay_rows) _ (tree_end (goal.at.slice_bounds-tree-end-in-Accepted c).After-lay_rows) (tree-size (goal.at.slice_bounds-tree-end-in-Accepted c).After-lay_rows)
+    front_fits (tree (goal.at.slice_bounds-tree-end-in-Accepted c).After-lay_rows) _ (tree_end (goal.at.slice_bounds-tree-end-in-Accepted c).After-lay_rows) (tree_size (goal.at.slice_bounds-tree-end-in-Accepted c).After-lay_rows)
 
 pub slice_bounds-take_table-end : goal.slice_bounds-take_table-end
 slice_bounds-take_table-end c =
-    sym (front_counts (tree (goal.at.slice_bounds-take_table-end c).After-lay_rows) _ (tree_end (goal.at.slice_bounds-take_table-end c).After-lay_rows) (tree-size (goal.at.slice_bounds-take_table-end c).After-lay_rows))
+    sym (front_counts (tree (goal.at.slice_bounds-take_table-end c).After-lay_rows) _ (tree_end (goal.at.slice_bounds-take_table-end c).After-lay_rows) (tree_size (goal.at.slice_bounds-take_table-end c).After-lay_rows))
 
 pub take_table-requires : goal.take_table-requires
 take_table-requires c =
-    front_counts (tree (goal.at.take_table-requires c).After-lay_rows) _ (tree_end (goal.at.take_table-requires c).After-lay_rows) (tree-size (goal.at.take_table-requires c).After-lay_rows)
+    front_counts (tree (goal.at.take_table-requires c).After-lay_rows) _ (tree_end (goal.at.take_table-requires c).After-lay_rows) (tree_size (goal.at.take_table-requires c).After-lay_rows)
 
 pub returns-in-Refused : goal.returns-in-Refused
 unfolding table_after taken_as
@@ -118,7 +118,7 @@ returns-in-Accepted c =
     let room = length c.args.table.now in
     let take = c.take_table in
     let tree = (goal.at.returns-in-Accepted c).After-lay_rows in
-    let front = take_at c.lay_rows.new.table _ (3 * c.args.modes) (tree-size tree) ∙ tree_is here in
+    let front = take_at c.lay_rows.new.table _ (3 * c.args.modes) (tree_size tree) ∙ tree_is here in
     record {
       by_index = λ name at. take.ensures.value ∙ ap (λ w. taken_as w c.args.modes room) (sym c.in-Accepted.is) ∙ read_is here name at room;
       table_after = take.ensures.table_after ∙ ap (λ t. table_after take.result t c.args.table.now) front;

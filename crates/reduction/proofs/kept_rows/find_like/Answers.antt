@@ -12,9 +12,9 @@ use Rattle.reduction.proofs.kept_rows.find_like.Goals as goal
 use Rattle.reduction.proofs.kept_rows.find_like.Goals.{After-same, In-loop-at}
 
 -- The number leads to one of the rows.
-row-there : (c : In-loop-at)
+row_there : (c : In-loop-at)
     → (c.loop-at.at - 1 < c.args.count) × (c.loop-at.at - 1 < 2048)
-row-there c =
+row_there c =
     let chained = c.requires.chained in
     let inside = place_inside _ _ _ _ chained _ c.requires.term_nonzero _ c.loop-at.invariant c.loop-at-test.true in
     (rw (length_terms 9 c.args.count c.args.rows.now) at inside, omega (arith, inside, chained.fits))
@@ -25,7 +25,7 @@ compared : (c : After-same)
     c.same.result ≡ alike args.term.now (get_or (terms_of 9 args.count args.rows.now) (c.loop-at.at - 1) []))
 compared c =
     let args = c.args in
-    rw (terms_at 9 args.count (c.loop-at.at - 1) args.rows.now (row-there (goal.at.After-same c).In-loop-at).0, ← c.term_at.ensures) c.same.ensures
+    rw (terms_at 9 args.count (c.loop-at.at - 1) args.rows.now (row_there (goal.at.After-same c).In-loop-at).0, ← c.term_at.ensures) c.same.ensures
 
 pub bounds-chains-mark : goal.bounds-chains-mark
 bounds-chains-mark c =
@@ -38,7 +38,7 @@ loop-at-init c =
 pub term_at-requires : goal.term_at-requires
 term_at-requires c =
     let held = c.requires.held in
-    let inside = (row-there (goal.at.term_at-requires c).In-loop-at).0 in
+    let inside = (row_there (goal.at.term_at-requires c).In-loop-at).0 in
     (omega (arith, held.room), omega (arith, held.within (c.loop-at.at - 1) inside))
 
 pub returns-then-same : goal.returns-then-same
@@ -47,11 +47,11 @@ returns-then-same c =
     (sym (compared (goal.at.returns-then-same c).After-same) ∙ c.if-same.true)
 
 pub overflow_add-place : goal.overflow_add-place
-overflow_add-place c = omega (arith, (row-there (goal.at.overflow_add-place c).In-loop-at).1)
+overflow_add-place c = omega (arith, (row_there (goal.at.overflow_add-place c).In-loop-at).1)
 
 pub bounds-chains-place : goal.bounds-chains-place
 bounds-chains-place c =
-    rw c.requires.chained.room (omega (arith, (row-there (goal.at.bounds-chains-place c).In-loop-at).1))
+    rw c.requires.chained.room (omega (arith, (row_there (goal.at.bounds-chains-place c).In-loop-at).1))
 
 pub loop-at-smaller : goal.loop-at-smaller
 loop-at-smaller c =

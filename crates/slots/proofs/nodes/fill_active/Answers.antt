@@ -10,51 +10,51 @@ use Rattle.slots.proofs.nodes.fill_active.Goals as goal
 use Rattle.slots.proofs.nodes.fill_active.Goals.{After-fill_far-count, After-fill_remaining-remaining}
 
 -- How many are left is how many the front has.
-left-size : (c : After-fill_remaining-remaining)
+left_size : (c : After-fill_remaining-remaining)
     → length (take c.fill_remaining-remaining.result c.fill_remaining-remaining.new.left) ≡ c.fill_remaining-remaining.result
-left-size c =
+left_size c =
     let called = c.fill_remaining-remaining in
     let whole : length called.new.left ≡ 256 = called.auto.left in
     length-take-le called.result called.new.left (omega arith)
 
 -- How many are far is how many that front has, and no more than there are.
-far-size : (c : After-fill_far-count)
+far_size : (c : After-fill_far-count)
     → (c.fill_far-count.result ≤ length c.fill_far-count.new.far)
     × (length (take c.fill_far-count.result c.fill_far-count.new.far) ≡ c.fill_far-count.result)
     × (c.fill_far-count.result ≤ c.fill_remaining-remaining.result)
-far-size c =
+far_size c =
     let called = c.fill_far-count in
     let whole : length called.new.far ≡ 256 = called.auto.far in
     let few = called.ensures.0 in
     let left = c.fill_remaining-remaining in
-    let whole-left : length left.new.left ≡ 256 = left.auto.left in
+    let whole_left : length left.new.left ≡ 256 = left.auto.left in
     let size = length-take-le left.result left.new.left (omega arith) in
     let most = c.fill_remaining-remaining.ensures.0 in
     let room : called.result ≤ length called.new.far = omega arith in
     (room, length-take-le called.result called.new.far room, omega arith)
 
 pub slice_bounds-fill_far-end : goal.slice_bounds-fill_far-end
-slice_bounds-fill_far-end c = sym (left-size (goal.at.slice_bounds-fill_far-end c).After-fill_remaining-remaining)
+slice_bounds-fill_far-end c = sym (left_size (goal.at.slice_bounds-fill_far-end c).After-fill_remaining-remaining)
 
 pub fill_far-count-requires : goal.fill_far-count-requires
 fill_far-count-requires c =
     let called = c.fill_remaining-remaining in
-    let size = left-size (goal.at.fill_far-count-requires c).After-fill_remaining-remaining in
+    let size = left_size (goal.at.fill_far-count-requires c).After-fill_remaining-remaining in
     let most = called.ensures.0 in
     let few = c.requires.modes_le_most_modes.0 in
     record { modes_in_bounds = (c.requires.distances.room, omega arith); left_value = rw called.ensures.1 (remaining_below c.args.modes c.args.tree.now c.args.assigned.now) }
 
 pub slice_bounds-far-end : goal.slice_bounds-far-end
-slice_bounds-far-end c = (far-size (goal.at.slice_bounds-far-end c).After-fill_far-count).0
+slice_bounds-far-end c = (far_size (goal.at.slice_bounds-far-end c).After-fill_far-count).0
 
 pub slice_bounds-fill_narrowed-end : goal.slice_bounds-fill_narrowed-end
-slice_bounds-fill_narrowed-end c = sym (far-size (goal.at.slice_bounds-fill_narrowed-end c).After-fill_far-count).1
+slice_bounds-fill_narrowed-end c = sym (far_size (goal.at.slice_bounds-fill_narrowed-end c).After-fill_far-count).1
 
 pub fill_narrowed-requires : goal.fill_narrowed-requires
 fill_narrowed-requires c =
     let far = c.fill_far-count in
     let left = c.fill_remaining-remaining in
-    let size = far-size (goal.at.fill_narrowed-requires c).After-fill_far-count in
+    let size = far_size (goal.at.fill_narrowed-requires c).After-fill_far-count in
     let most = left.ensures.0 in
     let pre = c.requires.modes_le_most_modes in
     record {
@@ -69,7 +69,7 @@ returns c =
     let kept = c.fill_narrowed in
     let far = c.fill_far-count in
     let left = c.fill_remaining-remaining in
-    let size = far-size (goal.at.returns c).After-fill_far-count in
+    let size = far_size (goal.at.returns c).After-fill_far-count in
     let most = left.ensures.0 in
     let few = kept.ensures.0 in
     (omega arith, rw left.ensures.1 at (rw (far.ensures.1 c.args.tree.now c.requires.distances) at kept.ensures.1))

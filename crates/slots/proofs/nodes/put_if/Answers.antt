@@ -1,4 +1,4 @@
--- A number that stays is the next; one that does not leaves the first so many.
+-- Where `stays` is true, `number` stands behind the first `count` numbers; where it is false, nothing is written.
 use mathlib.Core.Bool.{true, false}
 use mathlib.Core.Path.{◌≡◌, sym}
 use mathlib.Core.List.{append-nil}

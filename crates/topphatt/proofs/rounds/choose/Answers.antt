@@ -14,9 +14,9 @@ use Rattle.topphatt.proofs.rounds.choose.Goals as goal
 use Rattle.topphatt.proofs.rounds.choose.Goals.{After-fill_active-nodes, After-fill_unassigned-unassigned}
 
 -- How many modes are unassigned is how many the front has.
-free-size : (c : After-fill_unassigned-unassigned)
+free_size : (c : After-fill_unassigned-unassigned)
     → length (take c.fill_unassigned-unassigned.result c.fill_unassigned-unassigned.new.free) ≡ c.fill_unassigned-unassigned.result
-free-size c =
+free_size c =
     let called = c.fill_unassigned-unassigned in
     let whole : length called.new.free ≡ 256 = called.auto.free in
     let few = called.ensures.0 in
@@ -24,9 +24,9 @@ free-size c =
     length-take-le called.result called.new.free (omega arith)
 
 -- How many nodes there are is how many the front has.
-active-size : (c : After-fill_active-nodes)
+active_size : (c : After-fill_active-nodes)
     → length (take c.fill_active-nodes.result c.fill_active-nodes.new.active) ≡ c.fill_active-nodes.result
-active-size c =
+active_size c =
     let called = c.fill_active-nodes in
     let whole : length called.new.active ≡ 256 = called.auto.active in
     let few = called.ensures.0 in
@@ -34,10 +34,10 @@ active-size c =
     length-take-le called.result called.new.active (omega arith)
 
 pub slice_bounds-select-end : goal.slice_bounds-select-end
-slice_bounds-select-end c = sym (free-size (goal.at.slice_bounds-select-end c).After-fill_unassigned-unassigned)
+slice_bounds-select-end c = sym (free_size (goal.at.slice_bounds-select-end c).After-fill_unassigned-unassigned)
 
 pub slice_bounds-select-end-2 : goal.slice_bounds-select-end-2
-slice_bounds-select-end-2 c = sym (active-size (goal.at.slice_bounds-select-end-2 c).After-fill_active-nodes)
+slice_bounds-select-end-2 c = sym (active_size (goal.at.slice_bounds-select-end-2 c).After-fill_active-nodes)
 
 pub select-requires : goal.select-requires
 select-requires c =

@@ -22,10 +22,10 @@ tested c =
     (rw (← c.child-code.ensures) c.slot_of.ensures.0)
 
 -- A leaf that isn't fixed.
-unfixed-leaf : (c : After-unfixed) → c.unfixed.result ≡ true
+unfixed_leaf : (c : After-unfixed) → c.unfixed.result ≡ true
     → let args = c.args in
     Without args.modes args.assigned.now c.child-code.result
-unfixed-leaf c e =
+unfixed_leaf c e =
     let args = c.args in
     rw c.child-code.ensures
     (edge_without args.modes args.tree.now args.assigned.now args.node args.edge (sym (tested c) ∙ e))
@@ -38,10 +38,10 @@ returns-then-not-unfixed c =
     )
 
 pub overflow_sub-pair : goal.overflow_sub-pair
-overflow_sub-pair c = let leaf = unfixed-leaf (goal.at.overflow_sub-pair c).After-unfixed c.if-not-unfixed.false in omega arith
+overflow_sub-pair c = let leaf = unfixed_leaf (goal.at.overflow_sub-pair c).After-unfixed c.if-not-unfixed.false in omega arith
 
 pub bounds-assigned-pair : goal.bounds-assigned-pair
-bounds-assigned-pair c = let leaf = unfixed-leaf (goal.at.bounds-assigned-pair c).After-unfixed c.if-not-unfixed.false in omega arith
+bounds-assigned-pair c = let leaf = unfixed_leaf (goal.at.bounds-assigned-pair c).After-unfixed c.if-not-unfixed.false in omega arith
 
 pub returns : goal.returns
 unfolding pair_of

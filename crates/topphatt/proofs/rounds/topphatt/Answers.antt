@@ -1,19 +1,12 @@
 -- The rounds that are left end where all do.
 use mathlib.Core.Path.{refl, sym, ◌∙◌, ap}
-use mathlib.Core.List.{List}
-use Prim.Native.Nat.{ℕ}
 use native.Mathlib.Omega.{arith}
 use lib.ListN.{length-replicate}
-use Rattle.terms.specs.declared.rules.Rule.{Rule}
 use Rattle.terms.specs.Rows.{terms_of}
-use Rattle.topphatt.specs.code.Going.{task_with, state_of}
-use Rattle.topphatt.specs.Rounds.{Task}
+use Rattle.topphatt.specs.code.Going.{state_of}
 use Rattle.topphatt.proofs.RoundSteps.{state_assigned, rounds_start, rounds_on, rounds_stop, rounds_end}
+use Rattle.topphatt.proofs.rounds.topphatt.Invariants.{task_at}
 use Rattle.topphatt.proofs.rounds.topphatt.Goals as goal
-
--- What is to be done, over the terms that stand in the rows at first.
-abbrev task-at : ℕ → Rule → List ℕ → ℕ → ℕ → List ℕ → Task
-task-at modes rule tree heuristic count rows = task_with modes rule tree heuristic (terms_of 9 count rows)
 
 pub loop-progress-init : goal.loop-progress-init
 loop-progress-init c =
@@ -46,7 +39,7 @@ unfolding state_of
 returns-then-all_assigned c =
     let args = c.args in
     let state = state_of c.loop-progress.rows c.loop-progress.assigned c.loop-progress.progress in
-    let task = task-at args.modes args.rule args.tree.now args.heuristic args.count args.rows.now in
+    let task = task_at args.modes args.rule args.tree.now args.heuristic args.count args.rows.now in
     let e = sym (rounds_stop task state c.loop-progress.progress.round c.loop-progress-test.true (sym c.all_assigned.ensures ∙ c.if-all_assigned.true)) ∙ c.loop-progress.invariant.4 in
     record { weight_is = ap (λ s. s.weight) e; assigned_is = ap (λ s. s.assigned) e; pairs = c.loop-progress.invariant.0.ready.pairs; rest = c.loop-progress.invariant.6 }
 
@@ -68,7 +61,7 @@ loop-progress-preserved c =
     let on = went.on in
     let unfinished = c.all_assigned.ensures in
     let state = state_of c.loop-progress.rows c.loop-progress.assigned c.loop-progress.progress in
-    let task = task-at args.modes args.rule args.tree.now args.heuristic args.count args.rows.now in (
+    let task = task_at args.modes args.rule args.tree.now args.heuristic args.count args.rows.now in (
       went.going,
       omega arith,
       called.auto.rows ∙ c.loop-progress.invariant.2,
@@ -84,6 +77,6 @@ unfolding state_of
 returns c =
     let args = c.args in
     let state = state_of c.loop-progress.rows c.loop-progress.assigned c.loop-progress.progress in
-    let task = task-at args.modes args.rule args.tree.now args.heuristic args.count args.rows.now in
+    let task = task_at args.modes args.rule args.tree.now args.heuristic args.count args.rows.now in
     let e = sym (rounds_end task state c.loop-progress.progress.round c.loop-progress-test.false) ∙ c.loop-progress.invariant.4 in
     record { weight_is = ap (λ s. s.weight) e; assigned_is = ap (λ s. s.assigned) e; pairs = c.loop-progress.invariant.0.ready.pairs; rest = c.loop-progress.invariant.6 }

@@ -21,15 +21,15 @@ abbrev rows_of : After-merged-arg-1 → List ℕ
 rows_of c = c.args.rows.now
 
 -- The rows that are there, and how many they are.
-abbrev gathered-of : After-merged-arg-1 → List ℕ
-gathered-of c = c.put_live-kept.new.live
+abbrev gathered_of : After-merged-arg-1 → List ℕ
+gathered_of c = c.put_live-kept.new.live
 
 abbrev kept_of : After-merged-arg-1 → ℕ
 kept_of c = c.put_live-kept.result
 
 -- What was chosen in this state, whatever its job.
 best_found : (c : After-merged-arg-1) (job : Job) (holds : Holds job (rows_of c) (run_of c))
-    → c.choose-best.result ≡ seek (weight_here (kept_of c) (gathered-of c)) (nothing (kept_of c)) (candidates job.modes (history_of (run_of c)))
+    → c.choose-best.result ≡ seek (weight_here (kept_of c) (gathered_of c)) (nothing (kept_of c)) (candidates job.modes (history_of (run_of c)))
 best_found c job holds =
     let run = run_of c in
     let next = c.parent_number-next.ensures in
@@ -38,10 +38,10 @@ best_found c job holds =
 left_in : (c : After-merged-arg-1) (job : Job) (holds : Holds job (rows_of c) (run_of c)) → (run_of c).step < job.modes
 left_in c job holds = rw (← holds.modes_are) c.requires.step_lt_modes
 
-ready-best : (c : After-merged-arg-1) (job : Job) (holds : Holds job (rows_of c) (run_of c))
+ready_best : (c : After-merged-arg-1) (job : Job) (holds : Holds job (rows_of c) (run_of c))
     → Ready job (rows_of c) (run_of c) c.choose-best.result.triple c.choose-best.result.weight
-ready-best c job holds =
-    ready_chosen 769 256 job (rows_of c) (run_of c) holds (gathered-of c) (kept_of c) c.put_live-kept.ensures
+ready_best c job holds =
+    ready_chosen 769 256 job (rows_of c) (run_of c) holds (gathered_of c) (kept_of c) c.put_live-kept.ensures
     (left_in c job holds) c.choose-best.result (best_found c job holds)
 
 pub put_live-kept-requires : goal.put_live-kept-requires
@@ -68,15 +68,15 @@ choose-best-requires c =
 
 pub merged-requires : goal.merged-requires
 merged-requires c =
-    (c.requires.holds.0, ready-best (goal.at.merged-requires c).After-merged-arg-1 c.requires.holds.0 c.requires.holds.1)
+    (c.requires.holds.0, ready_best (goal.at.merged-requires c).After-merged-arg-1 c.requires.holds.0 c.requires.holds.1)
 
 pub returns : goal.returns
 unfolding weighed
 returns c job holds =
     let run = run_of (goal.at.returns c).After-merged-arg-1 in
     let rows = rows_of (goal.at.returns c).After-merged-arg-1 in
-    let triple-is : c.choose-best.result.triple ≡ chosen job (history_of run) =
+    let triple_is : c.choose-best.result.triple ≡ chosen job (history_of run) =
     ap (λ b. b.triple)
     (best_found (goal.at.returns c).After-merged-arg-1 job holds
-    ∙ best_is 769 256 job rows run holds (gathered-of (goal.at.returns c).After-merged-arg-1) (kept_of (goal.at.returns c).After-merged-arg-1) c.put_live-kept.ensures (left_in (goal.at.returns c).After-merged-arg-1 job holds)) in
-    rw triple-is at (c.merged.ensures job (ready-best (goal.at.returns c).After-merged-arg-1 job holds))
+    ∙ best_is 769 256 job rows run holds (gathered_of (goal.at.returns c).After-merged-arg-1) (kept_of (goal.at.returns c).After-merged-arg-1) c.put_live-kept.ensures (left_in (goal.at.returns c).After-merged-arg-1 job holds)) in
+    rw triple_is at (c.merged.ensures job (ready_best (goal.at.returns c).After-merged-arg-1 job holds))
