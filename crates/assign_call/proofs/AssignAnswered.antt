@@ -1,4 +1,5 @@
 -- Assigning called from C answers what the assignment comes to: nothing is written where it refuses, and all that is known where it is done.
+use Rattle.std.specs.Prelude.{Err, Ok, Result}
 use mathlib.Core.Path.{◌≡◌, refl, ap, ◌∙◌, sym}
 use mathlib.Core.List.{List}
 use Prim.Native.Nat.{ℕ, ◌+◌, ◌*◌, ◌≤◌}
@@ -13,8 +14,6 @@ use Rattle.lists.proofs.Written.{part_written}
 use Rattle.refusal.specs.declared.Refusal.{Refusal}
 use Rattle.refusal.specs.Numbers.{number_of, place_of}
 use Rattle.tree.proofs.AcceptedParts.{accepted_parts}
-use Rattle.topphatt.specs.declared.Assigned.{Assigned}
-use Rattle.topphatt.specs.declared.Assigned.TheVariants.{Weight, Unassigned}
 use Rattle.topphatt.specs.Answer.{Outcome, done, refused, Asked, asked, Rooms, outcome}
 use Rattle.topphatt.specs.Promises.{returned, Lent, lent, rooms_of, lent_then}
 use Rattle.topphatt.proofs.AssignDone.{assign_done}
@@ -30,7 +29,7 @@ use Rattle.assign_call.specs.Promises.{AssignCalled, assign_result_of, table_the
 use Rattle.assign_call.proofs.AssignedAlike.{assigned_same}
 
 -- What the answer says of the meaning.
-pub unassigned_meant : (meant : Outcome) (why : Refusal) (r : Assigned) → r ≡ returned meant → r ≡ Unassigned why → meant ≡ refused why
+pub unassigned_meant : (meant : Outcome) (why : Refusal) (r : Result ℕ Refusal) → r ≡ returned meant → r ≡ Err why → meant ≡ refused why
 unfolding returned
 unassigned_meant (done count weight codes) why r e f = let z : ◌≡◌ {A = ℕ} 0 1 = cc in absurd (omega arith)
 unassigned_meant (refused refusal) why r e f = cc
@@ -41,7 +40,7 @@ pub record Finished (meant : Outcome) (weight : ℕ) : Type 0 where
   pub codes : List ℕ
   pub is : meant ≡ done count weight codes
 
-pub assigned_meant : (meant : Outcome) (weight : ℕ) (r : Assigned) → r ≡ returned meant → r ≡ Weight weight → Finished meant weight
+pub assigned_meant : (meant : Outcome) (weight : ℕ) (r : Result ℕ Refusal) → r ≡ returned meant → r ≡ Ok weight → Finished meant weight
 unfolding returned
 assigned_meant (done count other codes) weight r e f =
     let same : other ≡ weight = cc in

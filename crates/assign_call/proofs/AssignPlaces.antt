@@ -1,4 +1,5 @@
 -- The place of a refused assignment is below 65536.
+use Rattle.std.specs.Prelude.{Err, Ok, Result}
 use mathlib.Core.Path.{◌≡◌}
 use mathlib.Core.Bool.{◌&&◌}
 use mathlib.Core.List.{List}
@@ -13,21 +14,17 @@ use Rattle.refusal.specs.declared.Refusal.TheVariants.{Modes, TreeLength, ChildC
 use Rattle.refusal.specs.Numbers.{place_of}
 use Rattle.terms.specs.Rules.{rule_good}
 use Rattle.terms.specs.Good.{modes_good, checked}
-use Rattle.terms.specs.declared.checking.Checked.{Checked}
-use Rattle.terms.specs.declared.checking.Checked.TheVariants.{Good, Refused as BadTerms}
 use Rattle.tree.specs.OneTree.{one_tree}
 use Rattle.tree.specs.Pairs.{pairs_right}
 use Rattle.tree.specs.Check.{codes_good, tree_checked}
-use Rattle.tree.specs.declared.TreeChecked.{TreeChecked}
-use Rattle.tree.specs.declared.TreeChecked.TheVariants.{Accepted, Refused as BadTree}
 use Rattle.topphatt.specs.Answer.{Outcome, done, refused, Asked, task_of, Rooms, done_by, with_room, with_terms, with_tree, outcome}
 use Rattle.call_bytes.proofs.RefusalNumbers.{unless, bad_place, bad_row_place}
-use Rattle.call_bytes.proofs.RoomFits.{good_modes}
+use Rattle.terms.proofs.GoodModes.{good_modes}
 
 -- The place that a check of a tree and an assignment name, 0 where they name none.
-unfoldable tree_place : TreeChecked → ℕ
-tree_place Accepted = 0
-tree_place (BadTree refusal) = place_of refusal
+unfoldable tree_place : Result (Unit {0}) Refusal → ℕ
+tree_place (Ok tt) = 0
+tree_place (Err refusal) = place_of refusal
 
 unfoldable assign_place : Outcome → ℕ
 assign_place (done count weight codes) = 0
@@ -36,35 +33,35 @@ assign_place (refused refusal) = place_of refusal
 tree_small : (most modes : ℕ) (tree : List ℕ) → tree_place (tree_checked most modes tree) ≤ 3 * most
 unfolding tree_checked tree_place
 tree_small most modes tree =
-    unless tree_place (3 * most) (modes_good most modes) (BadTree Modes) _ (omega arith)
+    unless tree_place (3 * most) (modes_good most modes) (Err Modes) _ (omega arith)
     (λ m.
     let few = (good_modes most modes m).1 in
-    unless tree_place (3 * most) (eqb (length tree) (3 * modes)) (BadTree TreeLength) _ (omega arith)
+    unless tree_place (3 * most) (eqb (length tree) (3 * modes)) (Err TreeLength) _ (omega arith)
     (λ l.
     let long = eqb-true (length tree) (3 * modes) l in
-    whichever tree_place (3 * most) (ltb (codes_good modes tree) (length tree)) (BadTree (ChildCode (codes_good modes tree))) _
+    whichever tree_place (3 * most) (ltb (codes_good modes tree) (length tree)) (Err (ChildCode (codes_good modes tree))) _
     (λ g. omega (arith, ltb-true (codes_good modes tree) (length tree) g))
-    (unless tree_place (3 * most) (one_tree modes tree) (BadTree NotOneTree) _ (omega arith)
+    (unless tree_place (3 * most) (one_tree modes tree) (Err NotOneTree) _ (omega arith)
     (λ o.
-    whichever tree_place (3 * most) (ltb (pairs_right modes tree) modes) (BadTree (WrongPair (pairs_right modes tree))) Accepted
+    whichever tree_place (3 * most) (ltb (pairs_right modes tree) modes) (Err (WrongPair (pairs_right modes tree))) (Ok tt)
     (λ p. omega (arith, ltb-true (pairs_right modes tree) modes p))
     (omega arith)))))
 
 module _ (rooms : Rooms) (small : rooms.modes ≤ 256) (call : Asked) where
-  terms_small : (found : Checked) → bad_place found ≤ 2048 → assign_place (with_terms rooms call found) ≤ 65535
+  terms_small : (found : Result ℕ Refusal) → bad_place found ≤ 2048 → assign_place (with_terms rooms call found) ≤ 65535
   unfolding with_terms with_room done_by assign_place bad_place
-  terms_small (Good count) h =
+  terms_small (Ok count) h =
       let task = task_of call count in
       unless assign_place 65535 (leb (9 * length task.job.terms) rooms.work && leb (3 * task.job.modes) rooms.table) (refused Room)
       (done_by task) (omega arith) (λ f. omega arith)
-  terms_small (BadTerms refusal) h = omega (arith, h)
+  terms_small (Err refusal) h = omega (arith, h)
 
-  rest_small : (found : TreeChecked) → tree_place found ≤ 3 * rooms.modes → assign_place (with_tree rooms call found) ≤ 65535
+  rest_small : (found : Result (Unit {0}) Refusal) → tree_place found ≤ 3 * rooms.modes → assign_place (with_tree rooms call found) ≤ 65535
   unfolding with_tree tree_place assign_place
-  rest_small Accepted h =
+  rest_small (Ok tt) h =
       unless assign_place 65535 (leb call.heuristic 2) (refused Heuristic) _ (omega arith)
       (λ good. terms_small (checked call.modes call.numbers) (bad_row_place call.modes call.numbers))
-  rest_small (BadTree refusal) h = omega (arith, h, small)
+  rest_small (Err refusal) h = omega (arith, h, small)
 
   outcome_small : assign_place (outcome rooms call) ≤ 65535
   unfolding outcome assign_place

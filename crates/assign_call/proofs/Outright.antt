@@ -1,4 +1,5 @@
 -- What assigning from C hands on comes to what is said of it outright.
+use Rattle.std.specs.Prelude.{Err, Ok, Result}
 use mathlib.Core.Path.{◌≡◌, refl}
 use mathlib.Core.Bool.{Bool, true, false, cond, not}
 use mathlib.Core.List.{List, [], ◌∷◌}
@@ -12,32 +13,29 @@ use Rattle.refusal.specs.declared.Refusal.TheVariants.{TermNumbers, TreeLength, 
 use Rattle.entities.specs.Limits.{most_terms, row_width, work_width}
 use Rattle.terms.specs.Rules.{rule_good}
 use Rattle.terms.specs.Good.{modes_good, checked}
-use Rattle.terms.specs.declared.checking.Checked.{Checked}
-use Rattle.terms.specs.declared.checking.Checked.TheVariants.{Good, Refused as BadTerms}
 use Rattle.terms.proofs.RowSteps.{length_terms}
 use Rattle.terms.proofs.GoodTerms.{accepted}
 use Rattle.tree.specs.Check.{tree_checked}
-use Rattle.tree.specs.declared.TreeChecked.{TreeChecked}
-use Rattle.tree.specs.declared.TreeChecked.TheVariants.{Accepted, Refused as BadTree}
 use Rattle.topphatt.specs.Answer.{refused, Asked, asked, Rooms, with_room, with_terms as given_terms, with_tree, outcome}
 use Rattle.call_bytes.specs.Bytes.{words}
 use Rattle.call_bytes.specs.code.Handing.{term_numbers}
-use Rattle.call_bytes.proofs.RoomFits.{room_in, good_modes}
+use Rattle.terms.proofs.GoodModes.{good_modes}
+use Rattle.call_bytes.proofs.RoomFits.{room_in}
 use Rattle.call_bytes.proofs.TermsSame.{not_eights}
 use Rattle.assign_call.specs.Calls.{LentTable, assign_terms, assign_tree, assign_called}
 use Rattle.assign_call.specs.code.Handing.{tree_numbers, table_rooms_in, assign_handed}
 
 -- Refusals that are passed on.
-given_refused : (rooms : Rooms) (call : Asked) → refused TermNumbers ≡ given_terms rooms call (BadTerms TermNumbers)
+given_refused : (rooms : Rooms) (call : Asked) → refused TermNumbers ≡ given_terms rooms call (Err TermNumbers)
 unfolding given_terms
 given_refused rooms call = refl
 
-tree_refused : (rooms : Rooms) (call : Asked) (refusal : Refusal) → refused refusal ≡ with_tree rooms call (BadTree refusal)
+tree_refused : (rooms : Rooms) (call : Asked) (refusal : Refusal) → refused refusal ≡ with_tree rooms call (Err refusal)
 unfolding with_tree
 tree_refused rooms call refusal = refl
 
 -- The check's first two refusals.
-length_next : (most modes : ℕ) → modes_good most modes ≡ true → tree_checked most modes [] ≡ BadTree TreeLength
+length_next : (most modes : ℕ) → modes_good most modes ≡ true → tree_checked most modes [] ≡ Err TreeLength
 unfolding tree_checked
 length_next most modes e =
     rw (e, ne_eqb 0 (3 * modes) (λ f. absurd (omega (arith, f, (good_modes most modes e).0))))
@@ -52,21 +50,21 @@ module _ (own : Rooms) (enough : work_width * most_terms ≤ own.work) (table_en
   call = asked modes 0 (words tree) heuristic (words terms)
 
   module _ (some : 1 ≤ modes) (few : modes ≤ own.modes) where
-    assigned_outright : (found : Checked) → checked modes (words terms) ≡ found
+    assigned_outright : (found : Result ℕ Refusal) → checked modes (words terms) ≡ found
         → assign_terms call given found ≡ given_terms table_rooms call found
     unfolding assign_terms given_terms with_room table_rooms_in
-    assigned_outright (Good count) e =
+    assigned_outright (Ok count) e =
         rw (
           length_terms row_width count (words terms),
           le-leb (9 * count) own.work (omega (arith, (accepted modes (words terms) count e).at_most, enough)),
           room_in 1 own.table (length given.table) (length given.answer) (3 * modes) (6 * modes) (omega (arith, some)) (omega (arith, few, table_enough)) (omega arith),
         )
-    assigned_outright (BadTerms refusal) e = refl
+    assigned_outright (Err refusal) e = refl
 
-    tree_outright : (found : TreeChecked)
+    tree_outright : (found : Result (Unit {0}) Refusal)
         → assign_tree call terms given found ≡ with_tree table_rooms (asked modes 0 (words tree) heuristic (term_numbers terms)) found
     unfolding assign_tree with_tree term_numbers
-    tree_outright Accepted = go (leb heuristic 2) (eqb (length terms % 16) 0) refl
+    tree_outright (Ok tt) = go (leb heuristic 2) (eqb (length terms % 16) 0) refl
       where
         go : (h t : Bool) → eqb (length terms % 16) 0 ≡ t
             → cond (not h) (refused Heuristic) (cond (not t) (refused TermNumbers) (assign_terms call given (checked modes (words terms))))
@@ -75,7 +73,7 @@ module _ (own : Rooms) (enough : work_width * most_terms ≤ own.work) (table_en
         go false t e = refl
         go true false e = rw (not_eights modes (0 ∷ []) refl) (given_refused table_rooms (asked modes 0 (words tree) heuristic (0 ∷ [])))
         go true true e = assigned_outright (checked modes (words terms)) refl
-    tree_outright (BadTree refusal) = refl
+    tree_outright (Err refusal) = refl
 
   pub assign_outright : assign_called own.modes modes tree heuristic terms given ≡ assign_handed own modes tree heuristic terms given
   unfolding assign_called assign_handed outcome rule_good tree_numbers table_rooms_in

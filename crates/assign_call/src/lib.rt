@@ -13,7 +13,6 @@ ghost use Rattle.assign_call.specs.code.Reading.{TreeRead};
 ghost use Rattle.assign_call.specs.Promises.{AssignCalled};
 
 use call_bytes::{term_bytes, words};
-use topphatt::Assigned;
 
 // How many numbers of a tree the call goes on with: none where the bytes aren't 6n, so that 13 is given in its turn.
 fn read_tree(modes: usize, bytes: &[u8], numbers: &mut [u16]) -> usize
@@ -57,8 +56,8 @@ fn assign_numbers(
         (lent_table table.old answer.old) (lent_table table.new answer.new) result }
 {
     match topphatt::assign(modes, 0, tree, heuristic, terms, work, own) {
-        Assigned::Unassigned(why) => call_bytes::refusal_result(why),
-        Assigned::Weight(weight) => {
+        Err(why) => call_bytes::refusal_result(why),
+        Ok(weight) => {
             put_assigned(modes, own, weight, table, answer);
             0
         }

@@ -1,4 +1,6 @@
 -- The program's own rooms suffice for whatever the texts say, so 5 is never printed of an assignment.
+use Rattle.std.specs.Prelude.{Err, Ok, Result}
+use Rattle.refusal.specs.declared.Refusal.{Refusal}
 use mathlib.Core.Path.{◌≡◌, refl, ap}
 use mathlib.Core.Bool.{Bool, true, false, cond, not}
 use mathlib.Core.List.{List}
@@ -11,14 +13,10 @@ use Rattle.refusal.specs.declared.Refusal.TheVariants.{Modes, Room, TreeLength, 
 use Rattle.refusal.specs.Numbers.{number_of}
 use Rattle.entities.specs.Limits.{most_modes, most_terms, work_width}
 use Rattle.fields.specs.Fields.{tabbed}
-use Rattle.terms.specs.declared.checking.Checked.{Checked}
-use Rattle.terms.specs.declared.checking.Checked.TheVariants.{Good, Refused as BadTerms}
 use Rattle.terms.specs.Rules.{rule_number, rule_good}
 use Rattle.terms.specs.Good.{modes_good, checked}
 use Rattle.terms.proofs.RowSteps.{length_terms}
 use Rattle.terms.proofs.GoodTerms.{accepted}
-use Rattle.tree.specs.declared.TreeChecked.{TreeChecked}
-use Rattle.tree.specs.declared.TreeChecked.TheVariants.{Accepted, Refused}
 use Rattle.tree.specs.OneTree.{one_tree}
 use Rattle.tree.specs.Pairs.{pairs_right}
 use Rattle.tree.specs.Check.{codes_good, tree_checked}
@@ -40,9 +38,9 @@ number_in (done count weight table) = 0
 number_in (refused refusal) = number_of refusal
 
 -- The number with which a check ends.
-unfoldable number_checked : TreeChecked → ℕ
-number_checked Accepted = 0
-number_checked (Refused refusal) = number_of refusal
+unfoldable number_checked : Result (Unit {0}) Refusal → ℕ
+number_checked (Ok tt) = 0
+number_checked (Err refusal) = number_of refusal
 
 check_never : (modes : ℕ) (table : List ℕ) → number_checked (tree_checked most_modes modes table) ≡ 5 → ⊥
 unfolding number_checked tree_checked
@@ -51,10 +49,10 @@ check_never modes table =
     (ltb (pairs_right modes table) modes)
   where
     go : (a b c d e : Bool)
-        → number_checked (cond (not a) (Refused Modes)
-        (cond (not b) (Refused TreeLength)
-        (cond c (Refused (ChildCode (codes_good modes table)))
-        (cond (not d) (Refused NotOneTree) (cond e (Refused (WrongPair (pairs_right modes table))) Accepted)))))
+        → number_checked (cond (not a) (Err Modes)
+        (cond (not b) (Err TreeLength)
+        (cond c (Err (ChildCode (codes_good modes table)))
+        (cond (not d) (Err NotOneTree) (cond e (Err (WrongPair (pairs_right modes table))) (Ok tt))))))
         ≡ 5
         → ⊥
     go false b c d e h = omega arith
@@ -65,13 +63,13 @@ check_never modes table =
     go true true false true false h = omega arith
 
 module _ (call : Asked) where
-  abbrev number_with : Checked → ℕ
+  abbrev number_with : Result ℕ Refusal → ℕ
   number_with found = number_in (with_terms (assign_rooms program_rooms) call found)
 
   -- Terms that are refused have other numbers, and with room for all an assignment is done.
-  terms_never : call.modes ≤ most_modes → (found : Checked) → checked call.modes call.numbers ≡ found → number_with found ≡ 5 → ⊥
+  terms_never : call.modes ≤ most_modes → (found : Result ℕ Refusal) → checked call.modes call.numbers ≡ found → number_with found ≡ 5 → ⊥
   unfolding number_in with_terms with_room done_by
-  terms_never few (Good count) e h =
+  terms_never few (Ok count) e h =
       let short = (accepted call.modes call.numbers count e).at_most in
       let z : ◌≡◌ {A = ℕ} 0 5 =
       rw (
@@ -80,7 +78,7 @@ module _ (call : Asked) where
         le-leb (3 * call.modes) (3 * most_modes) (omega arith),
       ) at h in
       omega arith
-  terms_never few (BadTerms why) e h = omega (arith, h, terms_refusal call.modes call.numbers why e)
+  terms_never few (Err why) e h = omega (arith, h, terms_refusal call.modes call.numbers why e)
 
   assign_never : number_in (outcome (assign_rooms program_rooms) call) ≡ 5 → ⊥
   unfolding number_in number_checked outcome with_tree
@@ -92,11 +90,11 @@ module _ (call : Asked) where
       by_heuristic true few k = terms_never few (checked call.modes call.numbers) refl k
       by_heuristic false few k = omega arith
 
-      by_tree : (found : TreeChecked) → tree_checked most_modes call.modes call.tree ≡ found
+      by_tree : (found : Result (Unit {0}) Refusal) → tree_checked most_modes call.modes call.tree ≡ found
           → number_in (with_tree (assign_rooms program_rooms) call found) ≡ 5
           → ⊥
-      by_tree Accepted e k = by_heuristic (leb call.heuristic 2) (accepted_parts most_modes call.modes call.tree e).few k
-      by_tree (Refused refusal) e k = check_never call.modes call.tree (rw e k)
+      by_tree (Ok tt) e k = by_heuristic (leb call.heuristic 2) (accepted_parts most_modes call.modes call.tree e).few k
+      by_tree (Err refusal) e k = check_never call.modes call.tree (rw e k)
 
       by_tests : (b c : Bool)
           → number_in

@@ -25,7 +25,7 @@ fn assign_row(rows: &mut [u16], row: usize, table: &[u16])
     ensures { rows.new ≡ written_at (4 * row) (row_in table.now (get_or rows.old (4 * row) 0)) rows.old }
 {
     let at = 4 * row;
-    let label = entities::wide(rows[at]);
+    let label = usize::from(rows[at]);
     rows[at + 1] = child_of(table, label, 0);
     rows[at + 2] = child_of(table, label, 1);
     rows[at + 3] = child_of(table, label, 2);
@@ -36,10 +36,7 @@ pub fn assign_rows(rows: &mut [u16], table: &[u16])
     requires { length rows.old ≡ 4 * modes_in rows.old }
     ensures { rows.new ≡ assigned_rows rows.old table.now }
 {
-    let count = rows.len() / 4;
-    let mut row = 0;
-    while row < count {
+    for row in 0..rows.len() / 4 {
         assign_row(rows, row, table);
-        row += 1;
     }
 }

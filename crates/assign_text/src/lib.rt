@@ -2,24 +2,21 @@
 #![tactic(auto)]
 
 ghost use Rattle.std.specs.Prelude.{◌≡◌, ◌*◌, ◌≤◌, length};
-ghost use Rattle.entities.specs.Limits.{most_modes, most_terms, row_width, work_width};
+ghost use Rattle.terms.specs.Rules.{rule_number};
+ghost use Rattle.entities.specs.Limits.{most_modes, most_terms};
 ghost use Rattle.tree.specs.Laying.{modes_in};
 ghost use Rattle.terms_text.specs.Input.{given, said};
 ghost use Rattle.terms_text.specs.Jobs.{request};
-ghost use Rattle.text.specs.Running.{program_rooms, printed_room};
+ghost use Rattle.text.specs.Running.{program_rooms};
 ghost use Rattle.text.specs.Output.{Prints};
 ghost use Rattle.text.specs.code.Printing.{Puts};
 ghost use Rattle.assign_text.specs.Assigning.{assign_text};
 ghost use Rattle.tree_text.specs.code.Reading.{RowsFit};
 ghost use Rattle.assign_text.specs.code.Finding.{found_text, meant_text};
 
-use nodes_text::Nodes;
 use refusal::Refusal;
-use terms::rules;
 use terms::rules::Rule;
-use terms_text::Said;
 use text::{Printed, output};
-use topphatt::Assigned;
 use tree_text::trees;
 
 mod assigned_rows;
@@ -30,24 +27,27 @@ fn assign_in(
     rows: &mut [u16],
     modes: usize,
     table: &[u16],
-    rule: usize,
+    rule: Rule,
     heuristic: usize,
     numbers: &[u16],
-    work: &mut [u16],
-    assigned: &mut [u16],
-) -> Assigned
-    requires rows_fit { RowsFit most_modes rows.old × (length table.now ≤ 3 * most_modes) }
-    requires work_len { (length work.old ≡ work_width * most_terms) × (length assigned.old ≡ 3 * most_modes) }
-    ensures { found_text result rows.new ≡ meant_text rows.old table.now rule heuristic (given modes numbers.now) }
+    work: &mut [u16; 18432],
+    assigned: &mut [u16; 768],
+) -> Result<u64, Refusal>
+    requires { RowsFit most_modes rows.old × (length table.now ≤ 3 * most_modes) }
+    ensures { found_text result rows.new ≡ meant_text rows.old table.now (rule_number rule) heuristic (given modes numbers.now) }
 {
-    match topphatt::assign(modes, rule, table, heuristic, numbers, work, assigned) {
-        Assigned::Unassigned(refusal) => Assigned::Unassigned(refusal),
-        Assigned::Weight(weight) => {
-            let end = table.len();
-            assigned_rows::assign_rows(rows, &assigned[..end]);
-            Assigned::Weight(weight)
-        }
-    }
+    let weight = topphatt::assign(
+        modes,
+        usize::from(rule),
+        table,
+        heuristic,
+        numbers,
+        work,
+        assigned,
+    )?;
+    let end = table.len();
+    assigned_rows::assign_rows(rows, &assigned[..end]);
+    Ok(weight)
 }
 
 // The same in room of its own.
@@ -55,12 +55,12 @@ fn assign_given(
     rows: &mut [u16],
     modes: usize,
     table: &[u16],
-    rule: usize,
+    rule: Rule,
     heuristic: usize,
     numbers: &[u16],
-) -> Assigned
+) -> Result<u64, Refusal>
     requires { RowsFit most_modes rows.old × (length table.now ≤ 3 * most_modes) }
-    ensures { found_text result rows.new ≡ meant_text rows.old table.now rule heuristic (given modes numbers.now) }
+    ensures { found_text result rows.new ≡ meant_text rows.old table.now (rule_number rule) heuristic (given modes numbers.now) }
 {
     let mut work = [0u16; 18432];
     let mut assigned = [0u16; 768];
@@ -80,32 +80,27 @@ fn assign_given(
 fn assign_read(
     rows: &mut [u16],
     table: &[u16],
-    rule: usize,
+    rule: Rule,
     heuristic: usize,
     input: &[u8],
-    numbers: &mut [u16],
-) -> Assigned
-    requires rows_fit { RowsFit most_modes rows.old × (length table.now ≤ 3 * most_modes) }
-    requires numbers_len { length numbers.old ≡ row_width * most_terms }
-    ensures { found_text result rows.new ≡ meant_text rows.old table.now rule heuristic (said most_terms input.now) }
+    numbers: &mut [u16; 16384],
+) -> Result<u64, Refusal>
+    requires { RowsFit most_modes rows.old × (length table.now ≤ 3 * most_modes) }
+    ensures { found_text result rows.new ≡ meant_text rows.old table.now (rule_number rule) heuristic (said most_terms input.now) }
 {
-    match terms_text::read_input(input, numbers) {
-        Said::Malformed(line) => Assigned::Unassigned(Refusal::Malformed(line)),
-        Said::Given(modes, count) => {
-            let end = 8 * count;
-            assign_given(rows, modes, table, rule, heuristic, &numbers[..end])
-        }
-    }
+    let given = terms_text::read_input(input, numbers)?;
+    let end = 8 * given.count;
+    assign_given(rows, given.modes, table, rule, heuristic, &numbers[..end])
 }
 
 // An assignment and its rows printed over the front; how many bytes that is.
-fn put_found(out: &mut [u8], found: Assigned, rows: &[u16]) -> usize
-    requires { (length out.old ≡ printed_room) × (modes_in rows.now ≤ most_modes) }
+fn put_found(out: &mut [u8; 16384], found: Result<u64, Refusal>, rows: &[u16]) -> usize
+    requires { modes_in rows.now ≤ most_modes }
     ensures { Puts (found_text found rows.now) out.old out.new result }
 {
     match found {
-        Assigned::Unassigned(refusal) => output::put_refusal(out, refusal),
-        Assigned::Weight(weight) => {
+        Err(refusal) => output::put_refusal(out, refusal),
+        Ok(weight) => {
             let end = output::put_value(out, 0, b"weight\t", weight);
             output::put_nodes(out, end, rows)
         }
@@ -114,15 +109,15 @@ fn put_found(out: &mut [u8], found: Assigned, rows: &[u16]) -> usize
 
 // The assignment for the text of terms printed over the front; how many bytes that is.
 fn put_terms(
-    out: &mut [u8],
+    out: &mut [u8; 16384],
     rows: &mut [u16],
     table: &[u16],
-    rule: usize,
+    rule: Rule,
     heuristic: usize,
     input: &[u8],
 ) -> usize
-    requires { (length out.old ≡ printed_room) × RowsFit most_modes rows.old × (length table.now ≤ 3 * most_modes) }
-    ensures { Puts (meant_text rows.old table.now rule heuristic (said most_terms input.now)) out.old out.new result }
+    requires { RowsFit most_modes rows.old × (length table.now ≤ 3 * most_modes) }
+    ensures { Puts (meant_text rows.old table.now (rule_number rule) heuristic (said most_terms input.now)) out.old out.new result }
 {
     let mut numbers = [0u16; 16384];
     let found = assign_read(rows, table, rule, heuristic, input, &mut numbers);
@@ -135,25 +130,23 @@ fn print_assign(
     tree: &[u8],
     name: &[u8],
     input: &[u8],
-    rows: &mut [u16],
-    table: &mut [u16],
-    out: &mut [u8],
+    rows: &mut [u16; 1024],
+    table: &mut [u16; 768],
+    out: &mut [u8; 16384],
 ) -> usize
-    requires { (length rows.old ≡ 4 * most_modes) × (length table.old ≡ 3 * most_modes) × (length out.old ≡ printed_room) }
     ensures { Puts (assign_text program_rooms tree.now name.now (request rule input.now)) out.old out.new result }
 {
-    let number = rules::number(rule);
     let heuristic = heuristics::heuristic_of(name);
     match trees::read_tree(tree, rows, table) {
-        Nodes::Malformed(line) => output::put_refusal(out, Refusal::Malformed(line)),
-        Nodes::Are(modes) => {
+        Err(refusal) => output::put_refusal(out, refusal),
+        Ok(modes) => {
             let last = 4 * modes;
             let end = 3 * modes;
             put_terms(
                 out,
                 &mut rows[..last],
                 &table[..end],
-                number,
+                rule,
                 heuristic,
                 input,
             )
@@ -171,8 +164,5 @@ pub fn assign_answer(rule: Rule, tree: &[u8], heuristic: &[u8], input: &[u8]) ->
     let count = print_assign(
         rule, tree, heuristic, input, &mut rows, &mut table, &mut bytes,
     );
-    Printed {
-        bytes: bytes,
-        count: count,
-    }
+    Printed { bytes, count }
 }

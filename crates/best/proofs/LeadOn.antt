@@ -1,4 +1,5 @@
 -- What is known after the first k sequences, one sequence on, and at the end of all.
+use Rattle.std.specs.Prelude.{Ok}
 use mathlib.Core.Path.{◌≡◌, ap, ◌∙◌, sym, fun_ext}
 use mathlib.Core.List.{List, []}
 use Prim.Native.Nat.{ℕ, ◌+◌, ◌*◌, ◌<◌, ◌≤◌}
@@ -13,8 +14,7 @@ use Rattle.entities.specs.Limits.{row_width}
 use Rattle.entities.specs.declared.Triple.{Triple}
 use Rattle.terms.specs.Rows.{terms_of}
 use Rattle.tree_weight.specs.code.Promises.{OperatorsOf}
-use Rattle.best.specs.declared.search.Lead.{Lead}
-use Rattle.best.specs.declared.BestFound.TheVariants.{Found}
+use Rattle.best.specs.declared.Least.{Least}
 use Rattle.best.specs.Sequences.{sequences}
 use Rattle.best.specs.Best.{sequence_weight}
 use Rattle.best.specs.computed.Lightest.{lightest, least_weight, how_many}
@@ -41,7 +41,7 @@ module _ (modes count : ℕ) (own : List ℕ) where
         front_is = put.front ∙ ap sequence_numbers (weighed.merges ∙ sym none.0);
       }
 
-  module _ (k : ℕ) (h : k < length (sequences modes)) (lead : Lead) (numbers : List ℕ) (led : Led modes count own k lead numbers)
+  module _ (k : ℕ) (h : k < length (sequences modes)) (lead : Least) (numbers : List ℕ) (led : Led modes count own k lead numbers)
       (merges_before merges : List ℕ) (weight : ℕ) (weighed : Weighed modes count own k merges_before merges weight) where
     pub lead_taken : (after : List ℕ) → weight < lead.weight → NumbersPut modes merges numbers after
         → Led modes count own (k + 1) (record { weight = weight; reached = 1 }) after
@@ -83,7 +83,7 @@ module _ (modes count : ℕ) (rows own : List ℕ) (made : OperatorsOf modes cou
   unfolding sequence_weight
   same_weights = fun_ext (λ history. made.weighs _)
 
-  module _ (lead : Lead) (numbers : List ℕ) (led : Led modes count own (length (sequences modes)) lead numbers) where
+  module _ (lead : Least) (numbers : List ℕ) (led : Led modes count own (length (sequences modes)) lead numbers) where
     lead_lightest : lead_first (weight_by modes count own) [] (sequences modes) (length (sequences modes)) ≡ lightest modes terms
     unfolding lightest
     lead_lightest =
@@ -108,7 +108,7 @@ module _ (modes count : ℕ) (rows own : List ℕ) (made : OperatorsOf modes cou
 -- The front and what is behind it are the numbers with the sequence written over them.
 pub sequence_written : (modes : ℕ) (rows : List ℕ) (weight reached : ℕ) (before after : List ℕ)
     → take (3 * modes) after ≡ sequence_numbers (lightest modes (terms_given rows)) → FrontOnly (3 * modes) before after
-    → after ≡ sequence_after (Found weight reached) modes rows before
+    → after ≡ sequence_after (Ok (record { weight = weight; reached = reached })) modes rows before
 unfolding sequence_after written_at
 sequence_written modes rows weight reached before after front rest =
     let first = lightest modes (terms_given rows) in

@@ -1,4 +1,7 @@
 -- The first of the lightest sequences is the best there is, and there is one; greedy's tree is never below it.
+use Rattle.best.specs.declared.Least.{Least}
+use Rattle.std.specs.Result.{result_unwrap_or}
+use Rattle.std.specs.Prelude.{Err, Ok, Result}
 use mathlib.Core.Path.{◌≡◌, refl, ap, ◌∙◌, sym, subst}
 use mathlib.Core.Bool.{Bool, true, false, cond}
 use mathlib.Core.List.{List, []}
@@ -17,8 +20,6 @@ use Rattle.refusal.specs.declared.Refusal.TheVariants.{Modes, Room, TooManyToTry
 use Rattle.entities.specs.Limits.{row_width}
 use Rattle.entities.specs.declared.Triple.{Triple}
 use Rattle.terms.specs.Good.{checked}
-use Rattle.terms.specs.declared.checking.Checked.{Checked}
-use Rattle.terms.specs.declared.checking.Checked.TheVariants.{Good, Refused as BadTerms}
 use Rattle.history.specs.History.{merge_of, history_before}
 use Rattle.history.proofs.HistoryBefore.{before_next}
 use Rattle.history.specs.Flatpack.{flatpack}
@@ -28,7 +29,6 @@ use Rattle.finished.proofs.FinishedTrees.{lawful_finishes}
 use Rattle.finished.proofs.CallsFinish.{call_finishes}
 use Rattle.tree_weight.specs.Weight.{tree_weight, weighed_terms, weighed_tree, tree_weighed}
 use Rattle.terms.specs.Rows.{terms_of}
-use Rattle.best.specs.declared.BestFound.TheVariants.{Found, Unfound}
 use Rattle.best.specs.Sequences.{Before, Earlier, sequences}
 use Rattle.best.specs.Best.{sequence_weight, Best, OneBest, GreedyNotBelow}
 use Rattle.best.specs.computed.Lightest.{lightest, least_weight, how_many}
@@ -121,56 +121,61 @@ one_best modes terms least other_least first other_first reached other_reached o
     }
 
 -- What a found answer holds: the other answers are refusals.
-module _ (modes : ℕ) (numbers : List ℕ) (room weight reached : ℕ) where
+module _ (modes : ℕ) (numbers : List ℕ) (room : ℕ) (least : Least) where
   abbrev Holds : Type 0
-  Holds = (weight ≡ least_weight modes (terms_given numbers)) × (reached ≡ how_many modes (terms_given numbers))
+  Holds = (least.weight ≡ least_weight modes (terms_given numbers)) × (least.reached ≡ how_many modes (terms_given numbers))
 
-  not_refused : {refusal : Refusal} → Unfound refusal ≡ Found weight reached → Holds
+  found_same : {found : Least} → ◌≡◌ {A = Result Least Refusal} (Ok found) (Ok least) → found ≡ least
+  found_same {found} e = ap (λ answer. result_unwrap_or answer found) e
+
+  not_refused : {refusal : Refusal} → ◌≡◌ {A = Result Least Refusal} (Err refusal) (Ok least) → Holds
   not_refused e = let z : ◌≡◌ {A = ℕ} 0 1 = cc in absurd (omega arith)
 
-  among_holds : (check : Checked) → found_among modes numbers room check ≡ Found weight reached → Holds
+  among_holds : (check : Result ℕ Refusal) → found_among modes numbers room check ≡ Ok least → Holds
   unfolding found_among
-  among_holds (Good count) e = go (ltb room (3 * modes)) e
+  among_holds (Ok count) e = go (ltb room (3 * modes)) e
     where
-      go : (b : Bool) → cond b (Unfound Room) (Found (least_weight modes (terms_given numbers)) (how_many modes (terms_given numbers))) ≡ Found weight reached
+      go : (b : Bool) → cond {A = Result Least Refusal} b (Err Room) (Ok (record { weight = least_weight modes (terms_given numbers); reached = how_many modes (terms_given numbers) })) ≡ Ok least
           → Holds
       go true e = not_refused e
-      go false e = (cc, cc)
-  among_holds (BadTerms refusal) e = not_refused e
+      go false e =
+          let same = found_same e in
+          (ap (λ (found : Least). found.weight) (sym same), ap (λ (found : Least). found.reached) (sym same))
+  among_holds (Err refusal) e = not_refused e
 
-  found_holds : (most : ℕ) → best_found most modes numbers room ≡ Found weight reached → Holds
+  found_holds : (most : ℕ) → best_found most modes numbers room ≡ Ok least → Holds
   unfolding best_found
   found_holds most e = go (eqb modes 0) (ltb most modes) e
     where
-      go : (a b : Bool) → cond a (Unfound Modes) (cond b (Unfound TooManyToTry) (found_among modes numbers room (checked modes numbers))) ≡ Found weight reached
+      go : (a b : Bool) → cond a (Err Modes) (cond b (Err TooManyToTry) (found_among modes numbers room (checked modes numbers))) ≡ Ok least
           → Holds
       go true b e = not_refused e
       go false true e = not_refused e
       go false false e = among_holds (checked modes numbers) e
 
 -- And the modes are no more than are gone through.
-pub found_few : (most modes : ℕ) (numbers : List ℕ) (room weight reached : ℕ) → best_found most modes numbers room ≡ Found weight reached → modes ≤ most
+pub found_few : (most modes : ℕ) (numbers : List ℕ) (room : ℕ) (least : Least) → best_found most modes numbers room ≡ Ok least → modes ≤ most
 unfolding best_found
-found_few most modes numbers room weight reached e = go (eqb modes 0) refl (ltb most modes) refl e
+found_few most modes numbers room least e = go (eqb modes 0) refl (ltb most modes) refl e
   where
-    never : {refusal : Refusal} → Unfound refusal ≡ Found weight reached → modes ≤ most
+    never : {refusal : Refusal} → ◌≡◌ {A = Result Least Refusal} (Err refusal) (Ok least) → modes ≤ most
     never f = let z : ◌≡◌ {A = ℕ} 0 1 = cc in absurd (omega arith)
 
     go : (a : Bool) → eqb modes 0 ≡ a → (b : Bool) → ltb most modes ≡ b
-        → cond a (Unfound Modes) (cond b (Unfound TooManyToTry) (found_among modes numbers room (checked modes numbers))) ≡ Found weight reached
+        → cond a (Err Modes) (cond b (Err TooManyToTry) (found_among modes numbers room (checked modes numbers))) ≡ Ok least
         → modes ≤ most
     go true p b q f = never f
     go false p true q f = never f
     go false p false q f = ltb-false most modes q
 
 pub found_best : FoundBest
-found_best most modes numbers room weight reached says =
-    let held = found_holds modes numbers room weight reached most says in
+found_best most modes numbers room least says =
+    let held = found_holds modes numbers room least most says in
     rw (held.0, held.1) (lightest_best modes (terms_given numbers))
 
 -- Rows that are those of n lawful merges.
 merges_not_below : (most modes count : ℕ) (numbers rows : List ℕ) (history : List Triple) → AllMerged modes history → modes ≤ most
-    → checked modes numbers ≡ Good count → rows ≡ flatpack modes history
+    → checked modes numbers ≡ Ok count → rows ≡ flatpack modes history
     → (least : ℕ) (first : List Triple) (reached : ℕ) → Best modes (terms_of row_width count numbers) least first reached
     → AtMostTree most modes rows numbers least
 unfolding tree_weighed weighed_tree weighed_terms sequence_weight

@@ -1,16 +1,7 @@
 -- Merges kept as numbers: how many they are, which each is, how one more is put behind them, and what openness and z-ends they give.
-use mathlib.Core.Path.{◌≡◌, refl, ap, ◌∙◌, sym}
-use mathlib.Core.Bool.{Bool, true, false, ◌&&◌}
-use mathlib.Core.List.{List, [], ◌∷◌, ◌++◌, append_assoc}
-use mathlib.Core.Logic.{⊎_elim}
-use Prim.Native.Nat.{ℕ, zero, suc, ◌+◌, ◌*◌, ◌<◌, ◌≤◌}
-use native.Mathlib.Nat.{add-zero}
-use native.Mathlib.Numerals.{add-one}
-use native.Mathlib.Omega.{arith}
-use borrow.Author.Tests.{eq-eqb, ne_eqb}
-use lib.ListN.{length, get_or, set, take, length-set, length-append}
-use lib.Seq.{take-suc, get_or-set_same, get_or-set_other, get_or-append-add}
-use Rattle.lists.proofs.Tests.{same_or_not}
+use Rattle.std.proofs.Common.{◌≡◌, refl, ap, ◌∙◌, sym, Bool, true, false, ◌&&◌, ◌||◌, List, [], ◌∷◌, ◌++◌, append_assoc, ⊎_elim, ℕ, zero, suc, ◌+◌, ◌*◌, ◌<◌, ◌≤◌, add-zero, add-one, arith, eq-eqb, ne_eqb, eqb, length, get_or, set, take, drop, length-set, length-append, length-drop, take-suc, get_or-set_same, get_or-set_other, get_or-append-add, get_or-drop}
+use Rattle.std.specs.List.{list_any}
+use Rattle.lists.proofs.Tests.{same_or_not, eqb_either}
 use Rattle.entities.specs.declared.Triple.{Triple}
 use Rattle.entities.specs.Parents.{parent_number}
 use Rattle.history.specs.History.{merge_of, next_parent, among, is_open, z_end}
@@ -134,25 +125,26 @@ module _ (modes : ℕ) (numbers : List ℕ) (steps entity : ℕ) where
       rw (add-one steps)
       (other_end modes (merge_in numbers steps) (history_in numbers steps) entity (λ q. other (q ∙ parent_after numbers modes steps)))
 
--- The entity is one of a merge's three, or none of them.
-module _ (numbers : List ℕ) (steps entity : ℕ) where
-  pub is_x : entity ≡ get_or numbers (3 * steps) 0 → among (merge_in numbers steps) entity ≡ true
-  unfolding among merge_in
-  is_x e = rw (eq-eqb entity _ e)
-
-  pub is_y : (entity ≡ get_or numbers (3 * steps) 0 → ⊥) → entity ≡ get_or numbers (3 * steps + 1) 0 → among (merge_in numbers steps) entity ≡ true
-  unfolding among merge_in
-  is_y x e = rw (ne_eqb entity _ x, eq-eqb entity _ e)
-
-  pub is_z : (entity ≡ get_or numbers (3 * steps) 0 → ⊥) → (entity ≡ get_or numbers (3 * steps + 1) 0 → ⊥) → entity ≡ get_or numbers (3 * steps + 2) 0
-      → among (merge_in numbers steps) entity ≡ true
-  unfolding among merge_in
-  is_z x y e = rw (ne_eqb entity _ x, ne_eqb entity _ y, eq-eqb entity _ e)
-
-  pub is_none : (entity ≡ get_or numbers (3 * steps) 0 → ⊥) → (entity ≡ get_or numbers (3 * steps + 1) 0 → ⊥) → (entity ≡ get_or numbers (3 * steps + 2) 0 → ⊥)
-      → among (merge_in numbers steps) entity ≡ false
-  unfolding among merge_in
-  is_none x y z = rw (ne_eqb entity _ x, ne_eqb entity _ y, ne_eqb entity _ z)
+-- Whether the entity is one of a merge's three is whether it is one of the merge's numbers.
+pub among_kept : (numbers : List ℕ) (steps entity : ℕ) → 3 * steps + 3 ≤ length numbers
+    → list_any (λ number. eqb number entity) (take 3 (drop (3 * steps) numbers)) ≡ among (merge_in numbers steps) entity
+unfolding among merge_in
+among_kept numbers steps entity h =
+    let x : get_or (drop (3 * steps) numbers) 0 0 ≡ get_or numbers (3 * steps) 0 = get_or-drop (3 * steps) numbers 0 0 ∙ ap (λ i. get_or numbers i 0) (omega arith) in
+    three (drop (3 * steps) numbers) (simp length-drop (omega arith)) x (get_or-drop (3 * steps) numbers 1 0) (get_or-drop (3 * steps) numbers 2 0)
+  where
+    three : (l : List ℕ) → 3 ≤ length l → {x y z : ℕ} → get_or l 0 0 ≡ x → get_or l 1 0 ≡ y → get_or l 2 0 ≡ z
+        → list_any (λ number. eqb number entity) (take 3 l) ≡ (eqb entity x || (eqb entity y || eqb entity z))
+    three [] h e f g = absurd (omega arith)
+    three (a ∷ []) h e f g = absurd (omega arith)
+    three (a ∷ (b ∷ [])) h e f g = absurd (omega arith)
+    three (a ∷ (b ∷ (d ∷ l))) h e f g = rw (← e, ← f, ← g, eqb_either a entity, eqb_either b entity, eqb_either d entity) (go (eqb entity a) (eqb entity b) (eqb entity d))
+      where
+        go : (p q r : Bool) → (p || (q || (r || false))) ≡ (p || (q || r))
+        go true q r = refl
+        go false true r = refl
+        go false false true = refl
+        go false false false = refl
 
 pub length_numbers : (history : List Triple) → length (sequence_numbers history) ≡ 3 * length history
 unfolding sequence_numbers

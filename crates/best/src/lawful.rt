@@ -12,24 +12,16 @@ fn is_open(modes: usize, merges: &[u16], steps: usize, entity: u16) -> bool
     requires { Kept modes steps merges.now }
     ensures { result ≡ is_open modes (history_in merges.now steps) entity }
 {
-    let mut left = steps;
-    while 0 < left {
-        left -= 1;
-        if entity == parents::parent_number(modes, left) {
+    for step in (0..steps).rev() {
+        if entity == parents::parent_number(modes, step) {
             return true;
         }
-        let at = 3 * left;
-        if entity == merges[at] {
-            return false;
-        }
-        if entity == merges[at + 1] {
-            return false;
-        }
-        if entity == merges[at + 2] {
+        let at = 3 * step;
+        if merges[at..at + 3].contains(&entity) {
             return false;
         }
     }
-    entities::wide(entity) <= 2 * modes
+    usize::from(entity) <= 2 * modes
 }
 
 // The entity's z-end after them.
@@ -37,12 +29,10 @@ fn z_end(modes: usize, merges: &[u16], steps: usize, entity: u16) -> u16
     requires { Kept modes steps merges.now }
     ensures { result ≡ z_end modes (history_in merges.now steps) entity }
 {
-    let mut left = steps;
     let mut at = entity;
-    while 0 < left {
-        left -= 1;
-        if at == parents::parent_number(modes, left) {
-            at = merges[3 * left + 2];
+    for step in (0..steps).rev() {
+        if at == parents::parent_number(modes, step) {
+            at = merges[3 * step + 2];
         }
     }
     at
@@ -53,13 +43,9 @@ fn three_open(modes: usize, merges: &[u16], steps: usize, triple: Triple) -> boo
     requires { Kept modes steps merges.now }
     ensures { result ≡ three_open modes (history_in merges.now steps) triple }
 {
-    if !is_open(modes, merges, steps, triple.x) {
-        return false;
-    }
-    if !is_open(modes, merges, steps, triple.y) {
-        return false;
-    }
-    is_open(modes, merges, steps, triple.z)
+    is_open(modes, merges, steps, triple.x)
+        && is_open(modes, merges, steps, triple.y)
+        && is_open(modes, merges, steps, triple.z)
 }
 
 // Three different entities, x's z-end an even 2k below 2n and y's 2k+1.
@@ -67,23 +53,11 @@ fn are_paired(modes: usize, merges: &[u16], steps: usize, triple: Triple) -> boo
     requires { Kept modes steps merges.now }
     ensures { result ≡ paired modes (history_in merges.now steps) triple }
 {
-    if triple.x == triple.y {
+    if triple.x == triple.y || triple.x == triple.z || triple.y == triple.z {
         return false;
     }
-    if triple.x == triple.z {
-        return false;
-    }
-    if triple.y == triple.z {
-        return false;
-    }
-    let end = entities::wide(z_end(modes, merges, steps, triple.x));
-    if end % 2 != 0 {
-        return false;
-    }
-    if 2 * modes <= end {
-        return false;
-    }
-    entities::wide(z_end(modes, merges, steps, triple.y)) == end + 1
+    let end = usize::from(z_end(modes, merges, steps, triple.x));
+    end % 2 == 0 && end < 2 * modes && usize::from(z_end(modes, merges, steps, triple.y)) == end + 1
 }
 
 // The triple is lawful.
@@ -91,8 +65,5 @@ pub fn is_lawful(modes: usize, merges: &[u16], steps: usize, triple: Triple) -> 
     requires { Kept modes steps merges.now }
     ensures { result ≡ is_lawful modes (history_in merges.now steps) triple }
 {
-    if !three_open(modes, merges, steps, triple) {
-        return false;
-    }
-    are_paired(modes, merges, steps, triple)
+    three_open(modes, merges, steps, triple) && are_paired(modes, merges, steps, triple)
 }

@@ -3,58 +3,50 @@
 // search and nothing to remember but the best so far.
 #![tactic(auto)]
 
-ghost use Rattle.std.specs.Prelude.{◌*◌, ◌≤◌, ◌≡◌, length};
+ghost use Rattle.std.specs.Prelude.{◌*◌, ◌≤◌, ◌≡◌, length, Ok};
 ghost use Rattle.terms.specs.Good.{checked};
-ghost use Rattle.terms.specs.declared.checking.Checked.«TheVariants».{Good};
-ghost use Rattle.best.specs.declared.BestFound.«TheVariants».{Found};
 ghost use Rattle.best.specs.computed.Lightest.{least_weight, how_many};
 ghost use Rattle.best.specs.Call.{most_to_try, terms_given, sequence_after, Sought};
 
 use refusal::Refusal;
 use terms::checking;
-use terms::checking::Checked;
 
 mod lawful;
 mod search;
 mod sequence;
 
-// What `best` answers: the least weight and how many sequences reach it, or why it is refused.
+// The least tree weight of all lawful sequences, and how many reach it.
 #[derive(Clone, Copy)]
-pub enum BestFound {
-    Found(u64, usize),
-    Unfound(Refusal),
+pub struct Least {
+    pub weight: u64,
+    pub reached: usize,
 }
 
 // The best of good terms: their operators are found once, for all sequences.
-fn find(modes: usize, terms: &[u16], count: usize, sequence: &mut [u16]) -> BestFound
-    requires terms_value { checked modes terms.now ≡ Good count }
+fn find(modes: usize, terms: &[u16], count: usize, sequence: &mut [u16]) -> Least
+    requires terms_value { checked modes terms.now ≡ Ok count }
     requires le_modes { (1 ≤ modes) × (modes ≤ most_to_try) }
     requires modes_in_bounds { 3 * modes ≤ length sequence.old }
-    ensures value { result ≡ Found (least_weight modes (terms_given terms.now)) (how_many modes (terms_given terms.now)) }
-    ensures sequence_after { sequence.new ≡ sequence_after result modes terms.now sequence.old }
+    ensures value { result ≡ (record { weight = least_weight modes (terms_given terms.now); reached = how_many modes (terms_given terms.now) }) }
+    ensures sequence_after { sequence.new ≡ sequence_after (Ok result) modes terms.now sequence.old }
 {
     let own = tree_weight::own_operators(modes, terms, count);
-    let lead = search::search(modes, &own, count, sequence);
-    BestFound::Found(lead.weight, lead.reached)
+    search::search(modes, &own, count, sequence)
 }
 
 // The least tree weight of all lawful sequences, how many reach it, and the first of them into the lent numbers; or why it is refused.
-pub fn best(modes: usize, terms: &[u16], sequence: &mut [u16]) -> BestFound
+pub fn best(modes: usize, terms: &[u16], sequence: &mut [u16]) -> Result<Least, Refusal>
     ensures { Sought most_to_try modes terms.now sequence.old result sequence.new }
 {
     if modes == 0 {
-        return BestFound::Unfound(Refusal::Modes);
+        return Err(Refusal::Modes);
     }
     if 4 < modes {
-        return BestFound::Unfound(Refusal::TooManyToTry);
+        return Err(Refusal::TooManyToTry);
     }
-    match checking::check_terms(modes, terms) {
-        Checked::Refused(refusal) => BestFound::Unfound(refusal),
-        Checked::Good(count) => {
-            if sequence.len() < 3 * modes {
-                return BestFound::Unfound(Refusal::Room);
-            }
-            find(modes, terms, count, sequence)
-        }
+    let count = checking::check_terms(modes, terms)?;
+    if sequence.len() < 3 * modes {
+        return Err(Refusal::Room);
     }
+    Ok(find(modes, terms, count, sequence))
 }

@@ -7,16 +7,9 @@ ghost use Rattle.best.specs.Call.{most_to_try};
 ghost use Rattle.best.specs.Sequences.{sequences};
 ghost use Rattle.best.specs.code.Numbered.{history_in, weight_by, Few, Weighed, NumbersPut, Led, FrontOnly};
 
-use crate::sequence;
+use crate::{Least, sequence};
 use entities::codes;
 use terms::slices;
-
-// The lightest so far: its weight, and how many are as light.
-#[derive(Clone, Copy)]
-pub struct Lead {
-    pub weight: u64,
-    pub reached: usize,
-}
 
 // The tree table of a sequence: the codes of its numbers, the leaf 2n being the absent child.
 fn put_tree(modes: usize, merges: &[u16], tree: &mut [u16])
@@ -26,10 +19,8 @@ fn put_tree(modes: usize, merges: &[u16], tree: &mut [u16])
     ensures tree_len_unchanged { length tree.new ≡ length tree.old }
 {
     let last = (2 * modes) as u16;
-    let mut at = 0;
-    while at < 3 * modes {
+    for at in 0..3 * modes {
         tree[at] = codes::code(modes, last, merges[at]);
-        at += 1;
     }
 }
 
@@ -67,7 +58,7 @@ fn put_numbers(modes: usize, merges: &[u16], first: &mut [u16])
 }
 
 // The first sequence as the lightest so far, none counted yet.
-fn start(modes: usize, own: &[u16], count: usize, first: &mut [u16]) -> Lead
+fn start(modes: usize, own: &[u16], count: usize, first: &mut [u16]) -> Least
     requires few { Few modes × (3 * modes ≤ length first.old) }
     requires rows_below { RowsBelow modes count own.now }
     ensures led { Led modes count own.now 0 result first.new }
@@ -76,10 +67,7 @@ fn start(modes: usize, own: &[u16], count: usize, first: &mut [u16]) -> Lead
     let mut merges = [0u16; 12];
     let weight = weigh_next(modes, own, count, 0, &mut merges);
     put_numbers(modes, &merges, first);
-    Lead {
-        weight: weight,
-        reached: 0,
-    }
+    Least { weight, reached: 0 }
 }
 
 // The next sequence met: it leads where it is lighter, and is counted where it is as light. Of several as light the first stays.
@@ -88,9 +76,9 @@ fn meet(
     own: &[u16],
     count: usize,
     number: usize,
-    lead: Lead,
+    lead: Least,
     first: &mut [u16],
-) -> Lead
+) -> Least
     requires few { Few modes × (3 * modes ≤ length first.old) }
     requires rows_below { RowsBelow modes count own.now }
     requires number_in_bounds { (number < length (sequences modes)) × Led modes count own.now number lead first.old }
@@ -101,14 +89,11 @@ fn meet(
     let weight = weigh_next(modes, own, count, number, &mut merges);
     if weight < lead.weight {
         put_numbers(modes, &merges, first);
-        return Lead {
-            weight: weight,
-            reached: 1,
-        };
+        return Least { weight, reached: 1 };
     }
     if weight == lead.weight {
-        return Lead {
-            weight: weight,
+        return Least {
+            weight,
             reached: lead.reached + 1,
         };
     }
@@ -116,7 +101,7 @@ fn meet(
 }
 
 // The lightest of all sequences, the first of them at the front of the lent numbers.
-pub fn search(modes: usize, own: &[u16], count: usize, first: &mut [u16]) -> Lead
+pub fn search(modes: usize, own: &[u16], count: usize, first: &mut [u16]) -> Least
     requires few { Few modes × (3 * modes ≤ length first.old) }
     requires rows_below { RowsBelow modes count own.now }
     ensures led { Led modes count own.now (length (sequences modes)) result first.new }
@@ -124,10 +109,8 @@ pub fn search(modes: usize, own: &[u16], count: usize, first: &mut [u16]) -> Lea
 {
     let total = sequence::sequence_count(modes);
     let mut lead = start(modes, own, count, first);
-    let mut number = 0;
-    while number < total {
+    for number in 0..total {
         lead = meet(modes, own, count, number, lead, first);
-        number += 1;
     }
     lead
 }

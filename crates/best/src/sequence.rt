@@ -34,20 +34,12 @@ fn nth_lawful(modes: usize, merges: &[u16], steps: usize, number: usize) -> Trip
     requires { Kept modes steps merges.now }
     ensures { result ≡ get_or (lawful_triples modes (history_in merges.now steps)) number no_merge }
 {
-    let end = triple_count(modes, steps);
-    let mut passes = number;
-    let mut at = 0;
-    while at < end {
-        let triple = triple_at(2 * modes + 1 + steps, at);
-        if lawful::is_lawful(modes, merges, steps, triple) {
-            if passes == 0 {
-                return triple;
-            }
-            passes -= 1;
-        }
-        at += 1;
-    }
-    Triple { x: 0, y: 0, z: 0 }
+    let count = 2 * modes + 1 + steps;
+    (0..triple_count(modes, steps))
+        .map(|at| triple_at(count, at))
+        .filter(|triple| lawful::is_lawful(modes, merges, steps, *triple))
+        .nth(number)
+        .unwrap_or(Triple { x: 0, y: 0, z: 0 })
 }
 
 // How many sequences the last `steps` merges have.
@@ -81,12 +73,10 @@ pub fn put_sequence(modes: usize, number: usize, merges: &mut [u16])
     ensures { (history_in merges.new modes ≡ sequence_at modes modes [] number) × (length merges.new ≡ length merges.old) }
 {
     let mut left = number;
-    let mut step = 0;
-    while step < modes {
+    for step in 0..modes {
         let ways = sequence_count(modes - step - 1);
         let triple = nth_lawful(modes, merges, step, left / ways);
         put_merge(merges, step, triple);
-        left = left % ways;
-        step += 1;
+        left %= ways;
     }
 }

@@ -1,15 +1,14 @@
 -- What `best` prints for the text of terms: the least weight, how many sequences reach it, and the merges of the first, a line each; or the
 -- refusal as `hatt` prints it.
-use Rattle.std.specs.Prelude.{◌≡◌, List, [], ◌∷◌, ◌++◌, map, ℕ, ◌*◌, ◌≤◌}
+use Rattle.best.specs.declared.Least.{Least}
+use Rattle.refusal.specs.declared.Refusal.{Refusal}
+use Rattle.std.specs.Prelude.{◌≡◌, List, [], ◌∷◌, ◌++◌, map, ℕ, ◌*◌, ◌≤◌, Err, Result, Some, Ok}
 use Rattle.refusal.specs.declared.Refusal.TheVariants.{Malformed, Room}
 use Rattle.entities.specs.declared.Triple.{Triple}
 use Rattle.fields.specs.Texts.{spelt}
 use Rattle.fields.specs.Decimal.{decimal}
 use Rattle.terms.specs.Job.{Job}
-use Rattle.obeying.specs.declared.merge_line.Merge.TheVariants.{Is as MergeIs}
 use Rattle.obeying.specs.Obeying.{completed, merge_by_hand}
-use Rattle.best.specs.declared.BestFound.{BestFound}
-use Rattle.best.specs.declared.BestFound.TheVariants.{Found, Unfound}
 use Rattle.best.specs.computed.Lightest.{lightest}
 use Rattle.best.specs.Call.{terms_given, best_found}
 use Rattle.terms_text.specs.Input.{Said, given, malformed, said}
@@ -28,9 +27,9 @@ unfoldable pub found_text : ℕ → ℕ → List Triple → List ℕ
 found_text weight reached first =
     line_of (spelt "least" ∷ (decimal weight ∷ [])) ++ (line_of (spelt "reached" ∷ (decimal reached ∷ [])) ++ merge_lines first)
 
-unfoldable pub found_printed : BestFound → List Triple → List ℕ
-found_printed (Found weight reached) first = found_text weight reached first
-found_printed (Unfound refusal) first = refusal_text refusal
+unfoldable pub found_printed : Result Least Refusal → List Triple → List ℕ
+found_printed (Ok least) first = found_text least.weight least.reached first
+found_printed (Err refusal) first = refusal_text refusal
 
 -- The best of what a text says: 18 before any other number.
 unfoldable pub best_as : ℕ → ℕ → Said → List ℕ
@@ -49,4 +48,4 @@ BestSuffices = (most terms : ℕ) (bytes : List ℕ) → best_text most terms by
 abbrev pub MergesSteer : Type 0
 MergesSteer =
     (job : Job) (history : List Triple) (merge : Triple) → merge.x ≤ 65535 → merge.y ≤ 65535 → merge.z ≤ 65535
-    → merge_by_hand job history (merge_line merge) ≡ MergeIs (completed job history merge)
+    → merge_by_hand job history (merge_line merge) ≡ Some (completed job history merge)

@@ -26,8 +26,7 @@ pub fn put_merges(out: &mut [u8], start: usize, modes: usize, sequence: &[u16]) 
     ensures out_after { out.new ≡ written_at start (merge_lines (history_in sequence.now modes)) out.old }
 {
     let mut at = start;
-    let mut done = 0;
-    while done < modes {
+    for done in 0..modes {
         let from = 3 * done;
         let merge = Triple {
             x: sequence[from],
@@ -35,7 +34,6 @@ pub fn put_merges(out: &mut [u8], start: usize, modes: usize, sequence: &[u16]) 
             z: sequence[from + 2],
         };
         at = put_merge(out, at, merge);
-        done += 1;
     }
     at
 }

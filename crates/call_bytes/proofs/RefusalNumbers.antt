@@ -1,4 +1,5 @@
 -- A refusal's number is 1 to 19, so that with a place below 65536 one number says both; terms are refused at such a place.
+use Rattle.std.specs.Prelude.{Err, Ok, Result}
 use mathlib.Core.Path.{◌≡◌, refl}
 use mathlib.Core.Bool.{Bool, true, false, cond, not}
 use mathlib.Core.List.{List}
@@ -35,8 +36,6 @@ use Rattle.refusal.specs.declared.Refusal.TheVariants.{
 }
 use Rattle.refusal.specs.Numbers.{number_of, place_of}
 use Rattle.terms.specs.Good.{good_rows, checked}
-use Rattle.terms.specs.declared.checking.Checked.{Checked}
-use Rattle.terms.specs.declared.checking.Checked.TheVariants.{Good, Refused as BadTerms}
 
 pub number_small : (refusal : Refusal) → (1 ≤ number_of refusal) × (number_of refusal ≤ 22)
 number_small Modes = omega arith
@@ -76,17 +75,17 @@ unless measure most true off on k h = h refl
 unless measure most false off on k h = k
 
 -- The first bad row, 0 where there is none.
-unfoldable pub bad_place : Checked → ℕ
-bad_place (Good count) = 0
-bad_place (BadTerms refusal) = place_of refusal
+unfoldable pub bad_place : Result ℕ Refusal → ℕ
+bad_place (Ok count) = 0
+bad_place (Err refusal) = place_of refusal
 
 pub bad_row_place : (modes : ℕ) (numbers : List ℕ) → bad_place (checked modes numbers) ≤ 2048
 unfolding checked bad_place
 bad_row_place modes numbers =
     let count = length numbers / 8 in
     let good = good_rows (2 * modes) count numbers in
-    unless bad_place 2048 (eqb (length numbers % 8) 0) (BadTerms TermNumbers) _ (omega arith)
-    (λ f. unless bad_place 2048 (leb count 2048) (BadTerms TooManyTerms) _ (omega arith)
-    (λ few. whichever bad_place 2048 (ltb good count) (BadTerms (BadRow good)) (Good count)
+    unless bad_place 2048 (eqb (length numbers % 8) 0) (Err TermNumbers) _ (omega arith)
+    (λ f. unless bad_place 2048 (leb count 2048) (Err TooManyTerms) _ (omega arith)
+    (λ few. whichever bad_place 2048 (ltb good count) (Err (BadRow good)) (Ok count)
     (λ less. omega (arith, ltb-true good count less, leb-true count 2048 few))
     (omega arith)))

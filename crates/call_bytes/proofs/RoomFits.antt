@@ -37,10 +37,3 @@ room_in numbers own bytes answer need twice some fits double = go (leb (8 * numb
     go false =
         same_test (leb need 0) (leb twice bytes && false) (λ h. absurd (omega (arith, leb-true need 0 h, some)))
         (λ h. absurd (true≢false (sym (both (leb twice bytes) false h).1)))
-
--- Good modes are 1 to the most.
-pub good_modes : (most modes : ℕ) → modes_good most modes ≡ true → (1 ≤ modes) × (modes ≤ most)
-unfolding modes_good
-good_modes most modes e =
-    let parts = both (leb 1 modes) (leb modes most) e in
-    (leb-true 1 modes parts.0, leb-true modes most parts.1)

@@ -1,4 +1,5 @@
 -- The numbers read from the bytes of terms stand for them: they are all of the terms', or as many rows as are refused alike.
+use Rattle.std.specs.Prelude.{Err}
 use mathlib.Core.Path.{◌≡◌, ap, ◌∙◌, sym}
 use mathlib.Core.List.{List, [], ◌∷◌, ◌++◌}
 use Prim.Native.Nat.{ℕ, ◌/◌, ◌%◌, ◌<◌, ◌≤◌}
@@ -10,16 +11,15 @@ use Rattle.lists.specs.Ranges.{listed}
 use Rattle.lists.proofs.Listed.{length_listed}
 use Rattle.refusal.specs.declared.Refusal.TheVariants.{TermNumbers, TooManyTerms}
 use Rattle.terms.specs.Good.{checked}
-use Rattle.terms.specs.declared.checking.Checked.TheVariants.{Refused}
 use Rattle.call_bytes.specs.Bytes.{word_at, words}
 use Rattle.call_bytes.specs.code.Handing.{term_numbers}
 use Rattle.call_bytes.specs.code.Reading.{same, both_refused, TermsRead}
 
-pub not_eights : (modes : ℕ) (l : List ℕ) → length l ≡ 1 → checked modes l ≡ Refused TermNumbers
+pub not_eights : (modes : ℕ) (l : List ℕ) → length l ≡ 1 → checked modes l ≡ Err TermNumbers
 unfolding checked
 not_eights modes l e = rw e
 
-too_many : (modes : ℕ) (l : List ℕ) → length l % 8 ≡ 0 → 2048 < length l / 8 → checked modes l ≡ Refused TooManyTerms
+too_many : (modes : ℕ) (l : List ℕ) → length l % 8 ≡ 0 → 2048 < length l / 8 → checked modes l ≡ Err TooManyTerms
 unfolding checked
 too_many modes l e h = rw (eq-eqb (length l % 8) 0 e, lt-leb (length l / 8) 2048 h)
 

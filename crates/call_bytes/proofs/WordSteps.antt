@@ -1,18 +1,19 @@
 -- One step of reading numbers from bytes, and of writing them as bytes.
 use mathlib.Core.Path.{◌≡◌, refl, ap, ◌∙◌, sym}
 use mathlib.Core.List.{List, [], ◌∷◌, ◌++◌, flat_map, append_assoc}
-use Prim.Native.Nat.{ℕ, ◌+◌, ◌*◌, ◌/◌, ◌%◌, ◌^◌, ◌<◌, ◌≤◌}
-use native.Mathlib.Nat.{zero-add, pow-suc, div-div-eq-div-mul}
+use Prim.Native.Nat.{ℕ, zero, suc, ◌+◌, ◌*◌, ◌/◌, ◌%◌, ◌^◌, ◌<◌}
+use native.Mathlib.Nat.{zero-add}
 use native.Mathlib.Numerals.{add-one}
 use native.Mathlib.Omega.{arith}
 use lib.ListN.{length, get_or, take, set, length-append}
 use lib.Seq.{take-suc, length-take-le}
+use Rattle.std.specs.Int.{w64, to_le_bytes, bytes_low_first, byte_at}
 use Rattle.lists.specs.Ranges.{listed}
 use Rattle.lists.specs.Written.{written_at}
 use Rattle.lists.proofs.Listed.{length_listed, listed_more}
 use Rattle.lists.proofs.Writes.{written_next}
 use Rattle.lists.proofs.Joined.{flatMap_joined}
-use Rattle.lists.proofs.Behind.{set_written, written_one, front_behind}
+use Rattle.lists.proofs.Behind.{front_behind}
 use Rattle.call_bytes.specs.Bytes.{word_at, two_bytes, eight_bytes}
 
 pub word_next : (bytes s : List ℕ) (i : ℕ) → i < length s → take i s ≡ listed (word_at bytes) 0 i
@@ -24,10 +25,6 @@ pub length_two_bytes : (numbers : List ℕ) → length (two_bytes numbers) ≡ 2
 unfolding two_bytes flat_map
 length_two_bytes [] = refl
 length_two_bytes (v ∷ l) = let e = length_two_bytes l in omega arith
-
--- Two bytes stored one behind the other.
-pub two_written : (s : List ℕ) (at a b : ℕ) → at + 2 ≤ length s → set (set s at a) (at + 1) b ≡ written_at at (a ∷ (b ∷ [])) s
-two_written s at a b h = rw (set_written s at a (omega arith)) (written_one at (a ∷ []) s (at + 1) b refl (omega arith))
 
 pub two_next : (numbers s out : List ℕ) (i : ℕ) → i < length numbers → out ≡ written_at 0 (two_bytes (take i numbers)) s
     → written_at (2 * i) (get_or numbers i 0 % 256 ∷ (get_or numbers i 0 / 256 ∷ [])) out
@@ -42,28 +39,23 @@ two_next numbers s out i h e =
     ap two_bytes (ap (λ n. take n numbers) (add-one i) ∙ take-suc numbers i 0 h) ∙ flatMap_joined (λ number. number % 256 ∷ (number / 256 ∷ [])) (take i numbers) (v ∷ []) in
     front_behind before part s out (2 * i) l e ∙ ap (λ p. written_at 0 p s) (sym grown)
 
--- The bytes of a number, before their last.
-abbrev pub bytes_before : ℕ → ℕ → List ℕ
-bytes_before number count = listed (λ place. number / 256 ^ place % 256) 0 count
+-- A number's bytes as std gives them.
+bytes_are : (from count number : ℕ) → bytes_low_first from count number ≡ listed (λ place. number / 256 ^ place % 256) from count
+unfolding listed
+bytes_are from zero number = refl
+bytes_are from (suc count) number = rw (bytes_are (suc from) count number) (ap (λ byte. byte ∷ listed (λ place. number / 256 ^ place % 256) (suc from) count) (byte_is from))
+  where
+    byte_is : (place : ℕ) → byte_at place number ≡ number / 256 ^ place % 256
+    byte_is zero = omega arith
+    byte_is (suc place) = refl
+
+pub eight_is : (number : ℕ) → to_le_bytes w64 number ≡ eight_bytes number
+unfolding eight_bytes
+eight_is number = bytes_are 0 8 number
 
 pub length_eight : (number : ℕ) → length (eight_bytes number) ≡ 8
 unfolding eight_bytes
 length_eight number = length_listed (λ place. number / 256 ^ place % 256) 0 8
-
-pub eight_next : (number left at place : ℕ) (s : List ℕ) → at + (place + 1) ≤ length s → left ≡ number / 256 ^ place
-    → set (written_at at (bytes_before number place) s) (at + place) (left % 256) ≡ written_at at (bytes_before number (place + 1)) s
-eight_next number left at place s h e =
-    let rule : ℕ → ℕ = λ place. number / 256 ^ place % 256 in
-    let before = bytes_before number place in
-    let byte : left % 256 ≡ rule (0 + place) = ap (λ n. n % 256) e ∙ ap rule (sym (zero-add place)) in
-    ap (λ v. set (written_at at before s) (at + place) v) byte
-    ∙ written_one at before s (at + place) (rule (0 + place)) (ap (λ n. at + n) (sym (length_listed rule 0 place))) (omega arith)
-    ∙ ap (λ p. written_at at p s) (sym (listed_more rule 0 place))
-
-pub left_next : (number left place : ℕ) → left ≡ number / 256 ^ place → left / 256 ≡ number / 256 ^ (place + 1)
-left_next number left place e =
-    ap (λ n. n / 256) e ∙ div-div-eq-div-mul number (256 ^ place) 256
-    ∙ ap (λ n. number / n) (sym (pow-suc 256 place) ∙ ap (λ n. 256 ^ n) (sym (add-one place)))
 
 -- Four numbers of eight bytes, one behind the other.
 pub four_written : (a b c d : ℕ) (s one two three : List ℕ) → one ≡ written_at 0 (eight_bytes a) s → two ≡ written_at 8 (eight_bytes b) one

@@ -8,7 +8,7 @@ ghost use Rattle.call_bytes.specs.Bytes.{word_at, two_bytes, eight_bytes};
 fn word(low: u8, high: u8) -> u16
     ensures { result ≡ low + 256 * high }
 {
-    low as u16 + 256 * (high as u16)
+    u16::from_le_bytes([low, high])
 }
 
 // The numbers that the bytes say, as many as there is room for.
@@ -16,10 +16,8 @@ pub fn read_words(bytes: &[u8], numbers: &mut [u16])
     requires { 2 * length numbers.old ≤ length bytes.now }
     ensures { numbers.new ≡ listed (word_at bytes.now) 0 (length numbers.old) }
 {
-    let mut at = 0;
-    while at < numbers.len() {
-        numbers[at] = word(bytes[2 * at], bytes[2 * at + 1]);
-        at += 1;
+    for (at, number) in numbers.iter_mut().enumerate() {
+        *number = word(bytes[2 * at], bytes[2 * at + 1]);
     }
 }
 
@@ -28,8 +26,7 @@ fn put_word(number: u16, out: &mut [u8], at: usize)
     requires { at + 2 ≤ length out.old }
     ensures { out.new ≡ written_at at (number % 256 ∷ (number / 256 ∷ [])) out.old }
 {
-    out[at] = (number % 256) as u8;
-    out[at + 1] = (number / 256) as u8;
+    out[at..at + 2].copy_from_slice(&number.to_le_bytes());
 }
 
 // The bytes of numbers, at the front.
@@ -37,10 +34,8 @@ pub fn put_words(numbers: &[u16], out: &mut [u8])
     requires { 2 * length numbers.now ≤ length out.old }
     ensures { out.new ≡ written_at 0 (two_bytes numbers.now) out.old }
 {
-    let mut at = 0;
-    while at < numbers.len() {
-        put_word(numbers[at], out, 2 * at);
-        at += 1;
+    for (at, number) in numbers.iter().enumerate() {
+        put_word(*number, out, 2 * at);
     }
 }
 
@@ -49,11 +44,5 @@ pub fn put_eight(number: u64, out: &mut [u8], at: usize)
     requires { at + 8 ≤ length out.old }
     ensures { out.new ≡ written_at at (eight_bytes number) out.old }
 {
-    let mut left = number;
-    let mut place = 0;
-    while place < 8 {
-        out[at + place] = (left % 256) as u8;
-        left = left / 256;
-        place += 1;
-    }
+    out[at..at + 8].copy_from_slice(&number.to_le_bytes());
 }

@@ -18,7 +18,6 @@ ghost use Rattle.choice.specs.code.Seeking.{packed as packed_number, standing, w
 
 use entities::Triple;
 use slots::nodes;
-use tallying::tally::Tally;
 use tallying::{pairs, tally};
 use terms::{row, weight};
 
@@ -34,14 +33,7 @@ pub struct Selection {
 fn is_assigned(assigned: &[u16], mode: u16) -> bool
     ensures { result ≡ some_of (eqb mode) assigned.now }
 {
-    let mut at = 0;
-    while at < assigned.len() {
-        if mode == assigned[at] {
-            return true;
-        }
-        at += 1;
-    }
-    false
+    assigned.contains(&mode)
 }
 
 // No mode is unassigned.
@@ -49,14 +41,7 @@ pub fn all_assigned(modes: usize, assigned: &[u16]) -> bool
     requires { modes ≤ most_modes }
     ensures { result ≡ eqb (length (unassigned modes assigned.now)) 0 }
 {
-    let mut mode = 0;
-    while mode < modes {
-        if !is_assigned(assigned, mode as u16) {
-            return false;
-        }
-        mode += 1;
-    }
-    true
+    (0..modes).all(|mode| is_assigned(assigned, mode as u16))
 }
 
 // The modes that no pair has yet, ascending; how many there are.
@@ -65,27 +50,18 @@ pub fn fill_unassigned(modes: usize, assigned: &[u16], free: &mut [u16]) -> usiz
     ensures { (result ≤ modes) × (take result free.new ≡ unassigned modes assigned.now) }
 {
     let mut count = 0;
-    let mut mode = 0;
-    while mode < modes {
+    for mode in 0..modes {
         let taken = is_assigned(assigned, mode as u16);
         count = nodes::put_if(free, count, mode as u16, !taken);
-        mode += 1;
     }
     count
-}
-
-// A number as one of 64 bits.
-fn long(number: u16) -> u64
-    ensures { (result ≡ number) × (result < 65536) }
-{
-    number as u64
 }
 
 // z, y and x as one number.
 fn packed(triple: Triple) -> u64
     ensures { (result ≡ packed_number triple) × (result < 281474976710656) }
 {
-    (long(triple.z) * 65536 + long(triple.y)) * 65536 + long(triple.x)
+    (u64::from(triple.z) * 65536 + u64::from(triple.y)) * 65536 + u64::from(triple.x)
 }
 
 // The better of two: the lighter, on equal weight the one with the larger z, y, x, and of equals the first.
@@ -142,8 +118,8 @@ fn best_of_mode<'a>(
         y: slots.y,
         z: slots::leaf_of(modes, slots.z, mode),
     };
-    let at = entities::wide(triple.z);
-    let weight = all + entities::wide(odds[at]) - entities::wide(less[at]);
+    let at = usize::from(triple.z);
+    let weight = all + usize::from(odds[at]) - usize::from(less[at]);
     better_of(node, triple, weight, best)
 }
 
@@ -165,10 +141,8 @@ fn best_of_modes<'a>(
     ensures { (rows : List (List ℕ)) → Looked (2 * most_modes) (λ triple. weight_of triple rows) slots.x slots.y all odds.now less.now → result ≡ sought rows node start (with_z slots.x slots.y (map (number_leaf modes slots.z) (without pair free.now))) }
 {
     let mut best = start;
-    let mut at = 0;
-    while at < free.len() {
-        best = best_of_mode(odds, less, all, modes, node, slots, pair, free[at], best);
-        at += 1;
+    for mode in free {
+        best = best_of_mode(odds, less, all, modes, node, slots, pair, *mode, best);
     }
     best
 }
@@ -178,10 +152,7 @@ fn limit_past(weight: usize, count: usize) -> usize
     requires { count ≤ most_terms }
     ensures { (heavy : ℕ) → result ≤ heavy → heavy ≤ count → weight < heavy }
 {
-    if count < weight {
-        return count + 1;
-    }
-    weight + 1
+    weight.min(count) + 1
 }
 
 // The best so far against x and y with each number that the Z slot may stand as; where these are many, the rows are read once for all of them.
@@ -211,11 +182,12 @@ fn best_of_pair<'a>(
     }
     let limit = limit_past(start.min_weight, count);
     let mut less = [0u16; 512];
-    let Tally::All(all, _) = tally::tally_couple(rows, count, slots.x, slots.y, limit, &mut less)
-    else {
+    let Some(tally) = tally::tally_couple(rows, count, slots.x, slots.y, limit, &mut less) else {
         return start;
     };
-    best_of_modes(odds, &less, all, free, modes, node, slots, pair, start)
+    best_of_modes(
+        odds, &less, tally.all, free, modes, node, slots, pair, start,
+    )
 }
 
 // The best so far against the choices in which the X and Y leaves take this mode.
@@ -262,10 +234,8 @@ fn best_of_pairs<'a>(
     ensures { result ≡ sought (terms_of row_width count rows.now) node start (flat_map (λ mode. with_z (number_leaf modes slots.x mode) (number_leaf modes slots.y mode) (numbered modes slots.z (without mode free.now))) free.now) }
 {
     let mut best = start;
-    let mut at = 0;
-    while at < free.len() {
-        best = best_of_leaves(rows, count, odds, free, modes, node, slots, free[at], best);
-        at += 1;
+    for mode in free {
+        best = best_of_leaves(rows, count, odds, free, modes, node, slots, *mode, best);
     }
     best
 }
@@ -287,7 +257,7 @@ fn best_of_couple(
         y: slots::leaf_of(modes, slots.y, mode),
         z: slots.z,
     };
-    let weight = entities::wide(weights[entities::wide(mode)]);
+    let weight = usize::from(weights[usize::from(mode)]);
     better_of(node, triple, weight, best)
 }
 
@@ -305,10 +275,8 @@ fn best_of_couples<'a>(
     ensures { (rows : List (List ℕ)) → PairsWeighed modes rows slots.z weights.now → result ≡ sought rows node start (flat_map (λ mode. with_z (number_leaf modes slots.x mode) (number_leaf modes slots.y mode) (slots.z ∷ [])) free.now) }
 {
     let mut best = start;
-    let mut at = 0;
-    while at < free.len() {
-        best = best_of_couple(weights, modes, node, slots, free[at], best);
-        at += 1;
+    for mode in free {
+        best = best_of_couple(weights, modes, node, slots, *mode, best);
     }
     best
 }
@@ -388,10 +356,7 @@ fn best_of_slots<'a>(
 {
     // a mode that no leaf takes, so that Z may take any
     let none = modes as u16;
-    if !slots::unfixed(modes, slots.x) {
-        return best_of_pair(rows, count, odds, free, modes, node, slots, none, best);
-    }
-    if !slots::unfixed(modes, slots.y) {
+    if !slots::unfixed(modes, slots.x) || !slots::unfixed(modes, slots.y) {
         return best_of_pair(rows, count, odds, free, modes, node, slots, none, best);
     }
     best_of_unfixed(rows, count, odds, free, modes, node, slots, best)
@@ -414,7 +379,7 @@ fn best_at<'a>(
     requires free_value { free.now ≡ unassigned modes assigned.now }
     ensures { result ≡ sought_over modes tree.now assigned.now (terms_of row_width count rows.now) best (node ∷ []) }
 {
-    let at = slots::slots(modes, tree, assigned, entities::wide(node));
+    let at = slots::slots(modes, tree, assigned, usize::from(node));
     best_of_slots(rows, count, odds, free, modes, node, at, best)
 }
 
@@ -440,12 +405,8 @@ fn best_of_nodes<'a>(
         min_parent: 0,
         leaf_indices: Triple { x: 0, y: 0, z: 0 },
     };
-    let mut at = 0;
-    while at < active.len() {
-        best = best_at(
-            rows, count, odds, tree, assigned, free, modes, active[at], best,
-        );
-        at += 1;
+    for node in active {
+        best = best_at(rows, count, odds, tree, assigned, free, modes, *node, best);
     }
     best
 }

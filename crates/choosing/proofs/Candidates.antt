@@ -1,4 +1,5 @@
 -- The candidates one after the other: those of each a in turn, and of an a those with each z.
+use Rattle.std.specs.Prelude.{None, Some}
 use mathlib.Core.Path.{◌≡◌, refl, ap, ◌∙◌, fun_ext}
 use mathlib.Core.Bool.{Bool, true, false, cond, ◌&&◌}
 use mathlib.Core.List.{List, [], ◌∷◌, ◌++◌, map, flat_map}
@@ -14,7 +15,6 @@ use Rattle.entities.specs.declared.Triple.{Triple}
 use Rattle.history.specs.History.{next_parent}
 use Rattle.history.specs.computed.Pairs.{named, is_lawful, entities, pairs_with, lawful_pairs}
 use Rattle.history.specs.computed.Choosing.{candidates}
-use Rattle.choosing.specs.declared.lawful.Couple.TheVariants.{Of, Nothing}
 use Rattle.choosing.specs.code.Couples.{x_of, y_of, coupled, couple, free, beside, beside_couple}
 use Rattle.choosing.proofs.Couples.{named_parts, lawful_parts}
 
@@ -50,7 +50,7 @@ module _ (modes : ℕ) (history : List Triple) where
     where
       go : (b : Bool)
           → keep (λ triple. b && free modes history triple) (listed (three a) 0 (next_parent modes history))
-          ≡ beside_couple modes history (next_parent modes history) (cond b (Of (x_of modes history a) (y_of modes history a)) Nothing)
+          ≡ beside_couple modes history (next_parent modes history) (cond b (Some (record { x = x_of modes history a; y = y_of modes history a })) None)
       go true = refl
       go false = keep_none (λ triple. false) (λ triple. refl) (listed (three a) 0 (next_parent modes history))
 

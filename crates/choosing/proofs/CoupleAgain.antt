@@ -1,4 +1,7 @@
 -- A couple that an entity names is named by both of its entities, where the entity holds its own z-end.
+use Rattle.choosing.specs.declared.lawful.Couple.{Couple}
+use Rattle.std.proofs.lemmas.Option.{same_Some}
+use Rattle.std.specs.Prelude.{None, Some, Option}
 use mathlib.Core.Path.{◌≡◌, refl, ap, sym, ◌∙◌}
 use mathlib.Core.Bool.{Bool, true, false, cond, not}
 use mathlib.Core.List.{List}
@@ -11,7 +14,6 @@ use Rattle.lists.proofs.Tests.{both, same_or_not}
 use Rattle.entities.specs.declared.Triple.{Triple}
 use Rattle.history.specs.History.{is_open, z_end}
 use Rattle.history.specs.computed.Pairs.{holder}
-use Rattle.choosing.specs.declared.lawful.Couple.TheVariants.{Of, Nothing}
 use Rattle.choosing.specs.code.Couples.{x_of, y_of, ends_pair, coupled, couple}
 use Rattle.choosing.proofs.Couples.{named_even, named_odd}
 
@@ -21,19 +23,19 @@ record Named (modes : ℕ) (history : List Triple) (a x y : ℕ) : Type 0 where
   pub is_y : y_of modes history a ≡ y
 
 module _ (modes : ℕ) (history : List Triple) where
-  couple_named : (a x y : ℕ) → couple modes history a ≡ Of x y → Named modes history a x y
+  couple_named : (a x y : ℕ) → couple modes history a ≡ Some (record { x = x; y = y }) → Named modes history a x y
   unfolding couple
   couple_named a x y e = go (coupled modes history (x_of modes history a) (y_of modes history a)) refl e
     where
       go : (test : Bool) → coupled modes history (x_of modes history a) (y_of modes history a) ≡ test
-          → cond test (Of (x_of modes history a) (y_of modes history a)) Nothing ≡ Of x y → Named modes history a x y
+          → cond {A = Option Couple} test (Some (record { x = x_of modes history a; y = y_of modes history a })) None ≡ Some (record { x = x; y = y }) → Named modes history a x y
       go true t e =
-          let ex : x_of modes history a ≡ x = cc in
-          let ey : y_of modes history a ≡ y = cc in
+          let ex = ap (λ (named : Couple). named.x) (same_Some _ _ e) in
+          let ey = ap (λ (named : Couple). named.y) (same_Some _ _ e) in
           record { are_coupled = rw (← ex, ← ey) t; is_x = ex; is_y = ey }
       go false t e = let z : ◌≡◌ {A = ℕ} 0 1 = cc in absurd (omega arith)
 
-  named_couple : (a x y : ℕ) → Named modes history a x y → couple modes history a ≡ Of x y
+  named_couple : (a x y : ℕ) → Named modes history a x y → couple modes history a ≡ Some (record { x = x; y = y })
   unfolding couple
   named_couple a x y named = rw (named.is_x, named.is_y, named.are_coupled)
 
@@ -56,13 +58,13 @@ module _ (modes : ℕ) (history : List Triple) where
 
     -- Where both hold their own z-ends, either names the couple.
     module _ (x_holds : holder modes history (z_end modes history x) ≡ x) (y_holds : holder modes history (z_end modes history y) ≡ y) where
-      x_names : couple modes history x ≡ Of x y
+      x_names : couple modes history x ≡ Some (record { x = x; y = y })
       x_names =
           let names = named_even modes history x (z_end modes history x) refl x_even in
           named_couple x x y
           (record { are_coupled = pair; is_x = sym names.0; is_y = sym names.1 ∙ ap (holder modes history) (sym y_next) ∙ y_holds })
 
-      y_names : couple modes history y ≡ Of x y
+      y_names : couple modes history y ≡ Some (record { x = x; y = y })
       y_names =
           let odd : z_end modes history y % 2 ≡ 0 → ⊥ = λ e. omega (arith, x_even, y_next) in
           let before : z_end modes history y - 1 ≡ z_end modes history x = omega (arith, y_next) in
@@ -70,11 +72,11 @@ module _ (modes : ℕ) (history : List Triple) where
           named_couple y x y
           (record { are_coupled = pair; is_x = sym names.0 ∙ ap (holder modes history) before ∙ x_holds; is_y = sym names.1 })
 
-      both_name : (couple modes history x ≡ Of x y) × (couple modes history y ≡ Of x y)
+      both_name : (couple modes history x ≡ Some (record { x = x; y = y })) × (couple modes history y ≡ Some (record { x = x; y = y }))
       both_name = (x_names, y_names)
 
-  pub couple_again : (a x y : ℕ) → couple modes history a ≡ Of x y → holder modes history (z_end modes history a) ≡ a
-      → (couple modes history x ≡ Of x y) × (couple modes history y ≡ Of x y)
+  pub couple_again : (a x y : ℕ) → couple modes history a ≡ Some (record { x = x; y = y }) → holder modes history (z_end modes history a) ≡ a
+      → (couple modes history x ≡ Some (record { x = x; y = y })) × (couple modes history y ≡ Some (record { x = x; y = y }))
   couple_again a x y e holds =
       let named = couple_named a x y e in
       let pair = named.are_coupled in

@@ -4,13 +4,14 @@ ghost use Rattle.entities.specs.declared.Triple.{Triple as Three};
 ghost use Rattle.entities.specs.Limits.{most_modes, most_terms, row_width, entity_room};
 ghost use Rattle.terms.specs.code.Held.{Held};
 ghost use Rattle.terms.specs.Rows.{terms_of};
-ghost use Rattle.tallying.specs.code.Tallies.{OddsAre, Looked};
+ghost use Rattle.tallying.specs.code.Tallies.{OddsAre};
 ghost use Rattle.history.specs.History.{next_parent};
 ghost use Rattle.history.specs.computed.Choosing.{candidates};
 ghost use Rattle.choosing.specs.code.Couples.{
   OpensAre,
   Tied,
   SettledBelow,
+  Weighs,
   free,
   beside,
   beside_couple,
@@ -20,11 +21,10 @@ ghost use Rattle.choosing.specs.code.Couples.{
   nothing,
 };
 
-use crate::lawful;
+use crate::entity_tables::Tables;
 use crate::lawful::Couple;
 use entities::Triple;
 use tallying::tally;
-use tallying::tally::Tally;
 
 // The lightest triple so far and its weight.
 #[derive(Clone, Copy)]
@@ -33,106 +33,102 @@ pub struct Best {
     pub triple: Triple,
 }
 
+// What was counted for a couple: in how many rows each entity is odd, what the couple weighs less with each, and what it weighs with one that is odd in no row.
+#[derive(Clone, Copy)]
+struct Counted<'a> {
+    odds: &'a [u16; 769],
+    less: &'a [u16; 769],
+    all: usize,
+}
+
 // The lighter of the best so far and a triple; on a tie the best so far.
+#[tactic(auto, unfolding(crate::specs::code::Couples::seek, crate::specs::code::Couples::weighed, lists::specs::Least::least, lists::specs::Least::lighter))]
 fn lighter(best: Best, triple: Triple, weight: usize) -> Best
     ensures { (measure : Three → ℕ) → measure triple ≡ weight → result ≡ seek measure best (triple ∷ []) }
 {
     if weight < best.weight {
-        return Best {
-            weight: weight,
-            triple: triple,
-        };
+        Best { weight, triple }
+    } else {
+        best
     }
-    best
 }
 
 // The best so far against the triple of x, y and this z, where z is free beside them.
-fn best_beside<'a>(
-    opens: &'a [bool; 769],
-    odds: &'a [u16; 769],
-    less: &'a [u16; 769],
-    all: usize,
-    triple: Triple,
-    best: Best,
-) -> Best
-    requires all_le_most_terms { all ≤ most_terms }
-    requires by_index { (measure : Three → ℕ) × Looked entity_room measure triple.x triple.y all odds.now less.now }
-    ensures { (measure : Three → ℕ) → Looked entity_room measure triple.x triple.y all odds.now less.now → (modes : ℕ) (history : List Three) → next_parent modes history ≤ entity_room → OpensAre entity_room modes history opens.now → result ≡ seek measure best (cond (free modes history triple) (triple ∷ []) []) }
+#[tactic(auto, unfolding(crate::specs::code::Couples::free, crate::specs::code::Couples::seek, lists::specs::Least::least))]
+fn best_beside(tables: &Tables, counted: Counted<'_>, triple: Triple, best: Best) -> Best
+    requires all_le_most_terms { counted.all ≤ most_terms }
+    requires by_index { (measure : Three → ℕ) × Weighs measure triple.x triple.y counted }
+    ensures { (measure : Three → ℕ) → Weighs measure triple.x triple.y counted.entry → (modes : ℕ) (history : List Three) → next_parent modes history ≤ entity_room → OpensAre entity_room modes history tables.now.opens → result ≡ seek measure best (cond (free modes history triple) (triple ∷ []) []) }
 {
-    if triple.x == triple.z {
+    if triple.x == triple.z || triple.y == triple.z || !tables.marked(triple.z) {
         return best;
     }
-    if triple.y == triple.z {
-        return best;
-    }
-    if !lawful::marked(opens, triple.z) {
-        return best;
-    }
-    let at = entities::wide(triple.z);
-    let weight = all + entities::wide(odds[at]) - entities::wide(less[at]);
+    let at = usize::from(triple.z);
+    let weight = counted.all + usize::from(counted.odds[at]) - usize::from(counted.less[at]);
     lighter(best, triple, weight)
 }
 
 // The best so far against the triples of x and y with every z in turn, whose weights are looked up; none is below the bound, so one that reaches it ends the search.
-fn best_of_rest<'a>(
-    opens: &'a [bool; 769],
-    odds: &'a [u16; 769],
-    less: &'a [u16; 769],
-    all: usize,
+fn best_of_rest(
+    tables: &Tables,
+    counted: Counted<'_>,
     bound: usize,
     next: u16,
-    x: u16,
-    y: u16,
+    named: Couple,
     start: Best,
 ) -> Best
-    requires all_le_most_terms { all ≤ most_terms }
-    requires by_index { (measure : Three → ℕ) × Looked entity_room measure x y all odds.now less.now }
-    ensures { (measure : Three → ℕ) → Looked entity_room measure x y all odds.now less.now → ((z : ℕ) → bound ≤ measure (record { x = x; y = y; z = z })) → (modes : ℕ) (history : List Three) → next_parent modes history ≤ entity_room → OpensAre entity_room modes history opens.now → result ≡ seek measure start (beside modes history x y 0 next) }
+    requires all_le_most_terms { counted.all ≤ most_terms }
+    requires by_index { (measure : Three → ℕ) × Weighs measure named.x named.y counted }
+    ensures { (measure : Three → ℕ) → Weighs measure named.x named.y counted.entry → ((z : ℕ) → bound ≤ measure (record { x = named.x; y = named.y; z = z })) → (modes : ℕ) (history : List Three) → next_parent modes history ≤ entity_room → OpensAre entity_room modes history tables.now.opens → result ≡ seek measure start (beside modes history named.x named.y 0 next) }
 {
     let mut best = start;
-    let mut z: u16 = 0;
-    while z < next {
+    for z in 0..next {
         if best.weight <= bound {
             return best;
         }
-        let triple = Triple { x: x, y: y, z: z };
-        best = best_beside(opens, odds, less, all, triple, best);
-        z += 1;
+        let triple = Triple {
+            x: named.x,
+            y: named.y,
+            z,
+        };
+        best = best_beside(tables, counted, triple, best);
     }
     best
 }
 
 // The best so far against the triples of x and y with every z; the rows are read once, and no further than the best goes.
-fn best_of_couple<'a>(
-    opens: &'a [bool; 769],
-    odds: &'a [u16; 769],
-    rows: &'a [u16],
+fn best_of_couple(
+    tables: &Tables,
+    odds: &[u16; 769],
+    rows: &[u16],
     count: usize,
     next: u16,
-    x: u16,
-    y: u16,
+    named: Couple,
     best: Best,
 ) -> Best
     requires held { Held row_width count rows.now }
     requires count_le_most_terms { count ≤ most_terms }
     requires odds_are { OddsAre entity_room (terms_of row_width count rows.now) odds.now }
-    ensures { (modes : ℕ) (history : List Three) → next_parent modes history ≤ entity_room → OpensAre entity_room modes history opens.now → result ≡ seek (weight_here count rows.now) best (beside modes history x y 0 next) }
+    ensures { (modes : ℕ) (history : List Three) → next_parent modes history ≤ entity_room → OpensAre entity_room modes history tables.now.opens → result ≡ seek (weight_here count rows.now) best (beside modes history named.x named.y 0 next) }
 {
     let mut less = [0u16; 769];
-    let Tally::All(all, bound) = tally::tally_couple(rows, count, x, y, best.weight, &mut less)
+    let Some(tally) = tally::tally_couple(rows, count, named.x, named.y, best.weight, &mut less)
     else {
         return best;
     };
-    best_of_rest(opens, odds, &less, all, bound, next, x, y, best)
+    let counted = Counted {
+        odds,
+        less: &less,
+        all: tally.all,
+    };
+    best_of_rest(tables, counted, tally.apart, next, named, best)
 }
 
 // The best so far against the triples that this entity names, unless a lower one named them.
-fn best_with<'a>(
-    opens: &'a [bool; 769],
-    ends: &'a [u16; 769],
-    holders: &'a [u16; 769],
-    odds: &'a [u16; 769],
-    rows: &'a [u16],
+fn best_with(
+    tables: &Tables,
+    odds: &[u16; 769],
+    rows: &[u16],
     modes: usize,
     count: usize,
     next: u16,
@@ -140,17 +136,17 @@ fn best_with<'a>(
     best: Best,
 ) -> Best
     requires held { Held row_width count rows.now }
-    requires count_le_most_terms { (count ≤ most_terms) × (modes ≤ most_modes) × (a < entity_room) × (get_or ends.now a 0 < 3 * most_modes) }
+    requires count_le_most_terms { (count ≤ most_terms) × (modes ≤ most_modes) × (a < entity_room) × (get_or tables.now.ends a 0 < 3 * most_modes) }
     requires odds_are { OddsAre entity_room (terms_of row_width count rows.now) odds.now }
-    ensures { (history : List Three) → Tied entity_room modes history opens.now ends.now holders.now → SettledBelow (weight_here count rows.now) modes history next best a → result ≡ seek (weight_here count rows.now) best (beside_couple modes history next (couple modes history a)) }
+    ensures { (history : List Three) → Tied entity_room modes history tables.now → SettledBelow (weight_here count rows.now) modes history next best a → result ≡ seek (weight_here count rows.now) best (beside_couple modes history next (couple modes history a)) }
 {
-    let Couple::Of(x, y) = lawful::couple_of(opens, ends, holders, modes, a) else {
+    let Some(named) = tables.couple_of(modes, a) else {
         return best;
     };
-    if lawful::named_before(ends, holders, a, x, y) {
+    if tables.named_before(a, named) {
         return best;
     }
-    best_of_couple(opens, odds, rows, count, next, x, y, best)
+    best_of_couple(tables, odds, rows, count, next, named, best)
 }
 
 // Before any triple: none is heavier than the number of rows.
@@ -165,52 +161,38 @@ fn none_yet(count: usize) -> Best
 }
 
 // The least of all lawful triples, each named in ascending a, then z; none is lighter than 0.
-fn least_of_all<'a>(
-    opens: &'a [bool; 769],
-    ends: &'a [u16; 769],
-    holders: &'a [u16; 769],
-    odds: &'a [u16; 769],
-    rows: &'a [u16],
+fn least_of_all(
+    tables: &Tables,
+    odds: &[u16; 769],
+    rows: &[u16],
     modes: usize,
     count: usize,
     next: u16,
 ) -> Best
     requires held { Held row_width count rows.now }
     requires count_le_most_terms { (count ≤ most_terms) × (modes ≤ most_modes) × (next ≤ entity_room) }
-    requires by_index { (entity : ℕ) → entity < next → get_or ends.now entity 0 < 3 * most_modes }
+    requires by_index { (entity : ℕ) → entity < next → get_or tables.now.ends entity 0 < 3 * most_modes }
     requires odds_are { OddsAre entity_room (terms_of row_width count rows.now) odds.now }
-    ensures { (history : List Three) → Tied entity_room modes history opens.now ends.now holders.now → next ≡ next_parent modes history → result ≡ seek (weight_here count rows.now) (nothing count) (candidates modes history) }
+    ensures { (history : List Three) → Tied entity_room modes history tables.now → next ≡ next_parent modes history → result ≡ seek (weight_here count rows.now) (nothing count) (candidates modes history) }
 {
     let mut best = none_yet(count);
-    let mut a: u16 = 0;
-    while a < next {
+    for a in 0..next {
         if best.weight == 0 {
             return best;
         }
-        best = best_with(
-            opens, ends, holders, odds, rows, modes, count, next, a, best,
-        );
-        a += 1;
+        best = best_with(tables, odds, rows, modes, count, next, a, best);
     }
     best
 }
 
 // The same; in how many rows each entity is odd is counted once for all of them.
-pub fn choose<'a>(
-    opens: &'a [bool; 769],
-    ends: &'a [u16; 769],
-    holders: &'a [u16; 769],
-    rows: &'a [u16],
-    modes: usize,
-    count: usize,
-    next: u16,
-) -> Best
+pub fn choose(tables: &Tables, rows: &[u16], modes: usize, count: usize, next: u16) -> Best
     requires held { Held row_width count rows.now }
     requires count_le_most_terms { (count ≤ most_terms) × (modes ≤ most_modes) × (next ≤ entity_room) }
-    requires by_index { (entity : ℕ) → entity < next → get_or ends.now entity 0 < 3 * most_modes }
-    ensures { (history : List Three) → Tied entity_room modes history opens.now ends.now holders.now → next ≡ next_parent modes history → result ≡ seek (weight_here count rows.now) (nothing count) (candidates modes history) }
+    requires by_index { (entity : ℕ) → entity < next → get_or tables.now.ends entity 0 < 3 * most_modes }
+    ensures { (history : List Three) → Tied entity_room modes history tables.now → next ≡ next_parent modes history → result ≡ seek (weight_here count rows.now) (nothing count) (candidates modes history) }
 {
     let mut odds = [0u16; 769];
     tallying::odds::count_odds(rows, count, &mut odds);
-    least_of_all(opens, ends, holders, &odds, rows, modes, count, next)
+    least_of_all(tables, &odds, rows, modes, count, next)
 }

@@ -2,4 +2,5 @@
 #![tactic(auto)]
 
 pub mod choice;
+pub mod entity_tables;
 pub mod lawful;

@@ -1,4 +1,5 @@
 -- A call from C answers what resuming comes to: nothing is written where it refuses, and all that is known where it is done.
+use Rattle.std.specs.Prelude.{Err, Ok, Result}
 use mathlib.Core.Path.{◌≡◌, refl, ap, ◌∙◌, sym}
 use mathlib.Core.List.{List, ◌++◌}
 use Prim.Native.Nat.{ℕ, ◌+◌, ◌*◌}
@@ -10,8 +11,6 @@ use Rattle.lists.proofs.Written.{part_written}
 use Rattle.refusal.specs.declared.Refusal.{Refusal}
 use Rattle.refusal.specs.Numbers.{number_of, place_of}
 use Rattle.journal.specs.declared.resuming.Numbers.{Numbers}
-use Rattle.journal.specs.declared.resuming.Answer.{Answer}
-use Rattle.journal.specs.declared.resuming.Answer.TheVariants.{Done, Refused}
 use Rattle.journal.specs.Resuming.{Ending, Outcome, done, refuses, Rooms, resumed}
 use Rattle.journal.specs.Promises.{lent as run_lent, rooms_of, returned, lent_then as run_lent_then, Answers}
 use Rattle.journal.proofs.RowsFit.{RowsFit, rows_fit}
@@ -25,7 +24,7 @@ use Rattle.daemon.specs.Promises.{Called, result_of, answer_bytes, lent_then}
 use Rattle.daemon.proofs.ResumedAlike.{resumed_same}
 
 -- What the answer says of the meaning.
-refused_meant : (meant : Outcome) (why : Refusal) (r : Answer) → r ≡ returned meant → r ≡ Refused why → meant ≡ refuses why
+refused_meant : (meant : Outcome) (why : Refusal) (r : Result Numbers Refusal) → r ≡ returned meant → r ≡ Err why → meant ≡ refuses why
 unfolding returned
 refused_meant (done part) why r e f = let z : ◌≡◌ {A = ℕ} 0 1 = cc in absurd (omega arith)
 refused_meant (refuses refusal) why r e f = cc
@@ -39,13 +38,13 @@ pub record Finished (meant : Outcome) (numbers : Numbers) : Type 0 where
   pub kept : numbers.kept ≡ part.kept
   pub new : numbers.new ≡ length part.new
 
-done_meant : (meant : Outcome) (numbers : Numbers) (r : Answer) → r ≡ returned meant → r ≡ Done numbers → Finished meant numbers
+done_meant : (meant : Outcome) (numbers : Numbers) (r : Result Numbers Refusal) → r ≡ returned meant → r ≡ Ok numbers → Finished meant numbers
 unfolding returned
 done_meant (done part) numbers r e f = record { part = part; is = refl; weight = cc; trials = cc; kept = cc; new = cc }
 done_meant (refuses refusal) numbers r e f = let z : ◌≡◌ {A = ℕ} 0 1 = cc in absurd (omega arith)
 
 -- What is known once resuming has answered, in work, rows and drops of the call's own.
-module _ (modes : ℕ) (terms read work own drops rows journal answer now_work now_own now_journal now_drops : List ℕ) (r : Answer)
+module _ (modes : ℕ) (terms read work own drops rows journal answer now_work now_own now_journal now_drops : List ℕ) (r : Result Numbers Refusal)
     (answers : Answers (λ given. resumed (rooms_of 256 given) modes 0 terms read) (run_lent work own journal drops) (run_lent now_work now_own now_journal now_drops) r) where
   abbrev rooms : Rooms
   rooms = rooms_of 256 (run_lent work own journal drops)
@@ -53,10 +52,10 @@ module _ (modes : ℕ) (terms read work own drops rows journal answer now_work n
   abbrev meant : Lent → Outcome
   meant given = resumed (rooms_of 256 (run_lent work own given.journal drops)) modes 0 terms read
 
-  pub why_refused : (why : Refusal) → r ≡ Refused why → resumed rooms modes 0 terms read ≡ refuses why
+  pub why_refused : (why : Refusal) → r ≡ Err why → resumed rooms modes 0 terms read ≡ refuses why
   why_refused why e = refused_meant (resumed rooms modes 0 terms read) why r answers.answer e
 
-  pub called_refused : (why : Refusal) (result : ℕ) → r ≡ Refused why → result ≡ number_of why * 65536 + place_of why
+  pub called_refused : (why : Refusal) (result : ℕ) → r ≡ Err why → result ≡ number_of why * 65536 + place_of why
       → Called meant (lent rows journal answer) (lent rows now_journal answer) result
   unfolding result_of run_lent_then lent_then
   called_refused why result e f =
@@ -64,10 +63,10 @@ module _ (modes : ℕ) (terms read work own drops rows journal answer now_work n
       let same : now_journal ≡ journal = ap (λ l. l.journal) (rw is at answers.leaves) in
       record { result = rw is f; leaves = rw (is, same) }
 
-  pub finish : (numbers : Numbers) → r ≡ Done numbers → Finished (resumed rooms modes 0 terms read) numbers
+  pub finish : (numbers : Numbers) → r ≡ Ok numbers → Finished (resumed rooms modes 0 terms read) numbers
   finish numbers e = done_meant (resumed rooms modes 0 terms read) numbers r answers.answer e
 
-  module _ (numbers : Numbers) (e : r ≡ Done numbers) where
+  module _ (numbers : Numbers) (e : r ≡ Ok numbers) where
     pub fit : RowsFit rooms modes (finish numbers e).part
     fit = rows_fit rooms modes 0 terms read (finish numbers e).part (omega arith) (finish numbers e).is
 

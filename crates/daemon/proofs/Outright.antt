@@ -1,4 +1,6 @@
 -- What the calls that make a run hand on comes to what is said of them outright.
+use Rattle.std.specs.Prelude.{Err, Ok, Result}
+use Rattle.refusal.specs.declared.Refusal.{Refusal}
 use mathlib.Core.Path.{◌≡◌, refl}
 use mathlib.Core.Bool.{Bool, true, false, ◌&&◌}
 use mathlib.Core.List.{List, [], ◌∷◌}
@@ -11,13 +13,12 @@ use Rattle.entities.specs.Limits.{most_terms, work_width}
 use Rattle.terms.specs.declared.rules.Rule.TheVariants.{Published}
 use Rattle.terms.specs.Rules.{rule_good, rule_of}
 use Rattle.terms.specs.Good.{modes_good, checked}
-use Rattle.terms.specs.declared.checking.Checked.{Checked}
-use Rattle.terms.specs.declared.checking.Checked.TheVariants.{Good, Refused as BadTerms}
 use Rattle.terms.proofs.GoodTerms.{accepted}
 use Rattle.journal.specs.Resuming.{Rooms, roomy as rooms_suffice, with_terms as with_rooms, resumed}
 use Rattle.call_bytes.specs.Bytes.{words}
 use Rattle.call_bytes.specs.code.Handing.{term_numbers}
-use Rattle.call_bytes.proofs.RoomFits.{room_in, good_modes}
+use Rattle.terms.proofs.GoodModes.{good_modes}
+use Rattle.call_bytes.proofs.RoomFits.{room_in}
 use Rattle.call_bytes.proofs.TermsSame.{not_eights}
 use Rattle.daemon.specs.Calls.{Lent, roomy, with_terms, resume_called}
 use Rattle.daemon.specs.code.Handing.{Own, rooms_in, resume_handed}
@@ -44,13 +45,13 @@ module _ (own : Own) (enough : work_width * most_terms ≤ own.work) (rows_enoug
       go false b c = refl
 
   module _ (good : modes_good own.modes modes ≡ true) where
-    terms_outright : (found : Checked) → checked modes (words terms) ≡ found
+    terms_outright : (found : Result ℕ Refusal) → checked modes (words terms) ≡ found
         → with_terms modes (words terms) read given found ≡ with_rooms rooms modes Published (words terms) read found
     unfolding with_terms with_rooms
-    terms_outright (Good count) e =
+    terms_outright (Ok count) e =
         let between = good_modes own.modes modes good in
         rw (same_room count (accepted modes (words terms) count e).at_most between.0 between.1)
-    terms_outright (BadTerms refusal) e = refl
+    terms_outright (Err refusal) e = refl
 
   pub resume_outright : resume_called own.modes modes terms read given ≡ resume_handed own modes terms read given
   unfolding resume_called resume_handed resumed rule_good rule_of term_numbers rooms_in with_rooms

@@ -1,4 +1,5 @@
 -- The place of a refused run is below 65536.
+use Rattle.std.specs.Prelude.{Err, Ok, Result}
 use mathlib.Core.Path.{◌≡◌, refl}
 use mathlib.Core.List.{List}
 use Prim.Native.Nat.{ℕ, ◌≤◌}
@@ -9,13 +10,11 @@ use Rattle.refusal.specs.Numbers.{place_of}
 use Rattle.terms.specs.Rules.{rule_good, rule_of}
 use Rattle.terms.specs.Job.{Job, job_of}
 use Rattle.terms.specs.Good.{modes_good, checked}
-use Rattle.terms.specs.declared.checking.Checked.{Checked}
-use Rattle.terms.specs.declared.checking.Checked.TheVariants.{Good, Refused as BadTerms}
 use Rattle.obeying.specs.Obeying.{Obeyed, went, refused, obeyed}
 use Rattle.obeying.proofs.LineRefused.{journal_refusal}
 use Rattle.journal.specs.Resuming.{Outcome, done, refuses, with_journal, Rooms, roomy, with_terms, resumed}
 use Rattle.call_bytes.proofs.RefusalNumbers.{unless, bad_place, bad_row_place}
-use Rattle.call_bytes.proofs.RoomFits.{good_modes}
+use Rattle.terms.proofs.GoodModes.{good_modes}
 
 -- The place that a call is refused at; 0 where it is done.
 unfoldable place_of_code : Outcome → ℕ
@@ -31,13 +30,13 @@ module _ (modes rule : ℕ) (numbers : List ℕ) (rooms : Rooms) (small : rooms.
       let line = journal_refusal job bytes made why e in
       omega (arith, line.0, line.1.place)
 
-  terms_place : (found : Checked) → modes ≤ rooms.modes → bad_place found ≤ 2048 → place_of_code (with_terms rooms modes (rule_of rule) numbers bytes found) ≤ 65535
+  terms_place : (found : Result ℕ Refusal) → modes ≤ rooms.modes → bad_place found ≤ 2048 → place_of_code (with_terms rooms modes (rule_of rule) numbers bytes found) ≤ 65535
   unfolding with_terms place_of_code bad_place
-  terms_place (Good count) few bad =
+  terms_place (Ok count) few bad =
       let job = job_of modes (rule_of rule) count numbers in
       unless place_of_code 65535 (roomy rooms modes count) (refuses Room) (with_journal job bytes (obeyed job bytes)) (omega arith)
       (λ f. journal_place job (omega (arith, few, small)) (obeyed job bytes) refl)
-  terms_place (BadTerms refusal) few bad = omega (arith, bad)
+  terms_place (Err refusal) few bad = omega (arith, bad)
 
   resumed_place : place_of_code (resumed rooms modes rule numbers bytes) ≤ 65535
   unfolding resumed place_of_code

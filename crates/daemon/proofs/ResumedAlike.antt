@@ -1,15 +1,15 @@
 -- Numbers that stand for terms make runs alike.
+use Rattle.std.specs.Prelude.{Err}
 use mathlib.Core.Path.{◌≡◌, ap}
 use mathlib.Core.List.{List}
 use Prim.Native.Nat.{ℕ}
 use Rattle.refusal.specs.declared.Refusal.{Refusal}
 use Rattle.terms.specs.Good.{checked}
-use Rattle.terms.specs.declared.checking.Checked.TheVariants.{Refused}
 use Rattle.journal.specs.Resuming.{Rooms, with_terms, resumed}
 use Rattle.call_bytes.specs.code.Reading.{StandFor, same, both_refused}
 
 -- Terms that are refused alike make runs alike.
-refused_alike : (refusal : Refusal) (a b : List ℕ) → ((modes : ℕ) → checked modes a ≡ Refused refusal) → ((modes : ℕ) → checked modes b ≡ Refused refusal)
+refused_alike : (refusal : Refusal) (a b : List ℕ) → ((modes : ℕ) → checked modes a ≡ Err refusal) → ((modes : ℕ) → checked modes b ≡ Err refusal)
     → (rooms : Rooms) (modes : ℕ) (read : List ℕ) → resumed rooms modes 0 a read ≡ resumed rooms modes 0 b read
 unfolding resumed with_terms
 refused_alike refusal a b e f rooms modes read = rw (e modes, f modes)

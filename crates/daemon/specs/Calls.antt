@@ -1,11 +1,10 @@
 -- "terms come in 16s (else 2), … and all other rooms double except the journal's; work is the call's own. … Too short a slice there is 5."
-use Rattle.std.specs.Prelude.{Bool, cond, not, ◌&&◌, List, [], ℕ, ◌+◌, ◌*◌, ◌%◌, eqb, leb, length}
+use Rattle.refusal.specs.declared.Refusal.{Refusal}
+use Rattle.std.specs.Prelude.{Bool, cond, not, ◌&&◌, List, [], ℕ, ◌+◌, ◌*◌, ◌%◌, eqb, leb, length, Err, Ok, Result}
 use Rattle.refusal.specs.declared.Refusal.TheVariants.{Modes, TermNumbers, Room}
 use Rattle.terms.specs.declared.rules.Rule.TheVariants.{Published}
 use Rattle.terms.specs.Job.{job_of}
 use Rattle.terms.specs.Good.{modes_good, checked}
-use Rattle.terms.specs.declared.checking.Checked.{Checked}
-use Rattle.terms.specs.declared.checking.Checked.TheVariants.{Good, Refused as BadTerms}
 use Rattle.obeying.specs.Obeying.{obeyed}
 use Rattle.journal.specs.Resuming.{Outcome, refuses, with_journal}
 use Rattle.call_bytes.specs.Bytes.{words}
@@ -25,11 +24,11 @@ roomy modes given =
     leb (8 * modes) (length given.rows) && (leb (16 + 21 * modes) (length given.journal) && leb 32 (length given.answer))
 
 -- 3 and 4 of the terms, then 5, then the journal's lines; "the C calls keep the published rule".
-unfoldable pub with_terms : ℕ → List ℕ → List ℕ → Lent → Checked → Outcome
-with_terms modes numbers read given (Good count) =
+unfoldable pub with_terms : ℕ → List ℕ → List ℕ → Lent → Result ℕ Refusal → Outcome
+with_terms modes numbers read given (Ok count) =
     cond (not (roomy modes given)) (refuses Room)
     (with_journal (job_of modes Published count numbers) read (obeyed (job_of modes Published count numbers) read))
-with_terms modes numbers read given (BadTerms refusal) = refuses refusal
+with_terms modes numbers read given (Err refusal) = refuses refusal
 
 -- The meaning of `dewgoblin_resume`, from the most modes that it takes, the modes, the terms' bytes, the journal read and what is lent: 1,
 -- and 2 for terms that don't come in 16s.

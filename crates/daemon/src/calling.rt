@@ -10,7 +10,6 @@ ghost use Rattle.daemon.specs.Promises.{Called};
 use crate::answering;
 use call_bytes::term_bytes;
 use journal::resuming;
-use journal::resuming::Answer;
 
 // Resuming with rows of the call's own, which fit into the lent ones; where there are any, the answer's numbers fit too.
 fn resume_numbers(
@@ -29,8 +28,8 @@ fn resume_numbers(
         (lent rows.old journal.old answer.old) (lent rows.new journal.new answer.new) result }
 {
     match resuming::resume(modes, 0, terms, read, work, own, journal, drops) {
-        Answer::Refused(why) => call_bytes::refusal_result(why),
-        Answer::Done(numbers) => {
+        Err(why) => call_bytes::refusal_result(why),
+        Ok(numbers) => {
             answering::put_done(modes, own, numbers, rows, answer);
             0
         }

@@ -1,7 +1,7 @@
 // The program: the command that its first argument names, by the rule that its third does, for the terms on standard input and the file on descriptor 3; its answer on standard output, with a full stop behind it.
 #![tactic(auto)]
 
-ghost use Rattle.std.specs.Prelude.{◌≡◌};
+ghost use Rattle.std.specs.Prelude.{◌≡◌, IfOk};
 ghost use Rattle.io.specs.Counts.{IsPrefixLen};
 ghost use Rattle.terms_text.specs.Jobs.{request};
 ghost use Rattle.text.specs.Output.{Prints};
@@ -9,7 +9,7 @@ ghost use Rattle.dewgoblin.specs.Commands.{rule_named, journal_command, command_
 ghost use Rattle.strings_text.specs.Printing.{PrintsStrings};
 
 use fields::parts;
-use standard_input::Input;
+use standard_input::ReadFailed;
 use std::io::Write;
 use std::rt::{Env, Files};
 use std::{fs, io};
@@ -21,21 +21,15 @@ use text::{Printed, journals};
 const FILE: &str = "/dev/fd/3";
 
 // The file that a command reads; `journal` reads none.
-fn read_file<R: Files>(rt: &R, name: &[u8], file: &mut [u8]) -> Input
-    ensures { IsPrefixLen result.count file.new }
+fn read_file<R: Files>(rt: &R, name: &[u8], file: &mut [u8]) -> Result<usize, ReadFailed>
+    ensures { IfOk result (λ count. IsPrefixLen count file.new) }
 {
     if parts::same_bytes(name, b"journal") {
-        return Input {
-            count: 0,
-            failed: false,
-        };
+        return Ok(0);
     }
     match fs::open(rt, FILE) {
         Ok(mut opened) => standard_input::read_input(&mut opened, file),
-        Err(_) => Input {
-            count: 0,
-            failed: true,
-        },
+        Err(_) => Err(ReadFailed { count: 0 }),
     }
 }
 
@@ -169,16 +163,12 @@ fn run(
     input: &mut [u8],
     file: &mut [u8],
 ) -> io::Result<()> {
-    let terms = standard_input::read_input(&mut rt.stdin(), input);
-    if terms.failed {
+    let Ok(count) = standard_input::read_input(&mut rt.stdin(), input) else {
         return Ok(());
-    }
-    let read = read_file(rt, name, file);
-    if read.failed {
+    };
+    let Ok(kept) = read_file(rt, name, file) else {
         return Ok(());
-    }
-    let count = terms.count;
-    let kept = read.count;
+    };
     let rule = rule_named(last);
     give(
         &mut rt.stdout(),

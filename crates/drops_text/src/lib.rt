@@ -1,18 +1,17 @@
 // The answer of `drops` to the text of terms and a journal, from bytes to bytes: how many of the terms were dropped in each step.
 #![tactic(auto)]
 
-ghost use Rattle.std.specs.Prelude.{◌≡◌, ◌+◌, ◌*◌, ◌≤◌, ◌<◌, length};
+ghost use Rattle.std.specs.Prelude.{◌≡◌, ◌+◌, ◌≤◌, ◌<◌, length};
 ghost use Rattle.lists.specs.Written.{written_at};
 ghost use Rattle.entities.specs.Limits.{most_modes};
 ghost use Rattle.terms_text.specs.Jobs.{request};
-ghost use Rattle.text.specs.Running.{program_rooms, printed_room};
+ghost use Rattle.text.specs.Running.{program_rooms};
 ghost use Rattle.text.specs.Output.{Prints};
 ghost use Rattle.text.specs.code.Printing.{Puts};
 ghost use Rattle.drops_text.specs.Dropping.{drop_line, drop_lines, drops_text};
 
 use fields::decimal;
 use terms::rules::Rule;
-use text::running::Ran;
 use text::{Printed, output, running};
 
 // A step's line written at this place; the place after it.
@@ -26,16 +25,13 @@ fn put_drop(out: &mut [u8], at: usize, step: usize, count: usize) -> usize
 }
 
 // The lines of the steps that these are the drops of, written over the front; how many bytes that is.
-fn put_drops(drops: &[u16], out: &mut [u8]) -> usize
-    requires drops_len_bound { length drops.now ≤ most_modes }
-    requires out_len { length out.old ≡ printed_room }
+fn put_drops(drops: &[u16], out: &mut [u8; 16384]) -> usize
+    requires { length drops.now ≤ most_modes }
     ensures { Puts (drop_lines 0 drops.now) out.old out.new result }
 {
     let mut at = 0;
-    let mut step = 0;
-    while step < drops.len() {
-        at = put_drop(out, at, step, entities::wide(drops[step]));
-        step += 1;
+    for (step, count) in drops.iter().enumerate() {
+        at = put_drop(out, at, step, usize::from(*count));
     }
     at
 }
@@ -45,17 +41,16 @@ fn print_drops(
     rule: Rule,
     input: &[u8],
     read: &[u8],
-    rows: &mut [u16],
-    journal: &mut [u8],
-    drops: &mut [u16],
-    out: &mut [u8],
+    rows: &mut [u16; 1024],
+    journal: &mut [u8; 5392],
+    drops: &mut [u16; 256],
+    out: &mut [u8; 16384],
 ) -> usize
-    requires { (length rows.old ≡ 4 * most_modes) × (length journal.old ≡ 16 + 21 * most_modes) × (length drops.old ≡ most_modes) × (length out.old ≡ printed_room) }
     ensures { Puts (drops_text program_rooms (request rule input.now) read.now) out.old out.new result }
 {
     match running::run_drops(rule, input, read, rows, journal, drops) {
-        Ran::Refused(refusal) => output::put_refusal(out, refusal),
-        Ran::Done(run) => {
+        Err(refusal) => output::put_refusal(out, refusal),
+        Ok(run) => {
             let end = run.modes;
             put_drops(&drops[..end], out)
         }
@@ -79,8 +74,5 @@ pub fn drops_answer(rule: Rule, input: &[u8], read: &[u8]) -> Printed
         &mut drops,
         &mut bytes,
     );
-    Printed {
-        bytes: bytes,
-        count: count,
-    }
+    Printed { bytes, count }
 }

@@ -1,22 +1,13 @@
 // Entities: leaves and parents by number, a node's three children, and the codes that a tree's rows and tables have for them.
 #![tactic(auto)]
 
-ghost use Rattle.std.specs.Prelude.{◌≡◌, ◌<◌};
-
 pub mod codes;
 pub mod parents;
 
 // Three entities: a node's children under X, Y and Z.
-#[derive(Clone, Copy)]
+#[derive(Clone, Copy, PartialEq, Eq)]
 pub struct Triple {
     pub x: u16,
     pub y: u16,
     pub z: u16,
-}
-
-// The number as an index.
-pub fn wide(number: u16) -> usize
-    ensures { (result ≡ number) × (result < 65536) }
-{
-    number as usize
 }

@@ -1,4 +1,6 @@
 -- A field read byte by byte: as long as digits come that may follow, what was read and what is left say whether the field is a number.
+use Rattle.fields.specs.declared.numbers.Field.{Field}
+use Rattle.std.specs.Prelude.{None, Option}
 use mathlib.Core.Path.{◌≡◌, refl, ◌∙◌, sym}
 use mathlib.Core.Bool.{Bool, true, false, cond, ◌&&◌, ◌||◌, true≢false}
 use mathlib.Core.Logic.{⊎_elim}
@@ -14,48 +16,47 @@ use Rattle.lists.specs.Members.{every}
 use Rattle.lists.proofs.Steps.{drop_step}
 use Rattle.lists.proofs.Tests.{both, either, neither, same_or_not, not_so}
 use Rattle.lists.proofs.Every.{every_append, every_cons, every_uncons, every_fails}
-use Rattle.fields.specs.declared.numbers.Field.{Field}
-use Rattle.fields.specs.declared.numbers.Field.TheVariants.{Broken}
 use Rattle.fields.specs.Decimal.{is_digit, value_after, value, leads_well, is_number}
 use Rattle.fields.specs.code.Reading.{first_field, field_read, field_at, number_at, goes_on, ended_at}
 use Rattle.fields.proofs.Numerals.{numeral, digit_bounds, value_more, value_beyond, leads_first}
 
 -- What comes of reading on, with so many digits of this value read.
-unfoldable pub read_after : ℕ → ℕ → ℕ → List ℕ → Field
+unfoldable pub read_after : ℕ → ℕ → ℕ → List ℕ → Option Field
 read_after count so_far place [] = ended_at count so_far place
 read_after count so_far place (byte ∷ rest) =
     cond (eqb byte 9) (ended_at count so_far place)
-    (cond (is_digit byte && goes_on count so_far) (read_after (suc count) (10 * so_far + (byte - 48)) (suc place) rest) Broken)
+    (cond (is_digit byte && goes_on count so_far) (read_after (suc count) (10 * so_far + (byte - 48)) (suc place) rest) None)
 
--- One byte of it.
-module _ (count so_far : ℕ) (text : List ℕ) (place : ℕ) where
-  pub read_ends : length text ≤ place → read_after count so_far place (drop place text) ≡ ended_at count so_far place
+-- One byte of it, behind as many bytes as there are digits.
+module _ (count so_far place : ℕ) (text : List ℕ) where
+  pub read_ends : length text ≤ count → read_after count so_far place (drop count text) ≡ ended_at count so_far place
   unfolding read_after
   read_ends h = rw (drop_of_length-le text h)
 
-  module _ (h : place < length text) where
-    pub read_tab : get_or text place 0 ≡ 9 → read_after count so_far place (drop place text) ≡ ended_at count so_far place
+  module _ (h : count < length text) where
+    pub read_tab : get_or text count 0 ≡ 9 → read_after count so_far place (drop count text) ≡ ended_at count so_far place
     unfolding read_after
-    read_tab e = rw (drop_step text place 0 h) (rw (eq-eqb (get_or text place 0) 9 e))
+    read_tab e = rw (drop_step text count 0 h) (rw (eq-eqb (get_or text count 0) 9 e))
 
-    pub read_other : (get_or text place 0 ≡ 9 → ⊥) → is_digit (get_or text place 0) ≡ false
-        → read_after count so_far place (drop place text) ≡ Broken
+    pub read_other : (get_or text count 0 ≡ 9 → ⊥) → is_digit (get_or text count 0) ≡ false
+        → read_after count so_far place (drop count text) ≡ None
     unfolding read_after
-    read_other e f = rw (drop_step text place 0 h) (rw (ne_eqb (get_or text place 0) 9 e, f))
+    read_other e f = rw (drop_step text count 0 h) (rw (ne_eqb (get_or text count 0) 9 e, f))
 
-    not_tab : is_digit (get_or text place 0) ≡ true → get_or text place 0 ≡ 9 → ⊥
-    not_tab f e = let p = digit_bounds (get_or text place 0) f in omega arith
+    not_tab : is_digit (get_or text count 0) ≡ true → get_or text count 0 ≡ 9 → ⊥
+    not_tab f e = let p = digit_bounds (get_or text count 0) f in omega arith
 
-    pub read_stops : is_digit (get_or text place 0) ≡ true → goes_on count so_far ≡ false
-        → read_after count so_far place (drop place text) ≡ Broken
+    pub read_stops : is_digit (get_or text count 0) ≡ true → goes_on count so_far ≡ false
+        → read_after count so_far place (drop count text) ≡ None
     unfolding read_after
-    read_stops f g = rw (drop_step text place 0 h) (rw (ne_eqb (get_or text place 0) 9 (not_tab f), f, g))
+    read_stops f g = rw (drop_step text count 0 h) (rw (ne_eqb (get_or text count 0) 9 (not_tab f), f, g))
 
-    pub read_passes : is_digit (get_or text place 0) ≡ true → goes_on count so_far ≡ true
-        → read_after count so_far place (drop place text)
-        ≡ read_after (suc count) (10 * so_far + (get_or text place 0 - 48)) (place + 1) (drop (place + 1) text)
+    pub read_passes : is_digit (get_or text count 0) ≡ true → goes_on count so_far ≡ true
+        → read_after count so_far place (drop count text)
+        ≡ read_after (count + 1) (10 * so_far + (get_or text count 0 - 48)) (place + 1) (drop (count + 1) text)
     unfolding read_after
-    read_passes f g = rw (drop_step text place 0 h) (rw (ne_eqb (get_or text place 0) 9 (not_tab f), f, g, add-one place))
+    read_passes f g =
+        rw (drop_step text count 0 h) (rw (ne_eqb (get_or text count 0) 9 (not_tab f), f, g, add-one place, add-one count))
 
 -- What a digit may follow leaves room for it.
 pub goes_room : (count so_far : ℕ) → goes_on count so_far ≡ true → so_far ≤ 6553
@@ -194,7 +195,7 @@ read_is begun (byte ∷ rest) place b =
 
     Next : Bool → Type 0
     Next z =
-        cond z (read_after (suc (length begun)) (10 * value begun + (byte - 48)) (suc place) rest) Broken
+        cond z (read_after (suc (length begun)) (10 * value begun + (byte - 48)) (suc place) rest) None
         ≡ field_read is_number value field (place + suc (length (first_field rest)))
 
     broken : is_number field ≡ false → Next false

@@ -1,14 +1,7 @@
 -- Fields counted by their tabs.
-use mathlib.Core.Path.{◌≡◌, refl}
-use mathlib.Core.Bool.{Bool, true, false}
-use mathlib.Core.List.{List, [], ◌∷◌, ◌++◌}
-use Prim.Native.Nat.{ℕ, ◌+◌, ◌<◌, ◌≤◌}
-use native.Mathlib.Omega.{arith}
-use lib.Dec.{eqb}
-use lib.ListN.{length, get_or, drop, drop_of_length-le}
-use Rattle.lists.proofs.Steps.{drop_step}
+use Rattle.std.proofs.Common.{◌≡◌, refl, Bool, true, false, cond, List, [], ◌∷◌, ◌++◌, ℕ, ◌+◌, eqb, length, arith}
+use Rattle.std.specs.List.{filter}
 use Rattle.fields.specs.Fields.{fields_after}
-use Rattle.fields.specs.code.Reading.{tab_in}
 
 -- What a field began with is no matter.
 begun_no_matter : (a b text : List ℕ) → length (fields_after a text) ≡ length (fields_after b text)
@@ -22,18 +15,14 @@ begun_no_matter a b (byte ∷ rest) = go (eqb byte 9) refl (begun_no_matter (a +
     go true e on = rw e
     go false e on = rw e on
 
-tab_first : (byte : ℕ) (rest : List ℕ) → length (fields_after [] (byte ∷ rest)) ≡ tab_in byte + length (fields_after [] rest)
-unfolding fields_after tab_in
-tab_first byte rest = go (eqb byte 9) refl
-  where
-    go : (z : Bool) → eqb byte 9 ≡ z → length (fields_after [] (byte ∷ rest)) ≡ tab_in byte + length (fields_after [] rest)
-    go true e = rw e (omega arith)
-    go false e = rw e (omega (arith, begun_no_matter (byte ∷ []) [] rest))
-
-pub tab_passed : (text : List ℕ) (i : ℕ) → i < length text
-    → length (fields_after [] (drop i text)) ≡ tab_in (get_or text i 0) + length (fields_after [] (drop (i + 1) text))
-tab_passed text i h = rw (drop_step text i 0 h) (tab_first (get_or text i 0) (drop (i + 1) text))
-
-pub tabs_end : (text : List ℕ) (i : ℕ) → length text ≤ i → length (fields_after [] (drop i text)) ≡ 1
+-- There is one field more than tabs.
+pub fields_counted : (text : List ℕ) → length (filter (λ byte. eqb byte 9) text) + 1 ≡ length (fields_after [] text)
 unfolding fields_after
-tabs_end text i h = rw (drop_of_length-le text h)
+fields_counted [] = refl
+fields_counted (byte ∷ rest) = go (eqb byte 9) (fields_counted rest)
+  where
+    go : (z : Bool) → length (filter (λ byte. eqb byte 9) rest) + 1 ≡ length (fields_after [] rest)
+        → length (cond z (byte ∷ filter (λ byte. eqb byte 9) rest) (filter (λ byte. eqb byte 9) rest)) + 1
+        ≡ length (cond z ([] ∷ []) [] ++ fields_after (cond z [] ([] ++ (byte ∷ []))) rest)
+    go true e = omega arith
+    go false e = omega (arith, begun_no_matter (byte ∷ []) [] rest)

@@ -12,3 +12,4 @@ pub mod LineSteps
 pub mod LinesJoined
 pub mod NumbersTabbed
 pub mod PuttingBytes
+pub mod NumbersSaid

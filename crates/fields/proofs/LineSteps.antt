@@ -1,69 +1,61 @@
--- One step along a text, byte by byte and line by line.
-use mathlib.Core.Path.{◌≡◌, refl, ap, ◌∙◌, sym}
-use mathlib.Core.Bool.{Bool, true, false}
-use mathlib.Core.List.{List, [], ◌∷◌, ◌++◌, flat_map, append_assoc}
-use Prim.Native.Nat.{ℕ, zero, suc, ◌+◌, ◌-◌, ◌<◌, ◌≤◌}
-use native.Mathlib.Omega.{arith}
-use borrow.Author.Tests.{eq-eqb, ne_eqb}
-use lib.Dec.{eqb}
-use lib.ListN.{length, get_or, take, drop, length-append, length-drop, drop_of_length-le, get_or-append, get_or-eq_default}
-use lib.Seq.{take-suc, get_or-drop, get_or-append-add, drop-drop, length-take-le}
-use Rattle.lists.proofs.Steps.{drop_step}
+-- One step along a text, line by line.
+use Rattle.std.proofs.Common.{◌≡◌, refl, ap, ◌∙◌, sym, Bool, true, false, cond, List, [], ◌∷◌, ◌++◌, append_assoc, ℕ, suc, ◌+◌, ◌-◌, ◌<◌, ◌≤◌, length, get_or, take, drop, length-append, arith, MatchOption, Option, Some, None, Bor}
+use Rattle.std.specs.Option.{option_map, unwrap_or}
+use Rattle.std.proofs.lemmas.Option.{unwrap_or-slice_get}
+use Rattle.std.proofs.lemmas.Bool.{ltb-true, ltb-false}
+use Rattle.std.proofs.lemmas.List.{length-take-le, drop-drop, get_or-append-add, get_or_append_left}
+use Rattle.std.specs.List.{position, position_or_len, slice_get}
+use mathlib.Core.List.{flat_map}
+use lib.Dec.{eqb, ltb}
 use Rattle.fields.specs.Lines.{lines, lines_after, first_line, kept_of, found_line}
 
--- Byte by byte, in search of the LF that ends the line begun at `from`.
-module _ (bytes : List ℕ) (from : ℕ) where
-  pub scan_starts : lines (drop from bytes) ≡ lines_after (take (from - from) (drop from bytes)) (drop from bytes)
-  unfolding lines
-  scan_starts =
-      let none : from - from ≡ 0 = omega arith in
-      rw none
+-- The byte is an LF.
+abbrev is_feed : ℕ → Bool
+is_feed byte = eqb byte 10
 
-  module _ (at : ℕ) (late : from ≤ at) (more : at < length bytes) where
-    one_longer : take (at + 1 - from) (drop from bytes) ≡ take (at - from) (drop from bytes) ++ (get_or bytes at 0 ∷ [])
-    one_longer =
-        let e : at + 1 - from ≡ suc (at - from) = omega arith in
-        let f : from + (at - from) ≡ at = omega arith in
-        rw (e, take-suc (drop from bytes) (at - from) 0 (simp length-drop (omega arith)), get_or-drop from bytes (at - from) 0, f)
-
-    pub scan_passes : (get_or bytes at 0 ≡ 10 → ⊥)
-        → lines_after (take (at - from) (drop from bytes)) (drop at bytes)
-        ≡ lines_after (take (at + 1 - from) (drop from bytes)) (drop (at + 1) bytes)
-    unfolding lines_after
-    scan_passes other = rw (drop_step bytes at 0 more, one_longer, ne_eqb _ _ other)
-
-    pub scan_found : lines (drop from bytes) ≡ lines_after (take (at - from) (drop from bytes)) (drop at bytes)
-        → get_or bytes at 0 ≡ 10
-        → at + 1 ≡ from + length (first_line (drop from bytes))
-    unfolding first_line lines_after
-    scan_found so e =
-        let ended : lines (drop from bytes) ≡ take (at + 1 - from) (drop from bytes) ∷ lines_after [] (drop (at + 1) bytes) =
-        so ∙ rw (drop_step bytes at 0 more, one_longer, eq-eqb _ _ e) in
-        let long : length (take (at + 1 - from) (drop from bytes)) ≡ at + 1 - from =
-        length-take-le (at + 1 - from) (drop from bytes) (simp length-drop (omega arith)) in
-        rw (ended, long) (omega arith)
-
-  pub scan_ends : (at : ℕ) → length bytes ≤ at
-      → lines (drop from bytes) ≡ lines_after (take (at - from) (drop from bytes)) (drop at bytes)
-      → from ≡ from + length (first_line (drop from bytes))
-  unfolding first_line lines_after
-  scan_ends at h so = rw (so, drop_of_length-le bytes h) (omega arith)
-
-data Begins (begun bytes : List ℕ) : Type 0 where
-  no_line : lines_after begun bytes ≡ [] → Begins begun bytes
-  a_line : (last : ℕ) → last < length bytes → lines_after begun bytes ≡ (begun ++ take (suc last) bytes) ∷ lines (drop (suc last) bytes) → Begins begun bytes
-
-begins : (begun bytes : List ℕ) → Begins begun bytes
+-- A search for the first LF, in the middle of a line.
+line_ends : (begun bytes : List ℕ) → position_or_len is_feed bytes < length bytes
+    → lines_after begun bytes
+    ≡ (begun ++ take (position_or_len is_feed bytes + 1) bytes) ∷ lines (drop (position_or_len is_feed bytes + 1) bytes)
 unfolding lines lines_after
-begins begun [] = no_line refl
-begins begun (byte ∷ rest) = go (eqb byte 10) refl (begins (begun ++ (byte ∷ [])) rest)
+line_ends begun [] h = absurd (omega arith)
+line_ends begun (byte ∷ rest) h = go (eqb byte 10) refl (line_ends (begun ++ (byte ∷ [])) rest)
   where
-    go : (b : Bool) → eqb byte 10 ≡ b → Begins (begun ++ (byte ∷ [])) rest → Begins begun (byte ∷ rest)
-    go true e ahead = a_line 0 (omega arith) (rw e)
-    go false e (no_line f) = no_line (rw e f)
-    go false e (a_line last h f) =
-        a_line (suc last) (omega arith)
-        (rw e (f ∙ ap (λ l. l ∷ lines (drop (suc last) rest)) (append_assoc begun (byte ∷ []) (take (suc last) rest))))
+    go : (b : Bool) → eqb byte 10 ≡ b
+        → (position_or_len is_feed rest < length rest
+        → lines_after (begun ++ (byte ∷ [])) rest
+        ≡ ((begun ++ (byte ∷ [])) ++ take (position_or_len is_feed rest + 1) rest) ∷ lines (drop (position_or_len is_feed rest + 1) rest))
+        → lines_after begun (byte ∷ rest)
+        ≡ (begun ++ take (position_or_len is_feed (byte ∷ rest) + 1) (byte ∷ rest)) ∷ lines (drop (position_or_len is_feed (byte ∷ rest) + 1) (byte ∷ rest))
+    go true e on = rw e
+    go false e on =
+        let n = position_or_len is_feed rest in
+        let more : 1 + n + 1 ≡ suc (n + 1) = omega arith in
+        rw (e, more) (rw append_assoc at (on (omega (arith, rw e at h))))
+
+no_line : (begun bytes : List ℕ) → length bytes ≤ position_or_len is_feed bytes → lines_after begun bytes ≡ []
+unfolding lines_after
+no_line begun [] h = refl
+no_line begun (byte ∷ rest) h = go (eqb byte 10) refl (no_line (begun ++ (byte ∷ [])) rest)
+  where
+    go : (b : Bool) → eqb byte 10 ≡ b
+        → (length rest ≤ position_or_len is_feed rest → lines_after (begun ++ (byte ∷ [])) rest ≡ [])
+        → lines_after begun (byte ∷ rest) ≡ []
+    go true e on = absurd (omega (arith, rw e at h))
+    go false e on = rw e (on (omega (arith, rw e at h)))
+
+-- What a search for the first LF finds: the end of the first line, or that there is no line.
+pub feed_found : (bytes : List ℕ) (found : Option ℕ) → found ≡ position is_feed bytes
+    → MatchOption found (lines bytes ≡ [])
+    (λ place. (place < length bytes) × (lines bytes ≡ take (place + 1) bytes ∷ lines (drop (place + 1) bytes)))
+unfolding lines
+feed_found bytes found e = rw e (go (ltb (position_or_len is_feed bytes) (length bytes)) refl)
+  where
+    go : (b : Bool) → ltb (position_or_len is_feed bytes) (length bytes) ≡ b
+        → MatchOption (cond b (Some (position_or_len is_feed bytes)) None) (lines bytes ≡ [])
+        (λ place. (place < length bytes) × (lines bytes ≡ take (place + 1) bytes ∷ lines (drop (place + 1) bytes)))
+    go true f = let h = ltb-true (position_or_len is_feed bytes) (length bytes) f in (h, line_ends [] bytes h)
+    go false f = no_line [] bytes (ltb-false (position_or_len is_feed bytes) (length bytes) f)
 
 -- Line by line.
 module _ (bytes : List ℕ) where
@@ -74,18 +66,19 @@ module _ (bytes : List ℕ) where
     stands : take (length line) bytes ≡ line
 
   split : Split (first_line bytes)
-  unfolding lines first_line
-  split = go (begins [] bytes)
+  unfolding first_line
+  split = go (position is_feed bytes) (feed_found bytes (position is_feed bytes) refl)
     where
-      go : Begins [] bytes → Split (first_line bytes)
-      go (no_line e) =
-          rw e
-          (record { more = λ h. absurd (omega arith); none = λ h. e; stands = refl })
-      go (a_line last h e) =
-          let long : length (take (suc last) bytes) ≡ suc last = length-take-le (suc last) bytes (omega arith) in
-          rw e
+      go : (found : Option ℕ)
+          → MatchOption found (lines bytes ≡ [])
+          (λ place. (place < length bytes) × (lines bytes ≡ take (place + 1) bytes ∷ lines (drop (place + 1) bytes)))
+          → Split (first_line bytes)
+      go None e = rw e (record { more = λ h. absurd (omega arith); none = λ h. e; stands = refl })
+      go (Some place) h =
+          let long : length (take (place + 1) bytes) ≡ place + 1 = length-take-le (place + 1) bytes (omega arith) in
+          rw h.1
           (record {
-            more = λ m. rw long e;
+            more = λ m. rw long h.1;
             none = λ z. absurd (omega arith);
             stands = ap (λ n. take n bytes) long;
           })
@@ -104,7 +97,7 @@ module _ (bytes : List ℕ) (from end : ℕ) (is_end : end ≡ from + length (fi
   pub lines_none : end ≡ from → lines (drop from bytes) ≡ []
   lines_none e = no_next_line (drop from bytes) (omega arith)
 
-  pub line_part : take (end - from) (drop from bytes) ≡ first_line (drop from bytes)
+  line_part : take (end - from) (drop from bytes) ≡ first_line (drop from bytes)
   line_part =
       let e : end - from ≡ length (first_line (drop from bytes)) = omega arith in
       rw e (first_line_stands (drop from bytes))
@@ -115,10 +108,6 @@ module _ (bytes : List ℕ) (from end : ℕ) (is_end : end ≡ from + length (fi
       (next_line (drop from bytes) (omega arith)
       ∙ ap (λ l. first_line (drop from bytes) ∷ lines l) (drop-drop (length (first_line (drop from bytes))) from bytes))
 
-  pub kept_none : end ≡ from → kept_of (drop from bytes) ≡ []
-  unfolding kept_of flat_map
-  kept_none e = rw (lines_none e)
-
   pub kept_more : (end ≡ from → ⊥) → from + length (kept_of (drop from bytes)) ≡ end + length (kept_of (drop end bytes))
   unfolding kept_of flat_map
   kept_more more =
@@ -126,25 +115,32 @@ module _ (bytes : List ℕ) (from end : ℕ) (is_end : end ≡ from + length (fi
       rw (lines_next more, line_part) in
       omega (arith, ap length both, length-append (first_line (drop from bytes)) (kept_of (drop end bytes)))
 
-  pub line_passed : (end ≡ from → ⊥) → (line : ℕ) → 0 < line
-      → get_or (lines (drop from bytes)) line [] ≡ get_or (lines (drop end bytes)) (line - 1) []
-  line_passed more line h = rw (lines_next more) (behind line h)
-    where
-      behind : (n : ℕ) → 0 < n
-          → get_or (take (end - from) (drop from bytes) ∷ lines (drop end bytes)) n [] ≡ get_or (lines (drop end bytes)) (n - 1) []
-      behind zero h = absurd (omega arith)
-      behind (suc n) h =
-          let e : suc n - 1 ≡ n = omega arith in
-          rw e
+few_after : (begun bytes : List ℕ) → length (lines_after begun bytes) ≤ length bytes
+unfolding lines_after
+few_after begun [] = omega arith
+few_after begun (byte ∷ rest) = go (eqb byte 10) (few_after [] rest) (few_after (begun ++ (byte ∷ [])) rest)
+  where
+    go : (b : Bool) → length (lines_after [] rest) ≤ length rest → length (lines_after (begun ++ (byte ∷ [])) rest) ≤ length rest
+        → length (cond b ((begun ++ (byte ∷ [])) ∷ []) [] ++ lines_after (cond b [] (begun ++ (byte ∷ []))) rest) ≤ suc (length rest)
+    go true h k = omega arith
+    go false h k = omega arith
 
-  pub line_missing : end ≡ from → (line : ℕ) → get_or (lines (drop from bytes)) line [] ≡ []
-  line_missing e line = rw (lines_none e) (get_or-eq_default [] [] {n = line} (omega arith))
+-- There are no more lines than bytes.
+pub lines_few : (bytes : List ℕ) → length (lines bytes) ≤ length bytes
+unfolding lines
+lines_few bytes = few_after [] bytes
+
+-- The part with this number, or an empty one.
+pub part_found : (texts : List (List ℕ)) (n : ℕ) (found : Option (Bor (List ℕ))) (empty : Bor (List ℕ))
+    → option_map (λ part. part.now) found ≡ slice_get texts n → empty.now ≡ [] → (unwrap_or found empty).now ≡ get_or texts n []
+part_found texts n None empty e none = none ∙ (rw (← e) at (unwrap_or-slice_get texts n []))
+part_found texts n (Some part) empty e none = rw (← e) at (unwrap_or-slice_get texts n [])
 
 -- A line of two texts, the one behind the other.
 module _ (kept new : List ℕ) (line : ℕ) where
   pub found_in_kept : line < length (lines kept) → get_or (lines kept) line [] ≡ found_line kept new line
   unfolding found_line
-  found_in_kept h = sym (get_or-append (lines kept) (lines new) [] line h)
+  found_in_kept h = sym (get_or_append_left (lines kept) (lines new) [] line h)
 
   pub found_in_new : length (lines kept) ≤ line → get_or (lines new) (line - length (lines kept)) [] ≡ found_line kept new line
   unfolding found_line

@@ -6,8 +6,10 @@ use Prim.Native.Nat.{ℕ, zero, suc, ◌+◌, ◌-◌, ◌<◌, ◌≤◌}
 use native.Mathlib.Omega.{arith}
 use borrow.Author.Tests.{eqb-true, leb-true, leb-false, not-true}
 use lib.Dec.{eqb, leb}
-use lib.ListN.{length, get_or, take, length-append}
+use lib.ListN.{length, get_or, take, length-append, length-take}
 use lib.Seq.{take-nil, take-append_seam, take-append-le, take-append-add}
+use Rattle.std.specs.List.{sum_by}
+use Rattle.std.proofs.lemmas.List.Concat.{length-flat_map}
 use Rattle.lists.specs.Members.{every}
 use Rattle.lists.proofs.Every.{every_cons, every_uncons, every_append}
 use Rattle.lists.proofs.Parts.{nothing_in}
@@ -54,6 +56,14 @@ module _ (bytes : List ℕ) where
   -- What is kept is the front of the text.
   pub kept_front : take (length (kept_of bytes)) bytes ≡ kept_of bytes
   kept_front = ap (take (length (kept_of bytes))) (sym kept_and_left) ∙ take-append_seam (kept_of bytes) (left_after [] bytes)
+
+  -- The kept bytes are those of all lines, and no more than there are.
+  pub kept_length : length (kept_of bytes) ≡ sum_by length (lines bytes)
+  unfolding kept_of flat_map
+  kept_length = length-flat_map (λ line. line) (lines bytes)
+
+  pub kept_short : length (kept_of bytes) ≤ length bytes
+  kept_short = omega (arith, ap length kept_front, length-take (length (kept_of bytes)) bytes)
 
   nothing_left : kept_of bytes ≡ bytes → left_after [] bytes ≡ []
   nothing_left e =

@@ -1,5 +1,8 @@
 -- Fields read into a room one after the other, by any test and for any value: those read, those ahead and the room left give the answer.
-use mathlib.Core.Path.{◌≡◌, refl, ◌∙◌, sym}
+use Rattle.std.proofs.lemmas.Option.{same_Some}
+use Rattle.fields.specs.declared.numbers.Field.{Field}
+use Rattle.std.specs.Prelude.{None, Some, Option}
+use mathlib.Core.Path.{◌≡◌, refl, ap, ◌∙◌, sym}
 use mathlib.Core.Bool.{Bool, true, false, and-false, true≢false}
 use mathlib.Core.List.{List, [], ◌∷◌, ◌++◌, map, append_assoc}
 use mathlib.Core.Logic.{⊎_elim}
@@ -13,7 +16,6 @@ use lib.Seq.{drop-drop}
 use Rattle.lists.specs.Members.{every}
 use Rattle.lists.proofs.Tests.{same_or_not}
 use Rattle.lists.proofs.Writes.{written_next, all_of}
-use Rattle.fields.specs.declared.numbers.Field.TheVariants.{Number, Broken}
 use Rattle.fields.specs.Fields.{fields_after}
 use Rattle.fields.specs.code.Reading.{first_field, field_read, field_at, fields_good, FieldsRead}
 use Rattle.fields.proofs.FieldsAhead.{first_short, fields_one, fields_more, fields_head}
@@ -25,26 +27,27 @@ module _ (test : List ℕ → Bool) (says : List ℕ → ℕ) where
     pub value_is : number ≡ says field
     pub behind : end ≡ place
 
-  pub field_good : (field : List ℕ) (place number end : ℕ) → field_read test says field place ≡ Number number end → IsGood field place number end
+  pub field_good : (field : List ℕ) (place number end : ℕ) → field_read test says field place ≡ Some (record { number = number; end = end }) → IsGood field place number end
   unfolding field_read
   field_good field place number end e = go (test field) refl
     where
       go : (z : Bool) → test field ≡ z → IsGood field place number end
       go true f =
-          let g : Number (says field) place ≡ Number number end = rw f at e in
-          record { is = f; value_is = cc; behind = cc }
+          let g : ◌≡◌ {A = Option Field} (Some (record { number = says field; end = place })) (Some (record { number = number; end = end })) = rw f at e in
+          let same = same_Some _ _ g in
+          record { is = f; value_is = ap (λ (field : Field). field.number) (sym same); behind = ap (λ (field : Field). field.end) (sym same) }
       go false f =
-          let g : Broken ≡ Number number end = rw f at e in
+          let g : ◌≡◌ {A = Option Field} None (Some (record { number = number; end = end })) = rw f at e in
           let z : ◌≡◌ {A = ℕ} 0 1 = cc in
           absurd (omega arith)
 
-  pub field_broken : (field : List ℕ) (place : ℕ) → field_read test says field place ≡ Broken → test field ≡ false
+  pub field_broken : (field : List ℕ) (place : ℕ) → field_read test says field place ≡ None → test field ≡ false
   unfolding field_read
   field_broken field place e = go (test field) refl
     where
       go : (z : Bool) → test field ≡ z → z ≡ false
       go true f =
-          let g : Number (says field) place ≡ Broken = rw f at e in
+          let g : ◌≡◌ {A = Option Field} (Some (record { number = says field; end = place })) None = rw f at e in
           let z : ◌≡◌ {A = ℕ} 0 1 = cc in
           absurd (omega arith)
       go false f = refl
@@ -94,14 +97,14 @@ module _ (test : List ℕ → Bool) (says : List ℕ → ℕ) where
     next : room - count ≡ suc (room - (count + 1))
     next = omega arith
 
-    pub reading_breaks : field_at test says text at ≡ Broken → fields_good test room (fields_after [] text) ≡ false
+    pub reading_breaks : field_at test says text at ≡ None → fields_good test room (fields_after [] text) ≡ false
     unfolding field_at
     reading_breaks e =
         r.good
         ∙ rw (fields_head [] ahead)
         (bad_first (room - count) field (drop 1 (fields_after [] ahead)) (field_broken field (at + length field) e))
 
-    module _ (number end : ℕ) (e : field_at test says text at ≡ Number number end) where
+    module _ (number end : ℕ) (e : field_at test says text at ≡ Some (record { number = number; end = end })) where
       here : IsGood field (at + length field) number end
       unfolding field_at
       here = field_good field (at + length field) number end e

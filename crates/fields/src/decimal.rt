@@ -21,16 +21,14 @@ pub fn goes_on(count: usize, value: u32) -> bool
 pub fn digit_count(number: u64) -> usize
     ensures { (result ≡ length (decimal number)) × (result ≤ 20) }
 {
-    let mut count = 1;
     let mut left = number;
-    while count < 20 {
+    for count in 1..20 {
         if left < 10 {
             return count;
         }
-        left = left / 10;
-        count += 1;
+        left /= 10;
     }
-    count
+    20
 }
 
 // The number's last digit as a byte.
@@ -48,11 +46,9 @@ pub fn put_number(out: &mut [u8], number: u64) -> usize
 {
     let count = digit_count(number);
     let mut left = number;
-    let mut at = count;
-    while 0 < at {
-        at -= 1;
-        out[at] = last_digit(left);
-        left = left / 10;
+    for place in (0..count).rev() {
+        out[place] = last_digit(left);
+        left /= 10;
     }
     count
 }

@@ -1,95 +1,78 @@
 // Fields parted by tabs: counted, read as numbers one after the other, and read behind the opening of a line.
 ghost use Rattle.std.specs.Prelude.{◌≡◌, [], ◌≤◌, length};
 ghost use Rattle.fields.specs.Fields.{fields_after};
-ghost use Rattle.fields.specs.code.Reading.{tab_in, ended_at, number_at, opens, NumbersRead, LineRead};
+ghost use Rattle.fields.specs.code.Reading.{ended_at, number_at, opens, NumbersRead, LineRead, numbers_said, line_said};
 
-use crate::{decimal, parts};
+use crate::decimal;
 
-// A field read: its number and the place behind it, or no number.
+// A field read: its number, and the place behind it.
 #[derive(Clone, Copy)]
-pub enum Field {
-    Number(u16, usize),
-    Broken,
-}
-
-// 1 for a tab, 0 for any other byte.
-fn tab(byte: u8) -> usize
-    ensures { (result ≡ tab_in byte) × (result ≤ 1) }
-{
-    if byte == 9 {
-        return 1;
-    }
-    0
+pub struct Field {
+    pub number: u16,
+    pub end: usize,
 }
 
 // How many fields there are: one more than tabs.
 pub fn field_count(text: &[u8]) -> usize
     ensures { result ≡ length (fields_after [] text.now) }
 {
-    let mut tabs = 0;
-    let mut at = 0;
-    while at < text.len() {
-        tabs += tab(text[at]);
-        at += 1;
-    }
-    tabs + 1
+    text.iter().filter(|byte| **byte == b'\t').count() + 1
 }
 
 // The number that so many digits of this value say, with the place behind them.
-fn ended(count: usize, value: u32, end: usize) -> Field
+fn ended(count: usize, value: u32, end: usize) -> Option<Field>
     ensures { result ≡ ended_at count value end }
 {
     if count == 0 {
-        return Field::Broken;
+        return None;
     }
     if 65535 < value {
-        return Field::Broken;
+        return None;
     }
-    Field::Number(value as u16, end)
+    Some(Field {
+        number: value as u16,
+        end: end,
+    })
 }
 
 // The field that begins at this place.
-pub fn read_number(text: &[u8], at: usize) -> Field
+pub fn read_number(text: &[u8], at: usize) -> Option<Field>
     requires { at ≤ length text.now }
     ensures { result ≡ number_at text.now at }
 {
     let mut value: u32 = 0;
-    let mut end = at;
-    while end < text.len() {
-        let byte = text[end];
-        match byte {
-            9 => return ended(end - at, value, end),
-            // a line has one LF, its last byte, and that is no part of the text
-            10 => return Field::Broken,
-            48..=57 => {
-                if !decimal::goes_on(end - at, value) {
-                    return Field::Broken;
+    for (count, byte) in text[at..].iter().enumerate() {
+        match *byte {
+            b'\t' => return ended(count, value, at + count),
+            b'0'..=b'9' => {
+                if !decimal::goes_on(count, value) {
+                    return None;
                 }
-                value = 10 * value + ((byte - 48) as u32);
+                value = 10 * value + u32::from(*byte - b'0');
             }
-            _ => return Field::Broken,
+            // a line has one LF, its last byte, and that is no part of the text
+            _ => return None,
         }
-        end += 1;
     }
-    ended(end - at, value, end)
+    ended(text.len() - at, value, text.len())
 }
 
 // The text is as many numbers as there is room for, and they are put there.
+// A yes or no: what is read stands in the lent room, and an Option would hold nothing.
 pub fn read_numbers(text: &[u8], numbers: &mut [u16]) -> bool
     ensures { NumbersRead (fields_after [] text.now) (length numbers.old) numbers.new result }
 {
+    let room = numbers.len();
     let mut at = 0;
-    let mut count = 0;
-    while count < numbers.len() {
-        let Field::Number(number, end) = read_number(text, at) else {
+    for (count, place) in numbers.iter_mut().enumerate() {
+        let Some(field) = read_number(text, at) else {
             return false;
         };
-        numbers[count] = number;
-        count += 1;
-        if end == text.len() {
-            return count == numbers.len();
+        *place = field.number;
+        if field.end == text.len() {
+            return count + 1 == room;
         }
-        at = end + 1;
+        at = field.end + 1;
     }
     false
 }
@@ -102,10 +85,11 @@ pub fn opens(line: &[u8], opening: &[u8]) -> bool
     if line.len() <= front {
         return false;
     }
-    parts::same_bytes(&line[..front], opening)
+    &line[..front] == opening
 }
 
 // The line, LF included, is this opening and then as many numbers as there is room for, and they are put there.
+// A yes or no: what is read stands in the lent room, and an Option would hold nothing.
 pub fn read_line(line: &[u8], opening: &[u8], numbers: &mut [u16]) -> bool
     ensures { LineRead opening.now line.now (length numbers.old) numbers.new result }
 {
@@ -115,4 +99,28 @@ pub fn read_line(line: &[u8], opening: &[u8], numbers: &mut [u16]) -> bool
     let front = opening.len();
     let end = line.len() - 1;
     read_numbers(&line[front..end], numbers)
+}
+
+// The numbers that the text is, where it is so many.
+pub fn numbers_of<const N: usize>(text: &[u8]) -> Option<[u16; N]>
+    ensures { result ≡ numbers_said N (fields_after [] text.now) }
+{
+    let mut numbers = [0u16; N];
+    if read_numbers(text, &mut numbers) {
+        Some(numbers)
+    } else {
+        None
+    }
+}
+
+// The numbers that the line, LF included, says behind this opening, where they are so many.
+pub fn line_numbers<const N: usize>(line: &[u8], opening: &[u8]) -> Option<[u16; N]>
+    ensures { result ≡ line_said N opening.now line.now }
+{
+    let mut numbers = [0u16; N];
+    if read_line(line, opening, &mut numbers) {
+        Some(numbers)
+    } else {
+        None
+    }
 }

@@ -7,17 +7,7 @@ ghost use Rattle.lists.specs.Written.{written_at};
 pub fn same_bytes(a: &[u8], b: &[u8]) -> bool
     ensures { result ≡ alike a.now b.now }
 {
-    if a.len() != b.len() {
-        return false;
-    }
-    let mut at = 0;
-    while at < a.len() {
-        if a[at] != b[at] {
-            return false;
-        }
-        at += 1;
-    }
-    true
+    a == b
 }
 
 // The bytes written at this place; the place after them.
@@ -26,10 +16,7 @@ pub fn put_bytes(out: &mut [u8], at: usize, bytes: &[u8]) -> usize
     ensures value { result ≡ at + length bytes.now }
     ensures out_after { out.new ≡ written_at at bytes.now out.old }
 {
-    let mut done = 0;
-    while done < bytes.len() {
-        out[at + done] = bytes[done];
-        done += 1;
-    }
-    at + done
+    let end = at + bytes.len();
+    out[at..end].copy_from_slice(bytes);
+    end
 }

@@ -1,4 +1,5 @@
 -- "HATT and every accepted resume": a call that is done has made n lawful merges, and its rows and weight are theirs.
+use Rattle.std.specs.Prelude.{Ok}
 use mathlib.Core.Path.{◌≡◌, ap, ◌∙◌}
 use mathlib.Core.Bool.{true}
 use mathlib.Core.List.{List}
@@ -16,7 +17,6 @@ use Rattle.terms.specs.Rules.{rule_of}
 use Rattle.terms.specs.Job.{job_of}
 use Rattle.terms.specs.Rows.{terms_of}
 use Rattle.terms.specs.Good.{modes_good, good_term, checked}
-use Rattle.terms.specs.declared.checking.Checked.TheVariants.{Good}
 use Rattle.terms.proofs.RowSteps.{length_terms}
 use Rattle.terms.proofs.GoodTerms.{good_term_says, accepted}
 use Rattle.history.specs.Run.{run_weight}
@@ -35,7 +35,7 @@ use Rattle.finished.proofs.GreedyBound.{greedy_at_most_tree}
 
 pub record Finishes (modes : ℕ) (rule : Rule) (numbers : List ℕ) (part : Ending) : Type 0 where
   pub count : ℕ
-  pub terms_are : checked modes numbers ≡ Good count
+  pub terms_are : checked modes numbers ≡ Ok count
   pub history : List Triple
   pub merges : AllMerged modes history
   pub count_is : part.count ≡ count
@@ -71,14 +71,14 @@ every_finish rooms most modes rule numbers bytes part says few small =
     rw known.rows_are (lawful_finishes most modes known.history known.merges few)
 
 -- Terms that a call took have their indices below 2n.
-taken_below : (modes : ℕ) (rule : Rule) (count : ℕ) (numbers : List ℕ) → checked modes numbers ≡ Good count → indices_below (job_of modes rule count numbers) ≡ true
+taken_below : (modes : ℕ) (rule : Rule) (count : ℕ) (numbers : List ℕ) → checked modes numbers ≡ Ok count → indices_below (job_of modes rule count numbers) ≡ true
 taken_below modes rule count numbers good =
     every_also (good_term (2 * modes)) (every (λ index. ltb index (2 * modes)))
     (λ term e. (good_term_says (2 * modes) term e).below) (terms_of row_width count numbers) (accepted modes numbers count good).good
 
 -- Rows and a weight that are those of n lawful merges.
 merges_at_most : (most modes : ℕ) (rule : Rule) (count : ℕ) (numbers rows : List ℕ) (greedy : ℕ) (history : List Triple) → AllMerged modes history → modes ≤ most
-    → checked modes numbers ≡ Good count → DifferentOperators modes (terms_of row_width count numbers)
+    → checked modes numbers ≡ Ok count → DifferentOperators modes (terms_of row_width count numbers)
     → rows ≡ flatpack modes history → greedy ≡ run_weight (job_of modes rule count numbers) history → AtMostTree most modes rows numbers greedy
 unfolding tree_weighed weighed_tree weighed_terms
 merges_at_most most modes rule count numbers rows greedy history merges few good different rows_are weight_is =

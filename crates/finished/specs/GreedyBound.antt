@@ -1,5 +1,5 @@
 -- "where no two terms have the same surviving indices, greedy weight is at most W-203's tree weight, for both rules of W-209".
-use Rattle.std.specs.Prelude.{◌≡◌, Bool, true, List, ℕ, ◌*◌, ◌≤◌, ltb}
+use Rattle.std.specs.Prelude.{◌≡◌, Bool, true, List, ℕ, ◌*◌, ◌≤◌, ltb, Ok}
 use Rattle.lists.specs.Members.{every}
 use Rattle.entities.specs.Codes.{absent}
 use Rattle.entities.specs.Limits.{row_width}
@@ -9,7 +9,6 @@ use Rattle.terms.specs.Rows.{terms_of}
 use Rattle.history.specs.Run.{run_weight}
 use Rattle.journal.specs.Resuming.{Ending, done, Rooms, resumed}
 use Rattle.tree.specs.Laying.{laid}
-use Rattle.tree_weight.specs.declared.TreeWeighed.TheVariants.{Weight}
 use Rattle.tree_weight.specs.Weight.{listed_weight, tree_weight, tree_weighed}
 use Rattle.tree_weight.specs.CountedOnce.{DifferentOperators}
 use Rattle.finished.specs.Finished.{AllMerged, tree_of}
@@ -33,7 +32,7 @@ GreedyAtMostTree =
 -- A weight is at most what `tree_weight` answers of the rows, laid out, and the terms.
 pub record AtMostTree (most modes : ℕ) (rows numbers : List ℕ) (greedy : ℕ) : Type 0 where
   pub weight : ℕ
-  pub weighed : tree_weighed most modes (laid modes rows) numbers ≡ Weight weight
+  pub weighed : tree_weighed most modes (laid modes rows) numbers ≡ Ok weight
   pub at_most : greedy ≤ weight
 
 -- The sentence, of "HATT and every accepted resume", "for both rules".

@@ -20,7 +20,7 @@ use Rattle.terms.specs.Job.{Job}
 use Rattle.reduction.specs.Reduction.{sorted, rewriting, dropped, is_there}
 use Rattle.reduction.specs.Counts.{gone, added, put_behind, rewritten, reduced_behind, counted_reduction}
 use Rattle.reduction.proofs.AsTold.{is_there_so}
-use Rattle.reduction.proofs.Sorting.{length_rewriting}
+use Rattle.reduction.proofs.SortedRight.{length_rewriting}
 use Rattle.history.specs.History.{next_parent}
 use Rattle.history.specs.Drops.{counted_after, drops, LiveAddUp}
 use Rattle.history.proofs.DropsAddUp.{add_up}

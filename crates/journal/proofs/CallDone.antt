@@ -1,4 +1,5 @@
 -- What is known when resuming is done: every test passed, and the answer is the end of the run from the journal's history.
+use Rattle.std.specs.Prelude.{Err, Ok, Result}
 use mathlib.Core.Path.{◌≡◌, refl}
 use mathlib.Core.Bool.{Bool, true, false}
 use mathlib.Core.List.{List}
@@ -13,8 +14,6 @@ use Rattle.terms.specs.declared.rules.Rule.{Rule}
 use Rattle.terms.specs.Rules.{rule_good, rule_of}
 use Rattle.terms.specs.Job.{job_of}
 use Rattle.terms.specs.Good.{modes_good, checked}
-use Rattle.terms.specs.declared.checking.Checked.{Checked}
-use Rattle.terms.specs.declared.checking.Checked.TheVariants.{Good, Refused as BadTerms}
 use Rattle.obeying.specs.Obeying.{Obeyed, went, refused, obeyed}
 use Rattle.journal.specs.Resuming.{Ending, done, refuses, ending, with_journal, Rooms, roomy, with_terms, resumed}
 
@@ -35,7 +34,7 @@ rooms_fit rooms modes count work rows journal drops = rw (le-leb _ _ work, le-le
 
 -- With room for all, the journal decides.
 pub with_room : (rooms : Rooms) (modes : ℕ) (rule : Rule) (numbers bytes : List ℕ) (count : ℕ) → roomy rooms modes count ≡ true
-    → with_terms rooms modes rule numbers bytes (Good count)
+    → with_terms rooms modes rule numbers bytes (Ok count)
     ≡ with_journal (job_of modes rule count numbers) bytes (obeyed (job_of modes rule count numbers) bytes)
 unfolding with_terms
 with_room rooms modes rule numbers bytes count room = rw room
@@ -45,7 +44,7 @@ module _ (rooms : Rooms) (modes rule : ℕ) (numbers bytes : List ℕ) where
     pub count : ℕ
     pub modes_are : modes_good rooms.modes modes ≡ true
     pub rule_is : rule_good rule ≡ true
-    pub terms_are : checked modes numbers ≡ Good count
+    pub terms_are : checked modes numbers ≡ Ok count
     pub rooms_are : roomy rooms modes count ≡ true
     pub history : List Triple
     pub obeys : obeyed (job_of modes (rule_of rule) count numbers) bytes ≡ went history
@@ -55,7 +54,7 @@ module _ (rooms : Rooms) (modes rule : ℕ) (numbers bytes : List ℕ) where
   not_done refusal part e = let z : ◌≡◌ {A = ℕ} 0 1 = cc in absurd (omega arith)
 
   module _ (part : Ending) where
-    from_journal : (count : ℕ) → modes_good rooms.modes modes ≡ true → rule_good rule ≡ true → checked modes numbers ≡ Good count → roomy rooms modes count ≡ true
+    from_journal : (count : ℕ) → modes_good rooms.modes modes ≡ true → rule_good rule ≡ true → checked modes numbers ≡ Ok count → roomy rooms modes count ≡ true
         → with_journal (job_of modes (rule_of rule) count numbers) bytes (obeyed (job_of modes (rule_of rule) count numbers) bytes) ≡ done part → CallDone part
     unfolding with_journal
     from_journal count m u t r says = go (obeyed (job_of modes (rule_of rule) count numbers) bytes) refl says
@@ -66,15 +65,15 @@ module _ (rooms : Rooms) (modes rule : ℕ) (numbers bytes : List ℕ) where
             record { count = count; modes_are = m; rule_is = u; terms_are = t; rooms_are = r; history = history; obeys = e; ends = cc }
         go (refused made refusal) e f = not_done refusal part f
 
-    from_terms : (found : Checked) → modes_good rooms.modes modes ≡ true → rule_good rule ≡ true → checked modes numbers ≡ found
+    from_terms : (found : Result ℕ Refusal) → modes_good rooms.modes modes ≡ true → rule_good rule ≡ true → checked modes numbers ≡ found
         → with_terms rooms modes (rule_of rule) numbers bytes found ≡ done part → CallDone part
     unfolding with_terms
-    from_terms (Good count) m u t says = go (roomy rooms modes count) refl
+    from_terms (Ok count) m u t says = go (roomy rooms modes count) refl
       where
         go : (b : Bool) → roomy rooms modes count ≡ b → CallDone part
         go true r = from_journal count m u t r (rw r at says)
         go false r = not_done _ part (rw r at says)
-    from_terms (BadTerms refusal) m u t says = not_done refusal part says
+    from_terms (Err refusal) m u t says = not_done refusal part says
 
     pub call_done : resumed rooms modes rule numbers bytes ≡ done part → CallDone part
     unfolding resumed
@@ -87,7 +86,7 @@ module _ (rooms : Rooms) (modes rule : ℕ) (numbers bytes : List ℕ) where
 
 -- Where every test passes, a journal that is obeyed leads to the end of a run.
 pub done_in : (rooms : Rooms) (modes rule count : ℕ) (numbers bytes : List ℕ) (history : List Triple) → modes_good rooms.modes modes ≡ true
-    → rule_good rule ≡ true → checked modes numbers ≡ Good count → roomy rooms modes count ≡ true
+    → rule_good rule ≡ true → checked modes numbers ≡ Ok count → roomy rooms modes count ≡ true
     → obeyed (job_of modes (rule_of rule) count numbers) bytes ≡ went history
     → resumed rooms modes rule numbers bytes ≡ done (ending (job_of modes (rule_of rule) count numbers) bytes history)
 unfolding resumed with_terms with_journal

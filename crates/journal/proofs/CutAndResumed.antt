@@ -1,4 +1,5 @@
 -- Demand 3: the journal of a call that is done, cut after any byte that isn't before the end of what it kept, resumes to the same end.
+use Rattle.std.specs.Prelude.{Ok}
 use mathlib.Core.Path.{◌≡◌, ap, ◌∙◌, sym}
 use mathlib.Core.Bool.{true}
 use mathlib.Core.List.{List, [], ◌++◌, flat_map}
@@ -15,7 +16,6 @@ use Rattle.fields.specs.Lines.{lines, lines_after, kept_of}
 use Rattle.terms.specs.Rules.{rule_good, rule_of}
 use Rattle.terms.specs.Job.{Job, job_of}
 use Rattle.terms.specs.Good.{modes_good, checked}
-use Rattle.terms.specs.declared.checking.Checked.TheVariants.{Good}
 use Rattle.terms.proofs.RowSteps.{length_terms}
 use Rattle.terms.proofs.GoodTerms.{accepted}
 use Rattle.history.specs.Run.{run_weight}
@@ -57,7 +57,7 @@ module _ (job : Job) (few : 3 * job.modes ≤ 65535) (light : length job.terms �
   cut_anywhere = ⊎_elim from_nothing (λ some. from_lines (omega arith)) (same_or_not (length (lines bytes)) 0)
 
 -- The end of a run from a journal that is obeyed to another history of it.
-module _ (other : Rooms) (modes rule count : ℕ) (numbers bytes : List ℕ) (history : List Triple) (named : rule_good rule ≡ true) (good : checked modes numbers ≡ Good count)
+module _ (other : Rooms) (modes rule count : ℕ) (numbers bytes : List ℕ) (history : List Triple) (named : rule_good rule ≡ true) (good : checked modes numbers ≡ Ok count)
     (fits : Suffice other modes (ending (job_of modes (rule_of rule) count numbers) bytes history))
     (obeys : obeyed (job_of modes (rule_of rule) count numbers) bytes ≡ went history) (cut : ℕ) (behind : length (kept_of bytes) ≤ cut) where
   abbrev job : Job

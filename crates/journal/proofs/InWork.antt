@@ -1,4 +1,7 @@
 -- A run's rows put at the front of the lent work: the run is finished there, and the zeros cover them.
+use Rattle.std.specs.Prelude.{Result}
+use Rattle.journal.specs.declared.resuming.Numbers.{Numbers}
+use Rattle.refusal.specs.declared.Refusal.{Refusal}
 use mathlib.Core.Path.{◌≡◌, ap, ◌∙◌}
 use mathlib.Core.List.{List}
 use Prim.Native.Nat.{ℕ, ◌*◌, ◌≤◌}
@@ -11,7 +14,6 @@ use Rattle.terms.specs.Job.{Job}
 use Rattle.merging.specs.declared.run.Run.{Run}
 use Rattle.merging.specs.code.State.{history_of}
 use Rattle.merging.proofs.Runs.{rows_room, moved}
-use Rattle.journal.specs.declared.resuming.Answer.{Answer}
 use Rattle.journal.specs.Resuming.{done, ending}
 use Rattle.journal.specs.Promises.{Lent, lent, rooms_of, lent_then, Answers}
 use Rattle.journal.specs.code.Finishing.{FromOwn, Finishing}
@@ -52,7 +54,7 @@ module _ (job : Job) (run : Run) (modes count : ℕ) (own : List ℕ) (given : L
         rw (length-replicate, written)
         (drop_written 0 front given.work (omega (arith, front_fits)) (9 * length job.terms) (omega (arith, front_length, from.sized.count_is)))
 
-    pub answers_lent : (bytes : List ℕ) (after : Lent) (r : Answer)
+    pub answers_lent : (bytes : List ℕ) (after : Lent) (r : Result Numbers Refusal)
         → Answers (λ any. done (ending job bytes (history_of run))) (lent put given.rows given.journal given.drops) after r
         → Answers (λ any. done (ending job bytes (history_of run))) given after r
     unfolding lent_then ending

@@ -1,4 +1,5 @@
 -- A line that a run writes is obeyed: it says the next step, a lawful triple of open entities and the weight that the triple has.
+use Rattle.std.specs.Prelude.{Some}
 use mathlib.Core.Path.{◌≡◌, refl}
 use mathlib.Core.Bool.{true, false}
 use mathlib.Core.List.{List, ◌∷◌}
@@ -20,7 +21,6 @@ use Rattle.history.proofs.LawfulTest.{lawful_test}
 use Rattle.history.proofs.RowsAfter.{weight_in_most}
 use Rattle.history.proofs.RunLawful.{chosen_lawful}
 use Rattle.obeying.specs.declared.merge_line.MergeLine.{MergeLine}
-use Rattle.obeying.specs.declared.merge_line.Merge.TheVariants.{Is as MergeIs}
 use Rattle.obeying.specs.LineForms.{merge_of_line}
 use Rattle.obeying.specs.Obeying.{went, judged_merge, judged_form, judged_line, obeyed_as, obeyed_next, obeyed_lines}
 use Rattle.journal.specs.Writing.{line_of}
@@ -41,7 +41,7 @@ module _ (job : Job) where
       abbrev says : MergeLine
       says = record { step = length history; triple = merge; weight = weight_in job history merge }
 
-      pub line_read : merge_of_line (line_of job history merge) ≡ MergeIs says
+      pub line_read : merge_of_line (line_of job history merge) ≡ Some says
       unfolding line_of
       line_read =
           merge_read says (omega arith) (omega (arith, open_within job.modes history merge.x left lawful.x_open))

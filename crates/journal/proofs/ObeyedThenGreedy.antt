@@ -1,4 +1,5 @@
 -- Demands 2 and 3: a call that is done obeyed its journal's lines in order, and the greedy rule went on from there to n merges.
+use Rattle.std.specs.Prelude.{Ok}
 use mathlib.Core.Path.{◌≡◌, refl, ap, ◌∙◌, sym}
 use mathlib.Core.List.{List, ◌++◌, flat_map}
 use Prim.Native.Nat.{ℕ, zero, suc, ◌-◌, ◌≤◌}
@@ -14,7 +15,6 @@ use Rattle.terms.specs.declared.rules.Rule.{Rule}
 use Rattle.terms.specs.Rules.{rule_of}
 use Rattle.terms.specs.Job.{Job, job_of}
 use Rattle.terms.specs.Good.{modes_good, checked}
-use Rattle.terms.specs.declared.checking.Checked.TheVariants.{Good}
 use Rattle.history.specs.History.{merge_of, history_before}
 use Rattle.history.specs.computed.Greedy.{finished}
 use Rattle.history.proofs.RunLawful.{finished_length}
@@ -38,7 +38,7 @@ joined_lines line from zero = refl
 joined_lines line from (suc count) = ap (λ l. line from ++ l) (joined_lines line (suc from) count)
 
 -- The end of a run from the merges that a journal says.
-module _ (modes : ℕ) (rule : Rule) (count : ℕ) (numbers bytes : List ℕ) (good : checked modes numbers ≡ Good count) (some : 1 ≤ modes) (history : List Triple)
+module _ (modes : ℕ) (rule : Rule) (count : ℕ) (numbers bytes : List ℕ) (good : checked modes numbers ≡ Ok count) (some : 1 ≤ modes) (history : List Triple)
     (obeys : obeyed (job_of modes rule count numbers) bytes ≡ went history) where
   abbrev job : Job
   job = job_of modes rule count numbers

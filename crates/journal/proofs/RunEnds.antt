@@ -1,4 +1,7 @@
 -- A run that went on to its end: what it writes, and the answer that the call then gives.
+use Rattle.refusal.specs.declared.Refusal.{Refusal}
+use Rattle.journal.specs.declared.resuming.Numbers.{Numbers}
+use Rattle.std.specs.Prelude.{Ok, Result}
 use mathlib.Core.Path.{◌≡◌, ap, ◌∙◌, sym}
 use mathlib.Core.List.{List}
 use Prim.Native.Nat.{ℕ, ◌+◌, ◌-◌, ◌*◌, ◌<◌, ◌≤◌}
@@ -20,7 +23,6 @@ use Rattle.merging.specs.declared.run.Run.{Run}
 use Rattle.merging.specs.code.State.{history_of}
 use Rattle.merging.specs.code.Runs.{Holds, Went}
 use Rattle.merging.proofs.Runs.{merges_within, merges_lawful}
-use Rattle.journal.specs.declared.resuming.Answer.TheVariants.{Done}
 use Rattle.journal.specs.computed.NewText.{new_text}
 use Rattle.journal.specs.Resuming.{done, ending}
 use Rattle.journal.specs.Promises.{lent, Answers, returned, lent_then}
@@ -82,7 +84,7 @@ module _ (job : Job) (work now_work : List ℕ) (run after : Run) (holds : Holds
         → end_work ≡ written_at 0 (replicate (9 * count) 0) now_work
         → total ≡ trial_total (modes - from)
         → Answers (λ given. done (ending job bytes (history_of run))) (lent work rows journal drops) (lent end_work end_rows end_journal end_drops)
-        (Done (record { weight = weight; trials = total; kept = kept; new = new }))
+        (Ok (record { weight = weight; trials = total; kept = kept; new = new }))
     unfolding ending returned lent_then
     ends weight total kept new bytes rows journal drops end_work end_rows end_journal end_drops kept_is weighs rows_put lines_put drops_put work_put totalled =
         let text : noted_behind job kept (history_of after) from ≡ new_text job (length (kept_of bytes)) (history_of run) =
@@ -94,7 +96,7 @@ module _ (job : Job) (work now_work : List ℕ) (run after : Run) (holds : Holds
         (drops_put ∙ ap (λ h. written_at 0 (drops_of job h) drops) gone.merges))
       where
         same_answer : {a b c d e f g h : ℕ} → a ≡ b → c ≡ d → e ≡ f → g ≡ h
-            → Done (record { weight = a; trials = c; kept = e; new = g }) ≡ Done (record { weight = b; trials = d; kept = f; new = h })
+            → ◌≡◌ {A = Result Numbers Refusal} (Ok (record { weight = a; trials = c; kept = e; new = g })) (Ok (record { weight = b; trials = d; kept = f; new = h }))
         same_answer p q r s = rw (p, q, r, s)
 
         same_lent : {a b c d e f g h : List ℕ} → a ≡ b → c ≡ d → e ≡ f → g ≡ h → lent a c e g ≡ lent b d f h

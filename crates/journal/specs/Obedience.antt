@@ -1,5 +1,5 @@
 -- "From any other accepted journal the lines are obeyed in order and the greedy rule goes on. The trials reported are exactly the lawful pairs of the steps not kept."
-use Rattle.std.specs.Prelude.{◌≡◌, ℕ, ◌-◌, length}
+use Rattle.std.specs.Prelude.{◌≡◌, ℕ, ◌-◌, length, Ok}
 use mathlib.Core.List.{List, ◌++◌, flat_map}
 use Rattle.lists.specs.Ranges.{listed}
 use Rattle.entities.specs.declared.Triple.{Triple}
@@ -8,7 +8,6 @@ use Rattle.terms.specs.declared.rules.Rule.{Rule}
 use Rattle.terms.specs.Rules.{rule_of}
 use Rattle.terms.specs.Job.{job_of}
 use Rattle.terms.specs.Good.{checked}
-use Rattle.terms.specs.declared.checking.Checked.TheVariants.{Good}
 use Rattle.history.specs.History.{merge_of, history_before}
 use Rattle.history.specs.Run.{run_weight, RunsFrom}
 use Rattle.history.specs.Drops.{drops}
@@ -22,7 +21,7 @@ use Rattle.journal.specs.Resuming.{Ending, done, Rooms, resumed}
 -- every number, row and byte of its answer read off them.
 pub record ObeyedThenGreedy (modes : ℕ) (rule : Rule) (numbers bytes : List ℕ) (part : Ending) : Type 0 where
   pub count : ℕ
-  pub terms_good : checked modes numbers ≡ Good count
+  pub terms_good : checked modes numbers ≡ Ok count
   pub history : List Triple
   pub obedient : Obedient (job_of modes rule count numbers) (lines bytes) history
   pub merges : List Triple

@@ -1,22 +1,22 @@
 -- What `hatt` and `resume` promise: the numbers they return, and every element of what is lent after the call.
-use Rattle.std.specs.Prelude.{◌≡◌, List, [], ◌∷◌, ℕ, ◌*◌, length, replicate}
+use Rattle.journal.specs.declared.resuming.Numbers.{Numbers}
+use Rattle.refusal.specs.declared.Refusal.{Refusal}
+use Rattle.std.specs.Prelude.{◌≡◌, List, [], ◌∷◌, ℕ, ◌*◌, length, replicate, Err, Ok, Result}
 use Rattle.lists.specs.Written.{written_at}
 use Rattle.refusal.specs.Numbers.{refused_numbers, done_numbers}
 use Rattle.entities.specs.Limits.{work_width}
-use Rattle.journal.specs.declared.resuming.Answer.{Answer}
-use Rattle.journal.specs.declared.resuming.Answer.TheVariants.{Done, Refused as Refuses}
 use Rattle.journal.specs.Resuming.{Outcome, done, refuses, Rooms}
 
 -- "Resuming returns …, weight, trials, kept bytes (through the last LF) and new bytes"; a refusal "its number and a place, zeros elsewhere".
-unfoldable pub numbers_of : Answer → List ℕ
-numbers_of (Done numbers) = done_numbers (numbers.weight ∷ (numbers.trials ∷ (numbers.kept ∷ (numbers.new ∷ []))))
-numbers_of (Refuses refusal) = refused_numbers 4 refusal
+unfoldable pub numbers_of : Result Numbers Refusal → List ℕ
+numbers_of (Ok numbers) = done_numbers (numbers.weight ∷ (numbers.trials ∷ (numbers.kept ∷ (numbers.new ∷ []))))
+numbers_of (Err refusal) = refused_numbers 4 refusal
 
 -- What the call returns.
-unfoldable pub returned : Outcome → Answer
+unfoldable pub returned : Outcome → Result Numbers Refusal
 returned (done ending) =
-    Done (record { weight = ending.weight; trials = ending.trials; kept = ending.kept; new = length ending.new })
-returned (refuses refusal) = Refuses refusal
+    Ok (record { weight = ending.weight; trials = ending.trials; kept = ending.kept; new = length ending.new })
+returned (refuses refusal) = Err refusal
 
 -- What is lent to a call: every element of work, rows, journal and drops.
 pub record Lent : Type 0 where
@@ -51,7 +51,7 @@ lent_then (done ending) given = record {
 lent_then (refuses refusal) given = given
 
 -- The answer of the meaning and its numbers, and every element of what was lent after the call.
-pub record Answers (meant : Lent → Outcome) (before after : Lent) (r : Answer) : Type 0 where
+pub record Answers (meant : Lent → Outcome) (before after : Lent) (r : Result Numbers Refusal) : Type 0 where
   pub answer : r ≡ returned (meant before)
   pub numbers : numbers_of r ≡ numbers_of (returned (meant before))
   pub leaves : after ≡ lent_then (meant before) before

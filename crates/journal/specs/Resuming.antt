@@ -1,5 +1,5 @@
 -- "Resuming returns rows, weight, trials, kept bytes (through the last LF) and new bytes"; "The order is by number for HATT and resume, except that the first bad journal line wins".
-use Rattle.std.specs.Prelude.{Bool, cond, not, ◌&&◌, List, [], ℕ, ◌+◌, ◌-◌, ◌*◌, leb, length}
+use Rattle.std.specs.Prelude.{Bool, cond, not, ◌&&◌, List, [], ℕ, ◌+◌, ◌-◌, ◌*◌, leb, length, Err, Ok, Result}
 use Rattle.refusal.specs.declared.Refusal.{Refusal}
 use Rattle.refusal.specs.declared.Refusal.TheVariants.{Modes, Room, Rule as NoRule}
 use Rattle.entities.specs.declared.Triple.{Triple}
@@ -9,8 +9,6 @@ use Rattle.terms.specs.declared.rules.Rule.{Rule}
 use Rattle.terms.specs.Rules.{rule_good, rule_of}
 use Rattle.terms.specs.Job.{Job, job_of}
 use Rattle.terms.specs.Good.{modes_good, checked}
-use Rattle.terms.specs.declared.checking.Checked.{Checked}
-use Rattle.terms.specs.declared.checking.Checked.TheVariants.{Good, Refused as BadTerms}
 use Rattle.history.specs.Run.{run_weight}
 use Rattle.history.specs.Drops.{drops}
 use Rattle.history.specs.computed.Greedy.{finished, trials}
@@ -66,11 +64,11 @@ roomy rooms modes count =
     && (leb (4 * modes) rooms.rows && (leb (16 + 21 * modes) rooms.journal && leb modes rooms.drops))
 
 -- 5: "any buffer below its room"; then the journal's lines.
-unfoldable pub with_terms : Rooms → ℕ → Rule → List ℕ → List ℕ → Checked → Outcome
-with_terms rooms modes rule numbers bytes (Good count) =
+unfoldable pub with_terms : Rooms → ℕ → Rule → List ℕ → List ℕ → Result ℕ Refusal → Outcome
+with_terms rooms modes rule numbers bytes (Ok count) =
     cond (not (roomy rooms modes count)) (refuses Room)
     (with_journal (job_of modes rule count numbers) bytes (obeyed (job_of modes rule count numbers) bytes))
-with_terms rooms modes rule numbers bytes (BadTerms refusal) = refuses refusal
+with_terms rooms modes rule numbers bytes (Err refusal) = refuses refusal
 
 -- The meaning of `resume`: from the rooms, the modes, the rule's number, the terms' numbers and the journal read. 20 is "checked after 1".
 unfoldable pub resumed : Rooms → ℕ → ℕ → List ℕ → List ℕ → Outcome

@@ -27,12 +27,9 @@ fn put_steps(run: Run, from: usize, journal: &mut [u8], start: usize) -> usize
     requires { (job : Job) × ((own : List ℕ) × StepsFit job own run from start (length journal.old)) }
     ensures { (job : Job) (own : List ℕ) → StepsFit job own run from start (length journal.old) → (result ≡ start + length (noted_from job (history_of run) from)) × (journal.new ≡ written_at start (noted_from job (history_of run) from) journal.old) }
 {
-    let all = asked::merges(run);
     let mut at = start;
-    let mut step = from;
-    while step < all {
+    for step in from..asked::merges(run) {
         at = put_step(run, step, journal, at);
-        step += 1;
     }
     at
 }

@@ -1,11 +1,10 @@
 // The calls `hatt` and `resume`: a journal obeyed, the run that goes on from it, and what it leaves in the lent slices.
-ghost use Rattle.std.specs.Prelude.{◌≡◌, true, List, ℕ, ◌≤◌, length};
+ghost use Rattle.std.specs.Prelude.{◌≡◌, true, List, ℕ, ◌≤◌, length, Ok};
 ghost use Rattle.entities.specs.Limits.{most_modes, most_terms};
 ghost use Rattle.fields.specs.Lines.{kept_of};
 ghost use Rattle.terms.specs.code.Held.{Spread};
 ghost use Rattle.terms.specs.Job.{Job, job_of};
 ghost use Rattle.terms.specs.Good.{checked};
-ghost use Rattle.terms.specs.declared.checking.Checked.TheVariants.{Good};
 ghost use Rattle.merging.specs.code.State.{history_of};
 ghost use Rattle.obeying.specs.Obeying.{obeyed};
 ghost use Rattle.journal.specs.Resuming.{done, ending, with_journal, roomy, with_terms, resumed, hatt_run};
@@ -17,11 +16,9 @@ use fields::lines;
 use history::trials;
 use merging::asked;
 use merging::run::Run;
-use obeying::Verdict;
 use refusal::Refusal;
-use terms::checking::Checked;
 use terms::rules::Rule;
-use terms::{checking, counted, row, rules, slices};
+use terms::{checking, counted, row, slices};
 
 // The four numbers of a run: greedy weight, trials, kept bytes and new bytes.
 #[derive(Clone, Copy)]
@@ -30,13 +27,6 @@ pub struct Numbers {
     pub trials: u64,
     pub kept: usize,
     pub new: usize,
-}
-
-// What a call answers.
-#[derive(Clone, Copy)]
-pub enum Answer {
-    Done(Numbers),
-    Refused(Refusal),
 }
 
 // The steps that are left, in the lent work, and then the rows, the drops, the new lines and the zeros; nothing can refuse any more.
@@ -49,7 +39,7 @@ fn finish_run(
     rows: &mut [u16],
     journal: &mut [u8],
     drops: &mut [u16],
-) -> Answer
+) -> Result<Numbers, Refusal>
     requires { (job : Job) × Finishing job run modes count (lent work.old rows.old journal.old drops.old) }
     ensures { (job : Job) (bytes : List ℕ) → Finishing job run modes count (lent work.old rows.old journal.old drops.old) → kept ≡ length (kept_of bytes) → Answers (λ given. done (ending job bytes (history_of run)))
         (lent work.old rows.old journal.old drops.old) (lent work.new rows.new journal.new drops.new) result }
@@ -60,7 +50,7 @@ fn finish_run(
     asked::put_drops(end, drops);
     let new = new_lines::write_new(end, modes, count, from, kept, journal);
     slices::clear_front(work, row::WORK_WIDTH * count);
-    Answer::Done(Numbers {
+    Ok(Numbers {
         weight: asked::greedy_weight(end) as u64,
         trials: trials::trial_total(modes - from),
         kept: kept,
@@ -79,7 +69,7 @@ fn finish_lent(
     rows: &mut [u16],
     journal: &mut [u8],
     drops: &mut [u16],
-) -> Answer
+) -> Result<Numbers, Refusal>
     requires { (job : Job) × FromOwn job run modes count own.now (lent work.old rows.old journal.old drops.old) }
     ensures { (job : Job) (bytes : List ℕ) → FromOwn job run modes count own.now (lent work.old rows.old journal.old drops.old) → kept ≡ length (kept_of bytes) → Answers (λ given. done (ending job bytes (history_of run)))
         (lent work.old rows.old journal.old drops.old) (lent work.new rows.new journal.new drops.new) result }
@@ -100,24 +90,16 @@ fn resume_own(
     rows: &mut [u16],
     journal: &mut [u8],
     drops: &mut [u16],
-) -> Answer
+) -> Result<Numbers, Refusal>
     requires le_modes { (1 ≤ modes) × (modes ≤ most_modes) × (count ≤ most_terms) }
     requires by_index { (numbers : List ℕ) × Spread count numbers own.old }
     requires count_value { roomy (rooms_of most_modes (lent work.old rows.old journal.old drops.old)) modes count ≡ true }
     ensures { (numbers : List ℕ) → Spread count numbers own.old → Answers (λ given. with_journal (job_of modes rule count numbers) read.now (obeyed (job_of modes rule count numbers) read.now))
         (lent work.old rows.old journal.old drops.old) (lent work.new rows.new journal.new drops.new) result }
 {
-    let found = obeying::obey(modes, rule, count, own, read);
-    let verdict = found.verdict;
-    match verdict {
-        Verdict::Refused(why) => Answer::Refused(why),
-        Verdict::Fine => {
-            let kept = lines::kept_bytes(read);
-            finish_lent(
-                found.run, modes, count, own, kept, work, rows, journal, drops,
-            )
-        }
-    }
+    let run = obeying::obey(modes, rule, count, own, read)?;
+    let kept = lines::kept_bytes(read);
+    finish_lent(run, modes, count, own, kept, work, rows, journal, drops)
 }
 
 // A run from good terms with room for all it writes: the journal is obeyed on rows of the call's own, so that a refusal alters nothing.
@@ -131,8 +113,8 @@ fn resume_copy(
     rows: &mut [u16],
     journal: &mut [u8],
     drops: &mut [u16],
-) -> Answer
-    requires le_modes { (1 ≤ modes) × (modes ≤ most_modes) × (checked modes terms.now ≡ Good count) }
+) -> Result<Numbers, Refusal>
+    requires le_modes { (1 ≤ modes) × (modes ≤ most_modes) × (checked modes terms.now ≡ Ok count) }
     requires count_value { roomy (rooms_of most_modes (lent work.old rows.old journal.old drops.old)) modes count ≡ true }
     ensures { Answers (λ given. with_journal (job_of modes rule count terms.now) read.now (obeyed (job_of modes rule count terms.now) read.now))
         (lent work.old rows.old journal.old drops.old) (lent work.new rows.new journal.new drops.new) result }
@@ -154,27 +136,28 @@ fn resume_good(
     rows: &mut [u16],
     journal: &mut [u8],
     drops: &mut [u16],
-) -> Answer
-    requires { (1 ≤ modes) × (modes ≤ most_modes) × (checked modes terms.now ≡ Good count) }
-    ensures { Answers (λ given. with_terms (rooms_of most_modes given) modes rule terms.now read.now (Good count))
+) -> Result<Numbers, Refusal>
+    requires { (1 ≤ modes) × (modes ≤ most_modes) × (checked modes terms.now ≡ Ok count) }
+    ensures { Answers (λ given. with_terms (rooms_of most_modes given) modes rule terms.now read.now (Ok count))
         (lent work.old rows.old journal.old drops.old) (lent work.new rows.new journal.new drops.new) result }
 {
     if work.len() < row::WORK_WIDTH * count {
-        return Answer::Refused(Refusal::Room);
+        return Err(Refusal::Room);
     }
     if rows.len() < 4 * modes {
-        return Answer::Refused(Refusal::Room);
+        return Err(Refusal::Room);
     }
     if journal.len() < 16 + 21 * modes {
-        return Answer::Refused(Refusal::Room);
+        return Err(Refusal::Room);
     }
     if drops.len() < modes {
-        return Answer::Refused(Refusal::Room);
+        return Err(Refusal::Room);
     }
     resume_copy(modes, rule, count, terms, read, work, rows, journal, drops)
 }
 
 // The run by this rule that a journal leads to, from its last complete line to the end.
+// By its number, as the C interface has it: refusal 20 is of a number that no rule has.
 pub fn resume(
     modes: usize,
     rule: usize,
@@ -184,36 +167,18 @@ pub fn resume(
     rows: &mut [u16],
     journal: &mut [u8],
     drops: &mut [u16],
-) -> Answer
+) -> Result<Numbers, Refusal>
     ensures { Answers (λ given. resumed (rooms_of most_modes given) modes rule terms.now read.now)
         (lent work.old rows.old journal.old drops.old) (lent work.new rows.new journal.new drops.new) result }
 {
-    if modes < 1 {
-        return Answer::Refused(Refusal::Modes);
-    }
-    if 256 < modes {
-        return Answer::Refused(Refusal::Modes);
-    }
-    if 1 < rule {
-        return Answer::Refused(Refusal::Rule);
-    }
-    match checking::check_terms(modes, terms) {
-        Checked::Refused(refusal) => Answer::Refused(refusal),
-        Checked::Good(count) => resume_good(
-            modes,
-            rules::rule_of(rule),
-            count,
-            terms,
-            read,
-            work,
-            rows,
-            journal,
-            drops,
-        ),
-    }
+    checking::check_modes(modes)?;
+    let rule = Rule::try_from(rule)?;
+    let count = checking::check_terms(modes, terms)?;
+    resume_good(modes, rule, count, terms, read, work, rows, journal, drops)
 }
 
 // An unbroken run by this rule: resuming from an empty journal.
+// By its number, as `resume` takes it.
 pub fn hatt(
     modes: usize,
     rule: usize,
@@ -222,7 +187,7 @@ pub fn hatt(
     rows: &mut [u16],
     journal: &mut [u8],
     drops: &mut [u16],
-) -> Answer
+) -> Result<Numbers, Refusal>
     ensures { Answers (λ given. hatt_run (rooms_of most_modes given) modes rule terms.now)
         (lent work.old rows.old journal.old drops.old) (lent work.new rows.new journal.new drops.new) result }
 {

@@ -1,4 +1,5 @@
 -- 5 is never the answer: terms are refused by 1 to 4, a journal's lines by 6 to 12, a text by 18.
+use Rattle.std.specs.Prelude.{None, Option, Some}
 use mathlib.Core.Path.{◌≡◌, refl, ap}
 use mathlib.Core.List.{List}
 use Prim.Native.Nat.{ℕ}
@@ -13,8 +14,6 @@ use Rattle.obeying.specs.Obeying.{Obeyed, went, refused, obeyed}
 use Rattle.obeying.proofs.LineRefused.{journal_refusal}
 use Rattle.terms_text.specs.Jobs.{JobSaid, a_job, no_job, job_said}
 use Rattle.terms_text.proofs.JobsRead.{job_not_five}
-use Rattle.letters_text.specs.declared.steps.Asked.{Asked}
-use Rattle.letters_text.specs.declared.steps.Asked.TheVariants.{Step, NoStep}
 use Rattle.letters_text.specs.Lettering.{
   asked,
   Lettered,
@@ -34,10 +33,10 @@ number_in (shows these) = 0
 number_in (no_step steps) = 0
 number_in (refuses refusal) = number_of refusal
 
-at_never : (job : Job) (merges : List Triple) (step : Asked) → number_in (lettered_at job merges step) ≡ 5 → ⊥
+at_never : (job : Job) (merges : List Triple) (step : Option ℕ) → number_in (lettered_at job merges step) ≡ 5 → ⊥
 unfolding number_in lettered_at
-at_never job merges (Step step) h = omega arith
-at_never job merges NoStep h = omega arith
+at_never job merges (Some step) h = omega arith
+at_never job merges None h = omega arith
 
 module _ (read word : List ℕ) where
   after_never : (job : Job) (found : Obeyed) → obeyed job read ≡ found → number_in (lettered_after job word found) ≡ 5 → ⊥

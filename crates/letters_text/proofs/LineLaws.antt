@@ -19,7 +19,7 @@ use Rattle.fields.proofs.Digits.{decimal_short}
 use Rattle.fields.proofs.LinesJoined.{no_feed, line_ended}
 use Rattle.fields.proofs.NumbersTabbed.{tabbed_free, decimals_free}
 use Rattle.terms.specs.declared.letters.Letter.{Letter}
-use Rattle.terms.specs.declared.letters.Letter.TheVariants.{None, X, Y, Z}
+use Rattle.terms.specs.declared.letters.Letter.TheVariants.{Nothing, X, Y, Z}
 use Rattle.terms.specs.Letters.{not_none}
 use Rattle.text.specs.Output.{line_of}
 use Rattle.text.specs.code.Printing.{Puts}
@@ -45,10 +45,10 @@ module _ (place : ℕ) (letter : Letter) where
         decimal_short place h,
       )
 
--- None of the letters' bytes is LF.
+-- Nothing of the letters' bytes is LF.
 sign_free : (letter : Letter) → no_feed (letter_sign letter ∷ []) ≡ true
 unfolding letter_sign no_feed every
-sign_free None = refl
+sign_free Nothing = refl
 sign_free X = refl
 sign_free Y = refl
 sign_free Z = refl
@@ -71,7 +71,7 @@ before_last (c ∷ front) a b =
 
 sign_told : (letter : Letter) → cond (not (eqb (letter_sign letter) 45)) 1 0 ≡ not_none letter
 unfolding letter_sign
-sign_told None = refl
+sign_told Nothing = refl
 sign_told X = refl
 sign_told Y = refl
 sign_told Z = refl

@@ -1,9 +1,9 @@
 -- The run that an accepted journal leads to, brought to its end, and what the command makes of it.
+use Rattle.std.specs.Prelude.{Err, Ok}
 use mathlib.Core.Path.{◌≡◌, refl, sym, ◌∙◌, ap}
 use mathlib.Core.List.{List}
 use Prim.Native.Nat.{ℕ}
 use lib.ListN.{length}
-use Rattle.refusal.specs.declared.Refusal.{Refusal}
 use Rattle.terms.specs.declared.rules.Rule.{Rule}
 use Rattle.terms.specs.Job.{Job, job_of}
 use Rattle.terms.specs.code.Held.{Spread}
@@ -15,9 +15,8 @@ use Rattle.merging.specs.declared.run.Run.{Run}
 use Rattle.merging.specs.code.State.{history_of}
 use Rattle.merging.specs.code.Runs.{Holds, Went}
 use Rattle.merging.proofs.Runs.{merges_within, merges_lawful}
-use Rattle.obeying.specs.declared.Verdict.{Verdict}
-use Rattle.obeying.specs.declared.Verdict.TheVariants.{Fine, Refused}
 use Rattle.obeying.specs.Obeying.{Obeyed}
+use Rattle.obeying.specs.declared.Refused.{Refused}
 use Rattle.obeying.specs.code.Obeys.{came_to}
 use Rattle.letters_text.specs.Lettering.{asked, refuses, lettered_at, lettered_after}
 use Rattle.letters_text.specs.code.Replaying.{Finished}
@@ -40,11 +39,11 @@ module _ (modes : ℕ) (rule : Rule) (count : ℕ) (numbers again now_own end_ow
         rows_are = record { held = rw (length_terms 8 count numbers) spread.held; rows_are = rw (length_terms 8 count numbers) spread.rows_are };
       }
 
-module _ (job : Job) (word : List ℕ) (verdict : Verdict) (run : Run) (answer : Obeyed) (comes : came_to verdict run ≡ answer) where
-  pub refused_lettered : (why : Refusal) → verdict ≡ Refused why → lettered_after job word answer ≡ refuses why
+module _ (job : Job) (word : List ℕ) (answer : Obeyed) where
+  pub refused_lettered : (stop : Refused) → came_to (Err stop) ≡ answer → lettered_after job word answer ≡ refuses stop.why
   unfolding came_to lettered_after
-  refused_lettered why told = rw (sym comes) (rw told)
+  refused_lettered stop comes = rw (sym comes)
 
-  pub fine_lettered : verdict ≡ Fine → lettered_after job word answer ≡ lettered_at job (finished job (history_of run)) (asked job.modes word)
+  pub fine_lettered : (run : Run) → came_to (Ok run) ≡ answer → lettered_after job word answer ≡ lettered_at job (finished job (history_of run)) (asked job.modes word)
   unfolding came_to lettered_after
-  fine_lettered told = rw (sym comes) (rw told)
+  fine_lettered run comes = rw (sym comes)

@@ -1,4 +1,5 @@
 -- A word is one number where its fields are: no tab stands in a number.
+use Rattle.std.specs.Prelude.{None, Some}
 use mathlib.Core.Path.{◌≡◌, refl, ap, ◌∙◌, sym}
 use mathlib.Core.Bool.{Bool, true, false, cond, ◌&&◌, true≢false}
 use mathlib.Core.List.{List, [], ◌∷◌, map}
@@ -12,10 +13,9 @@ use Rattle.lists.proofs.Every.{every_at, every_by_place, every_cons}
 use Rattle.lists.proofs.Tests.{both}
 use Rattle.fields.specs.Decimal.{is_digit, is_number, value}
 use Rattle.fields.specs.Fields.{fields_after, tabbed}
-use Rattle.fields.specs.code.Reading.{fields_good, NumbersRead}
+use Rattle.fields.specs.code.Reading.{fields_good, numbers_good}
 use Rattle.fields.proofs.Numerals.{numeral}
 use Rattle.fields.proofs.Tabbed.{no_tab, tabbed_fields, fields_tabbed}
-use Rattle.letters_text.specs.declared.steps.Asked.TheVariants.{Step, NoStep}
 use Rattle.letters_text.specs.Lettering.{asked}
 
 module _ (word : List ℕ) where
@@ -42,36 +42,36 @@ module _ (word : List ℕ) where
   unfolding fields_good tabbed every
   number_field e = rw (fields_tabbed word [] (every_cons (every no_tab) word [] (tabs_none e) refl), e)
 
-  module _ (modes : ℕ) (after : List ℕ) (r : Bool) (read : NumbersRead (fields_after [] word) 1 after r) where
-    pub no_number : r ≡ false → NoStep ≡ asked modes word
+  module _ (modes : ℕ) where
+    pub no_number : numbers_good 1 (fields_after [] word) ≡ false → None ≡ asked modes word
     unfolding asked
     no_number e = go (is_number word) refl
       where
-        go : (b : Bool) → is_number word ≡ b → NoStep ≡ cond (is_number word && ltb (value word) modes) (Step (value word)) NoStep
-        go true number = absurd (true≢false (sym (number_field number) ∙ sym read.good ∙ e))
+        go : (b : Bool) → is_number word ≡ b → None ≡ cond (is_number word && ltb (value word) modes) (Some (value word)) None
+        go true number = absurd (true≢false (sym (number_field number) ∙ e))
         go false none = rw none
 
-    module _ (e : r ≡ true) where
+    module _ (numbers : List ℕ) (good : numbers_good 1 (fields_after [] word) ≡ true) (found : numbers ≡ map value (fields_after [] word)) where
       said : (is_number word ≡ true) × (fields_after [] word ≡ word ∷ [])
-      said = one_field (fields_after [] word) (tabbed_fields [] word) (sym read.good ∙ e)
+      said = one_field (fields_after [] word) (tabbed_fields [] word) good
 
-      says : get_or after 0 0 ≡ value word
-      says = ap (λ l. get_or l 0 0) (read.values e ∙ ap (map value) said.1)
+      says : get_or numbers 0 0 ≡ value word
+      says = ap (λ l. get_or l 0 0) (found ∙ ap (map value) said.1)
 
-      pub beyond_last : modes ≤ get_or after 0 0 → NoStep ≡ asked modes word
+      pub beyond_last : modes ≤ get_or numbers 0 0 → None ≡ asked modes word
       unfolding asked
       beyond_last h = rw (said.0, le-ltb (value word) modes (rw says at h))
 
-      pub a_step : get_or after 0 0 < modes → Step (get_or after 0 0) ≡ asked modes word
+      pub a_step : get_or numbers 0 0 < modes → Some (get_or numbers 0 0) ≡ asked modes word
       unfolding asked
       a_step h = rw (says, said.0, lt-ltb (value word) modes (rw says at h))
 
 -- A step that was asked for is below the modes.
-pub step_below : (modes : ℕ) (word : List ℕ) (step : ℕ) → asked modes word ≡ Step step → step < modes
+pub step_below : (modes : ℕ) (word : List ℕ) (step : ℕ) → asked modes word ≡ Some step → step < modes
 unfolding asked
 step_below modes word step = go (is_number word) (ltb (value word) modes) refl
   where
-    go : (a b : Bool) → ltb (value word) modes ≡ b → cond (a && b) (Step (value word)) NoStep ≡ Step step → step < modes
+    go : (a b : Bool) → ltb (value word) modes ≡ b → cond (a && b) (Some (value word)) None ≡ Some step → step < modes
     go true true below e = let same : value word ≡ step = cc in rw same at (ltb-true (value word) modes below)
     go true false below e = let z : ◌≡◌ {A = ℕ} 0 1 = cc in absurd (omega arith)
     go false b below e = let z : ◌≡◌ {A = ℕ} 0 1 = cc in absurd (omega arith)

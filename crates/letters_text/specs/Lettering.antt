@@ -1,5 +1,5 @@
 -- `letters`: "for a step of the run that the journal leads to (an empty file: the unbroken run), each row that is live before it by its place (a number, a tab, the letter or `-`)".
-use Rattle.std.specs.Prelude.{◌≡◌, Bool, cond, not, ◌&&◌, ℕ, suc, ◌-◌, eqb, ltb, length, get_or}
+use Rattle.std.specs.Prelude.{◌≡◌, Bool, cond, not, ◌&&◌, ℕ, suc, ◌-◌, eqb, ltb, length, get_or, None, Option, Some}
 use mathlib.Core.List.{List, [], ◌∷◌, ◌++◌, flat_map}
 use Prim.Native.Char.{code}
 use Rattle.lists.specs.Members.{keep}
@@ -21,8 +21,6 @@ use Rattle.obeying.specs.Obeying.{Obeyed, went, refused, obeyed}
 use Rattle.terms_text.specs.Jobs.{Request, JobSaid, a_job, no_job, job_said}
 use Rattle.text.specs.Running.{Rooms, program_rooms}
 use Rattle.text.specs.Output.{line_of, refusal_text}
-use Rattle.letters_text.specs.declared.steps.Asked.{Asked}
-use Rattle.letters_text.specs.declared.steps.Asked.TheVariants.{Step, NoStep}
 
 -- A letter's byte, none's being `-`.
 unfoldable pub letter_sign : Letter → ℕ
@@ -43,8 +41,8 @@ unfoldable pub step_lines : Job → List Triple → ℕ → List (List ℕ)
 step_lines job merges step = letter_lines (merge_of merges step) 0 (rows_after job (history_before merges step))
 
 -- The step that a word asks for, where the run has such a step.
-unfoldable pub asked : ℕ → List ℕ → Asked
-asked modes word = cond (is_number word && ltb (value word) modes) (Step (value word)) NoStep
+unfoldable pub asked : ℕ → List ℕ → Option ℕ
+asked modes word = cond (is_number word && ltb (value word) modes) (Some (value word)) None
 
 -- What the command comes to: the lines of a step; that there is no such step, but so many others; or a refusal.
 pub data Lettered : Type 0 where
@@ -52,9 +50,9 @@ pub data Lettered : Type 0 where
   no_step : ℕ → Lettered
   refuses : Refusal → Lettered
 
-unfoldable pub lettered_at : Job → List Triple → Asked → Lettered
-lettered_at job merges (Step step) = shows (step_lines job merges step)
-lettered_at job merges NoStep = no_step job.modes
+unfoldable pub lettered_at : Job → List Triple → Option ℕ → Lettered
+lettered_at job merges (Some step) = shows (step_lines job merges step)
+lettered_at job merges None = no_step job.modes
 
 -- The run goes on from the journal by the greedy rule.
 unfoldable pub lettered_after : Job → List ℕ → Obeyed → Lettered

@@ -1,38 +1,26 @@
 // The answer of `letters` to the text of terms, a journal and a step, from bytes to bytes: which letter each live row gets there.
 #![tactic(auto)]
 
-ghost use Rattle.std.specs.Prelude.{◌≡◌, List, ℕ, ◌*◌, ◌≤◌, ◌<◌, length};
-ghost use Rattle.entities.specs.Limits.{most_modes, most_terms, row_width};
+ghost use Rattle.std.specs.Prelude.{◌≡◌, List, ℕ, ◌≤◌, ◌<◌, Ok};
+ghost use Rattle.entities.specs.Limits.{most_modes, most_terms};
 ghost use Rattle.terms.specs.Job.{Job, job_of};
 ghost use Rattle.terms.specs.Good.{checked};
-ghost use Rattle.terms.specs.declared.checking.Checked.TheVariants.{Good};
 ghost use Rattle.terms.specs.code.Held.{Spread};
 ghost use Rattle.merging.specs.code.State.{history_of};
 ghost use Rattle.obeying.specs.Obeying.{obeyed};
 ghost use Rattle.terms_text.specs.Jobs.{request};
-ghost use Rattle.text.specs.Running.{program_rooms, printed_room};
+ghost use Rattle.text.specs.Running.{program_rooms};
 ghost use Rattle.text.specs.Output.{Prints};
 ghost use Rattle.text.specs.code.Printing.{Puts};
-ghost use Rattle.letters_text.specs.Lettering.{
-  asked as step_asked,
-  shows,
-  step_lines,
-  lettered_at,
-  lettered_after,
-  letters_printed,
-  letters_text,
-};
+ghost use Rattle.letters_text.specs.Lettering.{asked as step_asked, shows, step_lines, lettered_at, lettered_after, letters_printed, letters_text};
 ghost use Rattle.letters_text.specs.code.Replaying.{Finished};
 
-use crate::steps::Asked;
 use merging::asked;
 use merging::run::Run;
-use obeying::Verdict;
 use refusal::Refusal;
 use terms::rules::Rule;
 use terms::{counted, row};
 use terms_text::jobs;
-use terms_text::jobs::JobRead;
 use text::{Printed, output};
 
 mod replay;
@@ -46,10 +34,9 @@ fn put_step(
     count: usize,
     rows: &mut [u16],
     step: usize,
-    out: &mut [u8],
+    out: &mut [u8; 16384],
 ) -> usize
-    requires by_index { (job : Job) × ((own : List ℕ) × (Finished job own run modes count rows.old × (step < modes))) }
-    requires out_len { length out.old ≡ printed_room }
+    requires { (job : Job) × ((own : List ℕ) × (Finished job own run modes count rows.old × (step < modes))) }
     ensures { (job : Job) (own : List ℕ) → Finished job own run modes count rows.old → Puts (letters_printed (shows (step_lines job (history_of run) step))) out.old out.new result }
 {
     let triple = asked::merge_of(run, step);
@@ -64,15 +51,14 @@ fn put_asked(
     count: usize,
     rows: &mut [u16],
     word: &[u8],
-    out: &mut [u8],
+    out: &mut [u8; 16384],
 ) -> usize
-    requires by_index { (job : Job) × ((own : List ℕ) × Finished job own run modes count rows.old) }
-    requires out_len { length out.old ≡ printed_room }
+    requires { (job : Job) × ((own : List ℕ) × Finished job own run modes count rows.old) }
     ensures { (job : Job) (own : List ℕ) → Finished job own run modes count rows.old → Puts (letters_printed (lettered_at job (history_of run) (step_asked job.modes word.now))) out.old out.new result }
 {
     match steps::asked_step(word, modes) {
-        Asked::Step(step) => put_step(run, modes, count, rows, step, out),
-        Asked::NoStep => output::put_value(out, 0, b"steps\t", modes as u64),
+        Some(step) => put_step(run, modes, count, rows, step, out),
+        None => output::put_value(out, 0, b"steps\t", modes as u64),
     }
 }
 
@@ -85,18 +71,15 @@ fn letters_own(
     again: &mut [u16],
     read: &[u8],
     word: &[u8],
-    out: &mut [u8],
+    out: &mut [u8; 16384],
 ) -> usize
     requires le_modes { (1 ≤ modes) × (modes ≤ most_modes) × (count ≤ most_terms) }
     requires by_index { (numbers : List ℕ) × (Spread count numbers own.old × Spread count numbers again.old) }
-    requires out_len { length out.old ≡ printed_room }
     ensures { (numbers : List ℕ) → Spread count numbers own.old → Spread count numbers again.old → Puts (letters_printed (lettered_after (job_of modes rule count numbers) word.now (obeyed (job_of modes rule count numbers) read.now))) out.old out.new result }
 {
-    let found = obeying::obey(modes, rule, count, own, read);
-    let verdict = found.verdict;
-    match verdict {
-        Verdict::Refused(why) => output::put_refusal(out, why),
-        Verdict::Fine => put_asked(found.run.finished(own), modes, count, again, word, out),
+    match obeying::obey(modes, rule, count, own, read) {
+        Ok(run) => put_asked(run.finished(own), modes, count, again, word, out),
+        Err(refused) => output::put_refusal(out, refused.why),
     }
 }
 
@@ -108,10 +91,9 @@ fn letters_job(
     terms: &[u16],
     read: &[u8],
     word: &[u8],
-    out: &mut [u8],
+    out: &mut [u8; 16384],
 ) -> usize
-    requires le_modes { (1 ≤ modes) × (modes ≤ most_modes) × (checked modes terms.now ≡ Good count) }
-    requires out_len { length out.old ≡ printed_room }
+    requires { (1 ≤ modes) × (modes ≤ most_modes) × (checked modes terms.now ≡ Ok count) }
     ensures { Puts (letters_printed (lettered_after (job_of modes rule count terms.now) word.now (obeyed (job_of modes rule count terms.now) read.now))) out.old out.new result }
 {
     let mut own = counted::own_rows(terms, count);
@@ -125,17 +107,16 @@ fn print_letters(
     input: &[u8],
     read: &[u8],
     word: &[u8],
-    numbers: &mut [u16],
-    out: &mut [u8],
+    numbers: &mut [u16; 16384],
+    out: &mut [u8; 16384],
 ) -> usize
-    requires { (length numbers.old ≡ row_width * most_terms) × (length out.old ≡ printed_room) }
     ensures { Puts (letters_text program_rooms (request rule input.now) read.now word.now) out.old out.new result }
 {
     match jobs::read_job(input, numbers) {
-        JobRead::Refused(why) => output::put_refusal(out, why),
-        JobRead::Is(modes, count) => {
-            let end = row::WIDTH * count;
-            letters_job(modes, rule, count, &numbers[..end], read, word, out)
+        Err(why) => output::put_refusal(out, why),
+        Ok(job) => {
+            let end = row::WIDTH * job.count;
+            letters_job(job.modes, rule, job.count, &numbers[..end], read, word, out)
         }
     }
 }
@@ -147,8 +128,5 @@ pub fn letters_answer(rule: Rule, input: &[u8], read: &[u8], step: &[u8]) -> Pri
     let mut numbers = [0u16; 16384];
     let mut bytes = [0u8; 16384];
     let count = print_letters(rule, input, read, step, &mut numbers, &mut bytes);
-    Printed {
-        bytes: bytes,
-        count: count,
-    }
+    Printed { bytes, count }
 }

@@ -14,11 +14,9 @@ pub fn rows_before(run: Run, modes: usize, count: usize, rows: &mut [u16], step:
     requires { (job : Job) × ((own : List ℕ) × (Finished job own run modes count rows.old × (step ≤ modes))) }
     ensures { (job : Job) (own : List ℕ) → Finished job own run modes count rows.old → RowsAre job (history_before (history_of run) step) rows.new }
 {
-    let mut at = 0;
-    while at < step {
+    for at in 0..step {
         let parent = parents::parent_number(modes, at);
         let rule = asked::rule_of(run);
         reduction::reduce_hamiltonian(rows, count, rule, parent, asked::merge_of(run, at));
-        at += 1;
     }
 }

@@ -5,7 +5,6 @@ ghost use Rattle.lists.specs.Written.{written_at};
 ghost use Rattle.entities.specs.Limits.{most_terms, work_width};
 ghost use Rattle.terms.specs.Rows.{terms_of};
 ghost use Rattle.terms.specs.code.Held.{Held};
-ghost use Rattle.text.specs.Running.{printed_room};
 ghost use Rattle.text.specs.code.Printing.{Puts};
 ghost use Rattle.letters_text.specs.Lettering.{letter_line, letter_lines};
 
@@ -37,22 +36,14 @@ fn put_row(out: &mut [u8], at: usize, place: usize, term: &[u16], triple: Triple
 }
 
 // The lines of the first `count` work rows written over the front; how many bytes that is.
-pub fn put_letters(rows: &[u16], count: usize, triple: Triple, out: &mut [u8]) -> usize
-    requires held { Held work_width count rows.now × (count ≤ most_terms) }
-    requires out_len { length out.old ≡ printed_room }
+pub fn put_letters(rows: &[u16], count: usize, triple: Triple, out: &mut [u8; 16384]) -> usize
+    requires { Held work_width count rows.now × (count ≤ most_terms) }
     ensures { Puts (flat_map (λ line. line) (letter_lines triple 0 (terms_of work_width count rows.now))) out.old out.new result }
 {
     let mut at = 0;
-    let mut place = 0;
-    while place < count {
-        at = put_row(
-            out,
-            at,
-            place,
-            row::term_at(rows, row::WORK_WIDTH, place),
-            triple,
-        );
-        place += 1;
+    for place in 0..count {
+        let term = row::term_at(rows, row::WORK_WIDTH, place);
+        at = put_row(out, at, place, term, triple);
     }
     at
 }

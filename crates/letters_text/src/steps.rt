@@ -4,24 +4,14 @@ ghost use Rattle.letters_text.specs.Lettering.{asked};
 
 use fields::numbers;
 
-// A step of the run, or none of its steps.
-#[derive(Clone, Copy)]
-pub enum Asked {
-    Step(usize),
-    NoStep,
-}
-
 // The step that the word is, where it is a number below the modes.
-pub fn asked_step(word: &[u8], modes: usize) -> Asked
+pub fn asked_step(word: &[u8], modes: usize) -> Option<usize>
     ensures { result ≡ asked modes word.now }
 {
-    let mut step = [0u16; 1];
-    if !numbers::read_numbers(word, &mut step) {
-        return Asked::NoStep;
+    let [number] = numbers::numbers_of::<1>(word)?;
+    let step = usize::from(number);
+    if modes <= step {
+        return None;
     }
-    let number = entities::wide(step[0]);
-    if modes <= number {
-        return Asked::NoStep;
-    }
-    Asked::Step(number)
+    Some(step)
 }

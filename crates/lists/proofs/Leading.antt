@@ -1,28 +1,13 @@
--- How many elements lead before the first of which a test doesn't hold: step by step, and what is known of those elements.
+-- What is known of the elements that lead before the first of which a test doesn't hold.
 use mathlib.Core.Path.{◌≡◌, refl, ap}
 use mathlib.Core.Bool.{Bool, true, false}
 use mathlib.Core.List.{List, [], ◌∷◌}
-use Prim.Native.Nat.{ℕ, zero, suc, ◌+◌, ◌<◌, ◌≤◌}
+use Prim.Native.Nat.{ℕ, zero, suc, ◌<◌}
 use native.Mathlib.Omega.{arith}
-use lib.ListN.{length, get_or, drop, drop_of_length-le}
+use lib.ListN.{length, get_or}
 use Rattle.lists.specs.Members.{leading}
-use Rattle.lists.proofs.Steps.{drop_step}
 
 module _ {A : Type 0} (test : A → Bool) where
-  module _ (s : List A) (i : ℕ) where
-    pub leading_passes : (d : A) → i < length s → test (get_or s i d) ≡ true
-        → i + leading test (drop i s) ≡ i + 1 + leading test (drop (i + 1) s)
-    unfolding leading
-    leading_passes d h e = rw (drop_step s i d h) (rw e (omega arith))
-
-    pub leading_stops : (d : A) → i < length s → test (get_or s i d) ≡ false → leading test (drop i s) ≡ 0
-    unfolding leading
-    leading_stops d h e = rw (drop_step s i d h) (rw e)
-
-    pub leading_ends : length s ≤ i → leading test (drop i s) ≡ 0
-    unfolding leading
-    leading_ends h = rw (drop_of_length-le s h)
-
   -- The test holds of those that lead, and not of the one after them.
   pub leads : (l : List A) (i : ℕ) (d : A) → i < leading test l → test (get_or l i d) ≡ true
   unfolding leading

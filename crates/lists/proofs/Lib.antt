@@ -32,3 +32,5 @@ pub mod PieceByPiece
 pub mod SumOnce
 pub mod NumberByNumber
 pub mod FirstsWeighed
+pub mod Standard
+pub mod OneOrder

@@ -1,10 +1,11 @@
 -- What a rule lists: entry by entry, from the front and from the end, and mapped.
-use mathlib.Core.Path.{◌≡◌, refl, ap, ◌∙◌}
-use mathlib.Core.List.{[], ◌∷◌, ◌++◌, map}
+use mathlib.Core.Path.{◌≡◌, refl, ap, sym, ◌∙◌}
+use mathlib.Core.List.{List, [], ◌∷◌, ◌++◌, map}
 use Prim.Native.Nat.{ℕ, zero, suc, ◌+◌, ◌<◌, ◌≤◌}
 use native.Mathlib.Nat.{add-zero, zero-add, suc-add}
 use native.Mathlib.Omega.{arith}
 use lib.ListN.{length, get_or, replicate}
+use Rattle.std.proofs.lemmas.List.{ext_get_or}
 use Rattle.lists.specs.Ranges.{listed}
 
 module _ {A : Type 0} (rule : ℕ → A) where
@@ -30,12 +31,18 @@ module _ {A : Type 0} (rule : ℕ → A) where
   unfolding listed
   listed_more from count = listed_joined from count 1
 
-  -- Where the rule gives one value from here on.
-  pub listed_same : (v : A) (from count : ℕ) → ((i : ℕ) → from ≤ i → rule i ≡ v) → listed rule from count ≡ replicate count v
+  -- Where the rule gives one value at these places.
+  pub listed_same : (v : A) (from count : ℕ) → ((i : ℕ) → from ≤ i → i < from + count → rule i ≡ v) → listed rule from count ≡ replicate count v
   unfolding listed
   listed_same v from zero same = refl
   listed_same v from (suc count) same =
-      rw (same from (omega arith), listed_same v (suc from) count (λ i h. same i (omega arith)))
+      rw (same from (omega arith) (omega arith), listed_same v (suc from) count (λ i h l. same i (omega arith) (omega arith)))
+
+  -- A list with the rule's value at each place.
+  pub listed_by_place : (s : List A) (count : ℕ) (d : A) → length s ≡ count → ((i : ℕ) → i < count → get_or s i d ≡ rule i) → s ≡ listed rule 0 count
+  listed_by_place s count d whole each =
+      ext_get_or d s (listed rule 0 count) (whole ∙ sym (length_listed 0 count))
+      (λ i h. each i (omega arith) ∙ sym (listed_at 0 count i d (omega arith) ∙ ap rule (omega arith)))
 
 pub map_listed : {A B : Type 0} (f : A → B) (rule : ℕ → A) (from count : ℕ) → map f (listed rule from count) ≡ listed (λ i. f (rule i)) from count
 unfolding listed

@@ -28,32 +28,6 @@ module _ {A : Type 0} (rule : ℕ → A) where
     listed_end h = let e : end - at ≡ 0 = omega arith in rw e
 
 module _ {A : Type 0} (test : A → Bool) (rule : ℕ → A) (end at : ℕ) where
-  pub every_on : at < end → test (rule at) ≡ true
-      → every test (listed rule at (end - at)) ≡ every test (listed rule (at + 1) (end - (at + 1)))
-  unfolding every
-  every_on h e = rw (listed_step rule end at h) (rw e)
-
-  pub every_off : at < end → test (rule at) ≡ false → every test (listed rule at (end - at)) ≡ false
-  unfolding every
-  every_off h e = rw (listed_step rule end at h) (rw e)
-
-  pub every_done : end ≤ at → every test (listed rule at (end - at)) ≡ true
-  unfolding every
-  every_done h = rw (listed_end rule end at h)
-
-  pub some_on : at < end → test (rule at) ≡ false
-      → some_of test (listed rule at (end - at)) ≡ some_of test (listed rule (at + 1) (end - (at + 1)))
-  unfolding some_of
-  some_on h e = rw (listed_step rule end at h) (rw e)
-
-  pub some_found : at < end → test (rule at) ≡ true → some_of test (listed rule at (end - at)) ≡ true
-  unfolding some_of
-  some_found h e = rw (listed_step rule end at h) (rw e)
-
-  pub some_done : end ≤ at → some_of test (listed rule at (end - at)) ≡ false
-  unfolding some_of
-  some_done h = rw (listed_end rule end at h)
-
   pub keep_on : at < end
       → keep test (listed rule at (end - at)) ≡ cond (test (rule at)) (rule at ∷ []) [] ++ keep test (listed rule (at + 1) (end - (at + 1)))
   unfolding keep
@@ -62,19 +36,6 @@ module _ {A : Type 0} (test : A → Bool) (rule : ℕ → A) (end at : ℕ) wher
   pub keep_done : end ≤ at → keep test (listed rule at (end - at)) ≡ []
   unfolding keep
   keep_done h = rw (listed_end rule end at h)
-
-  pub leading_on : at < end → test (rule at) ≡ true
-      → at + leading test (listed rule at (end - at)) ≡ at + 1 + leading test (listed rule (at + 1) (end - (at + 1)))
-  unfolding leading
-  leading_on h e = rw (listed_step rule end at h) (rw e (omega arith))
-
-  pub leading_off : at < end → test (rule at) ≡ false → leading test (listed rule at (end - at)) ≡ 0
-  unfolding leading
-  leading_off h e = rw (listed_step rule end at h) (rw e)
-
-  pub leading_done : end ≤ at → leading test (listed rule at (end - at)) ≡ 0
-  unfolding leading
-  leading_done h = rw (listed_end rule end at h)
 
 module _ {A : Type 0} (f : A → ℕ) (rule : ℕ → A) (end at : ℕ) where
   pub sum_on : at < end → sum (map f (listed rule at (end - at))) ≡ f (rule at) + sum (map f (listed rule (at + 1) (end - (at + 1))))

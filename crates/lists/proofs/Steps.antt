@@ -5,10 +5,9 @@ use mathlib.Core.List.{List, [], ◌∷◌, ◌++◌, flat_map}
 use Prim.Native.Nat.{ℕ, ◌+◌, ◌-◌, ◌<◌, ◌≤◌}
 use native.Mathlib.Numerals.{add-one}
 use native.Mathlib.Omega.{arith}
-use borrow.Author.Tests.{eq-eqb, ne_eqb}
 use lib.ListN.{length, get_or, take, drop, drop_of_length-le, length-drop}
 use lib.Seq.{drop-cons, take_all}
-use Rattle.lists.specs.Members.{every, keep, some_of, alike}
+use Rattle.lists.specs.Members.{every, keep}
 use Rattle.lists.specs.Counting.{same, occurrences}
 
 pub drop_step : {A : Type 0} (s : List A) (i : ℕ) (d : A) → i < length s → drop i s ≡ get_or s i d ∷ drop (i + 1) s
@@ -31,18 +30,6 @@ module _ {A : Type 0} (test : A → Bool) (s : List A) (i : ℕ) where
   unfolding every
   every_ends h = rw (drop_of_length-le s h)
 
-  pub some_passes : (d : A) → i < length s → test (get_or s i d) ≡ false → some_of test (drop i s) ≡ some_of test (drop (i + 1) s)
-  unfolding some_of
-  some_passes d h e = rw (drop_step s i d h) (rw e)
-
-  pub some_stops : (d : A) → i < length s → test (get_or s i d) ≡ true → some_of test (drop i s) ≡ true
-  unfolding some_of
-  some_stops d h e = rw (drop_step s i d h) (rw e)
-
-  pub some_ends : length s ≤ i → some_of test (drop i s) ≡ false
-  unfolding some_of
-  some_ends h = rw (drop_of_length-le s h)
-
   pub keep_step : (d : A) → i < length s → keep test (drop i s) ≡ cond (test (get_or s i d)) (get_or s i d ∷ []) [] ++ keep test (drop (i + 1) s)
   unfolding keep
   keep_step d h = rw (drop_step s i d h)
@@ -59,19 +46,6 @@ module _ {A B : Type 0} (f : A → List B) (s : List A) (i : ℕ) where
   pub joined_end : length s ≤ i → flat_map f (drop i s) ≡ []
   unfolding flat_map
   joined_end h = rw (drop_of_length-le s h)
-
-module _ (a b : List ℕ) (i : ℕ) where
-  pub alike_passes : i < length a → i < length b → get_or a i 0 ≡ get_or b i 0 → alike (drop i a) (drop i b) ≡ alike (drop (i + 1) a) (drop (i + 1) b)
-  unfolding alike
-  alike_passes h k e = rw (drop_step a i 0 h, drop_step b i 0 k) (rw (eq-eqb _ _ e))
-
-  pub alike_stops : i < length a → i < length b → (get_or a i 0 ≡ get_or b i 0 → ⊥) → alike (drop i a) (drop i b) ≡ false
-  unfolding alike
-  alike_stops h k e = rw (drop_step a i 0 h, drop_step b i 0 k) (rw (ne_eqb _ _ e))
-
-  pub alike_ends : length a ≤ i → length b ≤ i → alike (drop i a) (drop i b) ≡ true
-  unfolding alike
-  alike_ends h k = rw (drop_of_length-le a h, drop_of_length-le b k)
 
 pub occurrences_step : (x : ℕ) (s : List ℕ) (i : ℕ) → i < length s → occurrences x (drop i s) ≡ same (get_or s i 0) x + occurrences x (drop (i + 1) s)
 unfolding occurrences

@@ -1,4 +1,4 @@
--- One write: of a loop that fills a list from its front, and as any place sees it.
+-- One write: of a loop that writes a list from its front, and as any place sees it.
 use mathlib.Core.Path.{◌≡◌, ap, ◌∙◌, sym}
 use mathlib.Core.Bool.{cond}
 use mathlib.Core.List.{List, [], ◌∷◌, ◌++◌, map, map-append}
@@ -9,21 +9,13 @@ use native.Mathlib.Omega.{arith}
 use borrow.Author.Count.{below_more}
 use borrow.Author.Tests.{eq-eqb, ne_eqb}
 use lib.Dec.{eqb}
-use lib.ListN.{length, get_or, take, set, replicate, replicate-append-replicate}
+use lib.ListN.{length, get_or, take, set}
 use lib.Seq.{take-suc, take-suc-set, take_all, get_or-set_same, get_or-set_other}
 use Rattle.lists.proofs.Tests.{same_or_not}
 
 module _ {A : Type 0} where
   pub written_next : (s : List A) (i : ℕ) (v : A) → i < length s → take (i + 1) (set s i v) ≡ take i s ++ (v ∷ [])
   written_next s i v h = rw add-one (take-suc-set s i v h)
-
-  pub copied_next : (from to : List A) (i : ℕ) (d : A) → i < length from → i < length to → take i to ≡ take i from
-      → take (i + 1) (set to i (get_or from i d)) ≡ take (i + 1) from
-  copied_next from to i d h k e = rw (written_next to i (get_or from i d) k, e, add-one, take-suc from i d h)
-
-  pub filled_next : (s : List A) (i : ℕ) (v : A) → i < length s → take i s ≡ replicate i v
-      → take (i + 1) (set s i v) ≡ replicate (i + 1) v
-  filled_next s i v h e = rw (written_next s i v h, e, ← replicate-append-replicate i 1 v)
 
   -- A write at one place, seen from any other.
   pub after_write : (s : List A) (i : ℕ) (v d : A) → i < length s → (k : ℕ) → get_or (set s i v) k d ≡ cond (eqb k i) v (get_or s k d)

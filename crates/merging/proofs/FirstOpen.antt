@@ -1,41 +1,23 @@
 -- The leaves marked open from the front, the rest left closed.
-use mathlib.Core.Path.{◌≡◌, ap, ◌∙◌, sym}
-use mathlib.Core.Bool.{Bool, true, false}
-use mathlib.Core.List.{[], List, ◌++◌}
-use Prim.Native.Nat.{ℕ, suc, ◌+◌, ◌-◌, ◌*◌, ◌<◌, ◌≤◌}
-use native.Mathlib.Nat.{zero-add}
-use native.Mathlib.Omega.{arith}
+use Rattle.std.proofs.Common.{◌≡◌, ◌∙◌, ◌++◌, ℕ, ◌+◌, ◌-◌, ◌*◌, ◌≤◌, [], true, false, arith, ap, sym, replicate, length, take, drop, length-take}
+use Rattle.std.proofs.lemmas.List.{length-replicate, drop-replicate}
 use borrow.Author.Tests.{le-leb, lt-leb}
-use lib.ListN.{length, take, drop, set, replicate, take-append-drop}
-use lib.Seq.{drop-drop, drop-set-lt}
+use native.Mathlib.Nat.{zero-add}
 use Rattle.lists.specs.Ranges.{listed}
-use Rattle.lists.proofs.Writes.{written_next}
-use Rattle.lists.proofs.Listed.{listed_more, listed_joined, listed_same}
+use Rattle.lists.proofs.Listed.{listed_joined, listed_same}
 use Rattle.history.specs.History.{is_open}
 
-module _ (modes leaf : ℕ) (opens : List Bool) where
-  pub opened_next : leaf ≤ 2 * modes → leaf < length opens → take leaf opens ≡ listed (is_open modes []) 0 leaf
-      → take (leaf + 1) (set opens leaf true) ≡ listed (is_open modes []) 0 (leaf + 1)
-  unfolding is_open
-  opened_next h room e =
-      rw (written_next opens leaf true room, e, listed_more (is_open modes []) 0 leaf, zero-add leaf, le-leb leaf (2 * modes) h)
-
-pub closed_next : (room leaf : ℕ) (opens : List Bool) → leaf < room → drop leaf opens ≡ replicate (room - leaf) false
-    → drop (leaf + 1) (set opens leaf true) ≡ replicate (room - (leaf + 1)) false
-closed_next room leaf opens h e =
-    let one : room - leaf ≡ suc (room - (leaf + 1)) = omega arith in
-    drop-set-lt (leaf + 1) opens leaf true (omega arith) ∙ sym (drop-drop 1 leaf opens) ∙ ap (drop 1) e ∙ rw one
-
-pub leaves_open : (room modes leaf : ℕ) (opens : List Bool) → leaf ≡ 2 * modes + 1 → leaf ≤ room
-    → take leaf opens ≡ listed (is_open modes []) 0 leaf → drop leaf opens ≡ replicate (room - leaf) false
-    → opens ≡ listed (is_open modes []) 0 room
+pub leaves_open : (room modes : ℕ) → 2 * modes + 1 ≤ room
+    → replicate (length (take (2 * modes + 1) (replicate room false))) true ++ drop (2 * modes + 1) (replicate room false) ≡ listed (is_open modes []) 0 room
 unfolding is_open
-leaves_open room modes leaf opens all inside front back =
-    let whole : leaf + (room - leaf) ≡ room = omega arith in
-    let closed = listed_same (is_open modes []) false leaf (room - leaf) (λ i h. lt-leb i (2 * modes) (omega arith)) in
-    sym (take-append-drop leaf opens)
-    ∙ rw (front, back)
+leaves_open room modes h =
+    let leaves = 2 * modes + 1 in
+    let whole : leaves + (room - leaves) ≡ room = omega arith in
+    let count : length (take leaves (replicate room false)) ≡ leaves = simp (length-take, length-replicate) (omega arith) in
+    let open_here = listed_same (is_open modes []) true 0 leaves (λ i h l. le-leb i (2 * modes) (omega arith)) in
+    let closed = listed_same (is_open modes []) false leaves (room - leaves) (λ i h l. lt-leb i (2 * modes) (omega arith)) in
+    rw (count, drop-replicate leaves room false)
     (sym
     (ap (listed (is_open modes []) 0) (sym whole)
-    ∙ listed_joined (is_open modes []) 0 leaf (room - leaf)
-    ∙ rw (zero-add leaf) (ap (λ l. listed (is_open modes []) 0 leaf ++ l) closed)))
+    ∙ listed_joined (is_open modes []) 0 leaves (room - leaves)
+    ∙ rw (open_here, zero-add leaves, closed)))

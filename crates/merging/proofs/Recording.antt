@@ -1,4 +1,4 @@
--- The history that the tables hold, when one more merge is written down.
+-- The history that the table holds, when one more merge is written down.
 use mathlib.Core.Path.{◌≡◌, refl, ap, ◌∙◌}
 use mathlib.Core.List.{List, ◌∷◌}
 use mathlib.Core.Logic.{⊎_elim}
@@ -13,63 +13,54 @@ use Rattle.history.specs.History.{merge_of, history_before}
 use Rattle.history.proofs.Amounts.{newest_merge, older_merge}
 use Rattle.merging.specs.code.Recorded.{merge_at, recorded}
 
-pub length_recorded : (xs ys zs : List ℕ) (step : ℕ) → length (recorded xs ys zs step) ≡ step
+pub length_recorded : (merges : List Triple) (step : ℕ) → length (recorded merges step) ≡ step
 unfolding recorded
-length_recorded xs ys zs zero = refl
-length_recorded xs ys zs (suc step) = ap suc (length_recorded xs ys zs step)
+length_recorded merges zero = refl
+length_recorded merges (suc step) = ap suc (length_recorded merges step)
 
-pub recorded_merge : (xs ys zs : List ℕ) (steps label : ℕ) → label < steps → merge_of (recorded xs ys zs steps) label ≡ merge_at xs ys zs label
+pub recorded_merge : (merges : List Triple) (steps label : ℕ) → label < steps → merge_of (recorded merges steps) label ≡ merge_at merges label
 unfolding recorded
-recorded_merge xs ys zs zero label h = absurd (omega arith)
-recorded_merge xs ys zs (suc steps) label h =
-    let count = length_recorded xs ys zs steps in
-    let older = recorded xs ys zs steps in
-    let merge = merge_at xs ys zs steps in
+recorded_merge merges zero label h = absurd (omega arith)
+recorded_merge merges (suc steps) label h =
+    let count = length_recorded merges steps in
+    let older = recorded merges steps in
+    let merge = merge_at merges steps in
     ⊎_elim
-    (λ e. newest_merge merge older label (omega arith) ∙ ap (merge_at xs ys zs) (rw e refl))
-    (λ other. older_merge merge older label (omega arith) ∙ recorded_merge xs ys zs steps label (omega arith))
+    (λ e. newest_merge merge older label (omega arith) ∙ ap (merge_at merges) (rw e refl))
+    (λ other. older_merge merge older label (omega arith) ∙ recorded_merge merges steps label (omega arith))
     (same_or_not label steps)
 
 -- The merges before a step are the first so many.
-pub recorded_earlier : (xs ys zs : List ℕ) (steps step : ℕ) → step ≤ steps
-    → history_before (recorded xs ys zs steps) step ≡ recorded xs ys zs step
+pub recorded_earlier : (merges : List Triple) (steps step : ℕ) → step ≤ steps
+    → history_before (recorded merges steps) step ≡ recorded merges step
 unfolding recorded
-recorded_earlier xs ys zs zero step h = let e : step ≡ 0 = omega arith in rw e
-recorded_earlier xs ys zs (suc steps) step h =
-    let older = recorded xs ys zs steps in
-    let count = length_recorded xs ys zs steps in
+recorded_earlier merges zero step h = let e : step ≡ 0 = omega arith in rw e
+recorded_earlier merges (suc steps) step h =
+    let older = recorded merges steps in
+    let count = length_recorded merges steps in
     ⊎_elim
     (λ e. rw e (let none_later : suc (length older) - suc steps ≡ 0 = omega arith in rw none_later))
     (λ other.
     let one_later : suc (length older) - step ≡ suc (length older - step) = omega arith in
-    rw one_later (recorded_earlier xs ys zs steps step (omega arith)))
+    rw one_later (recorded_earlier merges steps step (omega arith)))
     (same_or_not step (suc steps))
 
-module _ (xs ys zs : List ℕ) (triple : Triple) (place : ℕ) where
+module _ (merges : List Triple) (triple : Triple) (place : ℕ) where
   -- Writing at a place leaves the merges before it.
-  pub merge_before : (step : ℕ) → step < place
-      → merge_at (set xs place triple.x) (set ys place triple.y) (set zs place triple.z) step ≡ merge_at xs ys zs step
+  pub merge_before : (step : ℕ) → step < place → merge_at (set merges place triple) step ≡ merge_at merges step
   unfolding merge_at
-  merge_before step h =
-      rw (
-        get_or-set_other xs place step triple.x 0 (omega arith),
-        get_or-set_other ys place step triple.y 0 (omega arith),
-        get_or-set_other zs place step triple.z 0 (omega arith),
-      )
+  merge_before step h = get_or-set_other merges place step triple _ (omega arith)
 
-  pub recorded_before : (step : ℕ) → step ≤ place
-      → recorded (set xs place triple.x) (set ys place triple.y) (set zs place triple.z) step ≡ recorded xs ys zs step
+  pub recorded_before : (step : ℕ) → step ≤ place → recorded (set merges place triple) step ≡ recorded merges step
   unfolding recorded
   recorded_before zero h = refl
   recorded_before (suc step) h = rw (merge_before step (omega arith), recorded_before step (omega arith))
 
-  module _ (x_in : place < length xs) (y_in : place < length ys) (z_in : place < length zs) where
-    pub merge_here : merge_at (set xs place triple.x) (set ys place triple.y) (set zs place triple.z) place ≡ triple
+  module _ (inside : place < length merges) where
+    pub merge_here : merge_at (set merges place triple) place ≡ triple
     unfolding merge_at
-    merge_here =
-        rw (get_or-set_same xs place triple.x 0 x_in, get_or-set_same ys place triple.y 0 y_in, get_or-set_same zs place triple.z 0 z_in)
+    merge_here = get_or-set_same merges place triple _ inside
 
-    pub recorded_next : recorded (set xs place triple.x) (set ys place triple.y) (set zs place triple.z) (place + 1)
-        ≡ triple ∷ recorded xs ys zs place
+    pub recorded_next : recorded (set merges place triple) (place + 1) ≡ triple ∷ recorded merges place
     unfolding recorded
     recorded_next = rw (add-one place, merge_here, recorded_before place (omega arith))

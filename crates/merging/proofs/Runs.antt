@@ -20,7 +20,7 @@ use Rattle.merging.proofs.Recording.{length_recorded}
 
 module _ (job : Job) (rows : List ℕ) (run : Run) (holds : Holds job rows run) where
   pub merges_within : length (history_of run) ≤ job.modes
-  merges_within = rw (length_recorded run.xs run.ys run.zs run.step) holds.inside
+  merges_within = rw (length_recorded run.merges run.step) holds.inside
 
   pub merges_lawful : LawfulHistory job.modes (history_of run)
   merges_lawful = holds.lawful
@@ -59,7 +59,7 @@ module _ (job : Job) (rows : List ℕ) (run : Run) (holds : Holds job rows run) 
   ready triple weight left lawful weighs =
       record {
         holds = holds;
-        left = rw (← length_recorded run.xs run.ys run.zs run.step) left;
+        left = rw (← length_recorded run.merges run.step) left;
         lawful = lawful;
         weight_is = weighs;
       }

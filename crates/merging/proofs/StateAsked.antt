@@ -24,20 +24,20 @@ module _ (entities steps : ℕ) (job : Job) (rows : List ℕ) (run : Run) (holds
 
   module _ (step : ℕ) (made : step < length (history_of run)) where
     made_before : step < run.step
-    made_before = omega (arith, length_recorded run.xs run.ys run.zs run.step)
+    made_before = omega (arith, length_recorded run.merges run.step)
 
     pub step_in : step < steps
     step_in = omega (arith, made_before, holds.inside, holds.few)
 
-    pub merge_noted : merge_at run.xs run.ys run.zs step ≡ merge_of (history_of run) step
-    merge_noted = sym (recorded_merge run.xs run.ys run.zs run.step step made_before)
+    pub merge_noted : merge_at run.merges step ≡ merge_of (history_of run) step
+    merge_noted = sym (recorded_merge run.merges run.step step made_before)
 
     -- What a table has of the step is what its rule says of the merge.
     noted : (rule : List Triple → Triple → ℕ) (table : List ℕ) → TableOf rule run table
         → get_or table step 0 ≡ rule (history_before (history_of run) step) (merge_of (history_of run) step)
     noted rule table holds_it =
         let so_far : step ≤ run.step = omega (arith, made_before) in
-        rw (recorded_earlier run.xs run.ys run.zs run.step step so_far, ← merge_noted) (holds_it step made_before)
+        rw (recorded_earlier run.merges run.step step so_far, ← merge_noted) (holds_it step made_before)
 
     pub weight_noted : get_or run.weights step 0 ≡ weight_in job (history_before (history_of run) step) (merge_of (history_of run) step)
     weight_noted = noted (weight_in job) run.weights holds.weights_are
@@ -46,7 +46,7 @@ module _ (entities steps : ℕ) (job : Job) (rows : List ℕ) (run : Run) (holds
     drop_noted = noted (drop_in job) run.drops holds.drops_are
 
   steps_made : length (history_of run) ≡ run.step
-  steps_made = length_recorded run.xs run.ys run.zs run.step
+  steps_made = length_recorded run.merges run.step
 
   pub drops_length : length (take run.step run.drops) ≡ run.step
   drops_length = length-take-le run.step run.drops (omega (arith, holds.whole.drops, holds.inside, holds.few))

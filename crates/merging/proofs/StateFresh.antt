@@ -17,9 +17,9 @@ use Rattle.merging.proofs.Tables.{tied_start}
 
 pub fresh_holds : (entities steps : ℕ) (run : Run) (numbers rows : List ℕ) → 2 * run.modes + 1 ≤ entities → Whole entities steps run
     → run.step ≡ 0 → run.weight ≡ 0 → 1 ≤ run.modes → run.modes ≤ steps → run.count ≤ 2048 → Spread run.count numbers rows
-    → run.opens ≡ listed (is_open run.modes []) 0 entities
-    → run.ends ≡ listed (λ entity. entity) 0 entities
-    → run.holders ≡ listed (λ entity. entity) 0 entities
+    → run.tables.opens ≡ listed (is_open run.modes []) 0 entities
+    → run.tables.ends ≡ listed (λ entity. entity) 0 entities
+    → run.tables.holders ≡ listed (λ entity. entity) 0 entities
     → HoldsIn entities steps (job_of run.modes run.rule run.count numbers) rows run
 unfolding recorded counted_after run_weight
 fresh_holds entities steps run numbers rows room whole none light some few low spread opens ends holders =

@@ -2,7 +2,7 @@
 use mathlib.Core.Path.{◌≡◌, ap, ◌∙◌}
 use mathlib.Core.Bool.{true, false}
 use mathlib.Core.List.{List, ◌∷◌}
-use Prim.Native.Nat.{ℕ, ◌+◌, ◌*◌, ◌%◌, ◌<◌, ◌≤◌}
+use Prim.Native.Nat.{ℕ, ◌+◌, ◌*◌, ◌<◌, ◌≤◌}
 use native.Mathlib.Omega.{arith}
 use borrow.Author.Count.{below_more}
 use lib.ListN.{length, get_or, set, length-set}
@@ -35,20 +35,21 @@ next_run run triple weight dropped =
       step = run.step + 1;
       count = run.count;
       weight = run.weight + weight;
-      opens = set (set (set (set run.opens triple.x false) triple.y false) triple.z false) (2 * run.modes + 1 + run.step) true;
-      ends = set run.ends (2 * run.modes + 1 + run.step) (get_or run.ends triple.z 0);
-      holders = set run.holders (get_or run.ends triple.z 0) (2 * run.modes + 1 + run.step);
-      xs = set run.xs run.step triple.x;
-      ys = set run.ys run.step triple.y;
-      zs = set run.zs run.step triple.z;
-      weights = set run.weights run.step (weight % 65536);
-      drops = set run.drops run.step (dropped % 65536);
+      tables =
+          record {
+            opens = set (set (set (set run.tables.opens triple.x false) triple.y false) triple.z false) (2 * run.modes + 1 + run.step) true;
+            ends = set run.tables.ends (2 * run.modes + 1 + run.step) (get_or run.tables.ends triple.z 0);
+            holders = set run.tables.holders (get_or run.tables.ends triple.z 0) (2 * run.modes + 1 + run.step);
+          };
+      merges = set run.merges run.step triple;
+      weights = set run.weights run.step weight;
+      drops = set run.drops run.step dropped;
     }
 
 -- The parent of the next merge, as the state has it.
 pub parent_is : (modes : ℕ) (run : Run) → run.modes ≡ modes → 2 * run.modes + 1 + run.step ≡ next_parent modes (history_of run)
 unfolding next_parent
-parent_is modes run e = rw (e, length_recorded run.xs run.ys run.zs run.step)
+parent_is modes run e = rw (e, length_recorded run.merges run.step)
 
 module _ (entities steps : ℕ) (job : Job) (rows : List ℕ) (run : Run) (triple : Triple) (weight : ℕ)
     (room : 3 * steps + 1 ≤ entities) (ready : ReadyIn entities steps job rows run triple weight) where
@@ -69,7 +70,7 @@ module _ (entities steps : ℕ) (job : Job) (rows : List ℕ) (run : Run) (tripl
     pub in_room : entity < entities
     in_room = omega (arith, parent_in)
 
-    pub end_low : get_or run.ends entity 0 ≤ 2 * job.modes
+    pub end_low : get_or run.tables.ends entity 0 ≤ 2 * job.modes
     end_low = rw (holds.tied.ends_are entity in_room) (end_within job.modes (history_of run) holds.lawful entity below)
 
   pub x_below : triple.x < next_parent job.modes (history_of run)
@@ -91,9 +92,7 @@ module _ (entities steps : ℕ) (job : Job) (rows : List ℕ) (run : Run) (tripl
 
     merges : history_of next ≡ triple ∷ history_of run
     unfolding next next_run
-    merges =
-        recorded_next run.xs run.ys run.zs triple run.step
-        (rw holds.whole.xs step_in) (rw holds.whole.ys step_in) (rw holds.whole.zs step_in)
+    merges = recorded_next run.merges triple run.step (rw holds.whole.merges step_in)
 
     next_whole : Whole entities steps next
     unfolding next next_run
@@ -103,19 +102,17 @@ module _ (entities steps : ℕ) (job : Job) (rows : List ℕ) (run : Run) (tripl
           opens = simp length-set w.opens;
           ends = simp length-set w.ends;
           holders = simp length-set w.holders;
-          xs = simp length-set w.xs;
-          ys = simp length-set w.ys;
-          zs = simp length-set w.zs;
+          merges = simp length-set w.merges;
           weights = simp length-set w.weights;
           drops = simp length-set w.drops;
         }
 
-    next_tied : Tied entities job.modes (triple ∷ history_of run) next.opens next.ends next.holders
+    next_tied : Tied entities job.modes (triple ∷ history_of run) next.tables
     unfolding next next_run
     next_tied =
         let w = holds.whole in
         rw parent_here
-        (tied_merged entities job.modes (history_of run) run.opens run.ends run.holders triple holds.tied
+        (tied_merged entities job.modes (history_of run) run.tables triple holds.tied
         w.opens w.ends w.holders (in_room triple.x x_below) (in_room triple.y y_below) (in_room triple.z z_below)
         (omega (arith, end_low triple.z z_below, holds.few, room)) (omega (arith, parent_in)) parent_in)
 
@@ -128,7 +125,7 @@ module _ (entities steps : ℕ) (job : Job) (rows : List ℕ) (run : Run) (tripl
     dropped_is = reduced.drops_are ∙ rw (parent_here, holds.rule_is, holds.rows_are)
 
     -- What is dropped was there before.
-    dropped_bound : dropped ≤ length job.terms
+    pub dropped_bound : dropped ≤ length job.terms
     dropped_bound =
         let before = add_up job (history_of run) in
         let after = reduction_adds_up run.rule triple (2 * run.modes + 1 + run.step) (counted_of run.count rows) in
@@ -146,20 +143,19 @@ module _ (entities steps : ℕ) (job : Job) (rows : List ℕ) (run : Run) (tripl
         below_more
         (λ step.
         get_or (set table run.step value) step 0
-        ≡ rule (recorded next.xs next.ys next.zs step) (merge_at next.xs next.ys next.zs step))
+        ≡ rule (recorded next.merges step) (merge_at next.merges step))
         run.step
         (λ step h.
         get_or-set_other table run.step step value 0 (omega arith)
         ∙ rw (
-          merge_before run.xs run.ys run.zs triple run.step step h,
-          recorded_before run.xs run.ys run.zs triple run.step step (omega arith),
+          merge_before run.merges triple run.step step h,
+          recorded_before run.merges triple run.step step (omega arith),
         )
         (so_far step h))
         (get_or-set_same table run.step value 0 (rw whole step_in)
         ∙ rw (
-          merge_here run.xs run.ys run.zs triple run.step
-              (rw holds.whole.xs step_in) (rw holds.whole.ys step_in) (rw holds.whole.zs step_in),
-          recorded_before run.xs run.ys run.zs triple run.step run.step (omega arith),
+          merge_here run.merges triple run.step (rw holds.whole.merges step_in),
+          recorded_before run.merges triple run.step run.step (omega arith),
         )
         is)
 
@@ -182,11 +178,9 @@ module _ (entities steps : ℕ) (job : Job) (rows : List ℕ) (run : Run) (tripl
           weight_is = rw merges next_weight;
           bounded = omega (arith, holds.bounded, weight_bound, holds.light);
           weights_are =
-              next_table (weight_in job) run.weights (weight % 65536) holds.weights_are holds.whole.weights
-              (omega (arith, weight_bound, holds.light, ready.weight_is));
+              next_table (weight_in job) run.weights weight holds.weights_are holds.whole.weights ready.weight_is;
           drops_are =
-              next_table (drop_in job) run.drops (dropped % 65536) holds.drops_are holds.whole.drops
-              (omega (arith, dropped_bound, holds.light, dropped_is));
+              next_table (drop_in job) run.drops dropped holds.drops_are holds.whole.drops dropped_is;
         }
 
     pub merged_went : WentIn entities steps job (triple ∷ history_of run) rows (next_run run triple weight dropped) now_rows
@@ -195,7 +189,7 @@ module _ (entities steps : ℕ) (job : Job) (rows : List ℕ) (run : Run) (tripl
 
 -- The state as the code makes it.
 pub same_run : (triple : Triple) (weight dropped : ℕ) (before middle after : Run)
-    → EntitiesMerged triple before middle → Noted triple (weight % 65536) (dropped % 65536) middle after
+    → EntitiesMerged triple before middle → Noted triple weight dropped middle after
     → ◌≡◌ {A = Run}
     (record {
       modes = after.modes;
@@ -203,23 +197,19 @@ pub same_run : (triple : Triple) (weight dropped : ℕ) (before middle after : R
       step = after.step;
       count = after.count;
       weight = before.weight + weight;
-      opens = after.opens;
-      ends = after.ends;
-      holders = after.holders;
-      xs = after.xs;
-      ys = after.ys;
-      zs = after.zs;
+      tables = after.tables;
+      merges = after.merges;
       weights = after.weights;
       drops = after.drops;
     })
     (next_run before triple weight dropped)
 unfolding next_run
 same_run triple weight dropped before middle after m n =
-    let xs_are = rw (m.xs, m.step) at n.xs in
-    let ys_are = rw (m.ys, m.step) at n.ys in
-    let zs_are = rw (m.zs, m.step) at n.zs in
+    let merges_are = rw (m.merges, m.step) at n.merges in
     let weights_are = rw (m.weights, m.step) at n.weights in
     let drops_are = rw (m.drops, m.step) at n.drops in
+    let tables_are : middle.tables ≡ (next_run before triple weight dropped).tables =
+    λ i. record { opens = m.opens i; ends = m.ends i; holders = m.holders i } in
     λ i.
     record {
       modes = (n.modes ∙ m.modes) i;
@@ -227,12 +217,8 @@ same_run triple weight dropped before middle after m n =
       step = (n.step ∙ ap (λ s. s + 1) m.step) i;
       count = (n.count ∙ m.count) i;
       weight = before.weight + weight;
-      opens = (n.opens ∙ m.opens) i;
-      ends = (n.ends ∙ m.ends) i;
-      holders = (n.holders ∙ m.holders) i;
-      xs = xs_are i;
-      ys = ys_are i;
-      zs = zs_are i;
+      tables = (n.tables ∙ tables_are) i;
+      merges = merges_are i;
       weights = weights_are i;
       drops = drops_are i;
     }

@@ -32,7 +32,7 @@ use Rattle.merging.proofs.Recording.{length_recorded}
 
 module _ (entities steps : ℕ) (job : Job) (rows : List ℕ) (run : Run) (holds : HoldsIn entities steps job rows run) where
   -- The z-ends in the table are leaves.
-  pub ends_low : (entity : ℕ) → entity < 2 * run.modes + 1 + run.step → get_or run.ends entity 0 ≤ 2 * job.modes
+  pub ends_low : (entity : ℕ) → entity < 2 * run.modes + 1 + run.step → get_or run.tables.ends entity 0 ≤ 2 * job.modes
   ends_low entity h =
       let below : entity < next_parent job.modes (history_of run) = rw (parent_is job.modes run holds.modes_are) at h in
       rw (holds.tied.ends_are entity (omega (arith, holds.tied.within)))
@@ -60,7 +60,7 @@ module _ (entities steps : ℕ) (job : Job) (rows : List ℕ) (run : Run) (holds
 
     module _ (left : run.step < job.modes) where
       merges_left : length (history_of run) < job.modes
-      merges_left = rw (length_recorded run.xs run.ys run.zs run.step) left
+      merges_left = rw (length_recorded run.merges run.step) left
 
       candidates_some : 0 < length (candidates job.modes (history_of run))
       unfolding candidates

@@ -11,10 +11,9 @@ ghost use Rattle.merging.specs.code.State.{history_of};
 ghost use Rattle.merging.specs.code.Runs.{Holds};
 
 use crate::run::Run;
-use choosing::lawful;
 use entities::Triple;
 use terms::rules::Rule;
-use terms::{row, slices, weight};
+use terms::{row, weight};
 
 // How many merges were made.
 pub fn merges(run: Run) -> usize
@@ -41,14 +40,14 @@ pub fn greedy_weight(run: Run) -> usize
 pub fn is_open(run: Run, entity: u16) -> bool
     ensures { (job : Job) (rows : List ℕ) → Holds job rows run → result ≡ is_open job.modes (history_of run) entity }
 {
-    lawful::marked(&run.opens, entity)
+    run.tables.marked(entity)
 }
 
 // Three open entities.
 pub fn three_open(run: Run, triple: Triple) -> bool
     ensures { (job : Job) (rows : List ℕ) → Holds job rows run → result ≡ three_open job.modes (history_of run) triple }
 {
-    lawful::three_open(&run.opens, triple)
+    run.tables.three_open(triple)
 }
 
 // Three different entities, x's z-end an even 2k below 2n and y's 2k+1.
@@ -56,7 +55,7 @@ pub fn are_paired(run: Run, triple: Triple) -> bool
     requires { (job : Job) × ((rows : List ℕ) × (Holds job rows run × (three_open job.modes (history_of run) triple ≡ true))) }
     ensures { (job : Job) (rows : List ℕ) → Holds job rows run → result ≡ paired job.modes (history_of run) triple }
 {
-    lawful::paired(&run.ends, run.modes, triple)
+    run.tables.paired(run.modes, triple)
 }
 
 // What the triple weighs in the run's rows.
@@ -72,11 +71,7 @@ pub fn merge_of(run: Run, step: usize) -> Triple
     requires { (job : Job) × ((rows : List ℕ) × (Holds job rows run × (step < length (history_of run)))) }
     ensures { result ≡ merge_of (history_of run) step }
 {
-    Triple {
-        x: run.xs[step],
-        y: run.ys[step],
-        z: run.zs[step],
-    }
+    run.merges[step]
 }
 
 // What that merge weighed.
@@ -92,7 +87,5 @@ pub fn put_drops(run: Run, drops: &mut [u16])
     requires { (job : Job) × ((rows : List ℕ) × (Holds job rows run × (length (history_of run) ≤ length drops.old))) }
     ensures { (job : Job) (rows : List ℕ) → Holds job rows run → drops.new ≡ written_at 0 (drops_of job (history_of run)) drops.old }
 {
-    let noted = run.drops;
-    let end = run.step;
-    slices::put_front(&noted[..end], drops);
+    drops[..run.step].copy_from_slice(&run.drops[..run.step]);
 }

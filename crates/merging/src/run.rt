@@ -11,12 +11,14 @@ ghost use Rattle.merging.specs.code.State.{history_of, EntitiesMerged, Noted};
 ghost use Rattle.merging.specs.code.Runs.{Holds, Ready, Went};
 
 use choosing::choice;
+use choosing::entity_tables::Tables;
 use entities::{Triple, parents};
 use reduction::live_rows;
+use std::array;
 use terms::rules::Rule;
 
-// What a run holds: its modes, its rule and how many rows it has, a mark, a z-end and a holder for every entity, and of every merge x, y, z, its
-// weight and how many input rows were dropped with it.
+// What a run holds: its modes, its rule and how many rows it has, the tables of the entities, and every merge, its weight and how many input rows
+// were dropped with it.
 #[derive(Clone, Copy)]
 pub struct Run {
     pub modes: usize,
@@ -24,12 +26,8 @@ pub struct Run {
     pub step: usize,
     pub count: usize,
     pub weight: usize,
-    pub opens: [bool; 769],
-    pub ends: [u16; 769],
-    pub holders: [u16; 769],
-    pub xs: [u16; 256],
-    pub ys: [u16; 256],
-    pub zs: [u16; 256],
+    pub tables: Tables,
+    pub merges: [Triple; 256],
     pub weights: [u16; 256],
     pub drops: [u16; 256],
 }
@@ -38,14 +36,7 @@ pub struct Run {
 fn identity() -> [u16; 769]
     ensures { result ≡ listed (λ entity. entity) 0 entity_room }
 {
-    let mut table = [0u16; 769];
-    let mut at: u16 = 0;
-    while at < 769 {
-        let place = entities::wide(at);
-        table[place] = at;
-        at += 1;
-    }
-    table
+    array::from_fn(|entity| entity as u16)
 }
 
 // The leaves open, and nothing else.
@@ -54,11 +45,7 @@ fn leaves(modes: usize) -> [bool; 769]
     ensures { result ≡ listed (is_open modes []) 0 entity_room }
 {
     let mut opens = [false; 769];
-    let mut leaf = 0;
-    while leaf <= 2 * modes {
-        opens[leaf] = true;
-        leaf += 1;
-    }
+    opens[..=2 * modes].fill(true);
     opens
 }
 
@@ -67,23 +54,20 @@ pub fn fresh(modes: usize, rule: Rule, count: usize) -> Run
     requires { (1 ≤ modes) × (modes ≤ most_modes) × (count ≤ most_terms) }
     ensures { (numbers rows : List ℕ) → Spread count numbers rows → Holds (job_of modes rule count numbers) rows result × (history_of result ≡ []) }
 {
-    let opens = leaves(modes);
-    let ends = identity();
-    let holders = identity();
     Run {
-        modes: modes,
-        rule: rule,
+        modes,
+        rule,
         step: 0,
-        count: count,
+        count,
         weight: 0,
-        opens: opens,
-        ends: ends,
-        holders: holders,
-        xs: [0u16; 256],
-        ys: [0u16; 256],
-        zs: [0u16; 256],
-        weights: [0u16; 256],
-        drops: [0u16; 256],
+        tables: Tables {
+            opens: leaves(modes),
+            ends: identity(),
+            holders: identity(),
+        },
+        merges: [Triple { x: 0, y: 0, z: 0 }; 256],
+        weights: [0; 256],
+        drops: [0; 256],
     }
 }
 
@@ -91,22 +75,18 @@ impl Run {
     // The three closed and their parent opened, with z's end, which it now holds.
     fn entities_merged(mut self, triple: Triple) -> Run
         requires modes_le_most_modes { (self.modes ≤ most_modes) × (self.step < most_modes) × (triple.x < entity_room) × (triple.y < entity_room) × (triple.z < entity_room) }
-        requires z_bound { get_or self.ends triple.z 0 < entity_room }
+        requires z_bound { get_or self.tables.ends triple.z 0 < entity_room }
         ensures { EntitiesMerged triple self result }
     {
         let parent = parents::parent_number(self.modes, self.step);
-        let x = entities::wide(triple.x);
-        let y = entities::wide(triple.y);
-        let z = entities::wide(triple.z);
-        let at = entities::wide(parent);
-        let end = self.ends[z];
-        let leaf = entities::wide(end);
-        self.opens[x] = false;
-        self.opens[y] = false;
-        self.opens[z] = false;
-        self.opens[at] = true;
-        self.ends[at] = end;
-        self.holders[leaf] = parent;
+        let at = usize::from(parent);
+        let end = self.tables.ends[usize::from(triple.z)];
+        self.tables.opens[usize::from(triple.x)] = false;
+        self.tables.opens[usize::from(triple.y)] = false;
+        self.tables.opens[usize::from(triple.z)] = false;
+        self.tables.opens[at] = true;
+        self.tables.ends[at] = end;
+        self.tables.holders[usize::from(end)] = parent;
         self
     }
 
@@ -116,12 +96,10 @@ impl Run {
         ensures { Noted triple weight dropped self result }
     {
         let step = self.step;
-        self.xs[step] = triple.x;
-        self.ys[step] = triple.y;
-        self.zs[step] = triple.z;
+        self.merges[step] = triple;
         self.weights[step] = weight;
         self.drops[step] = dropped;
-        self.step = step + 1;
+        self.step += 1;
         self
     }
 
@@ -131,12 +109,11 @@ impl Run {
         ensures { (job : Job) → Ready job rows.old self triple weight → Went job (triple ∷ history_of self) rows.old result rows.new }
     {
         let parent = parents::parent_number(self.modes, self.step);
-        let rule = self.rule;
-        let dropped = reduction::reduce_hamiltonian(rows, self.count, rule, parent, triple);
+        let dropped = reduction::reduce_hamiltonian(rows, self.count, self.rule, parent, triple);
         let sum = self.weight + weight;
         let mut next = self
             .entities_merged(triple)
-            .noted(triple, (weight % 65536) as u16, (dropped % 65536) as u16);
+            .noted(triple, weight as u16, dropped as u16);
         next.weight = sum;
         next
     }
@@ -150,15 +127,7 @@ impl Run {
         let mut live = [0u16; 16384];
         let kept = live_rows::put_live(rows, self.count, &mut live);
         let next = parents::parent_number(self.modes, self.step);
-        let best = choice::choose(
-            &self.opens,
-            &self.ends,
-            &self.holders,
-            &live,
-            self.modes,
-            kept,
-            next,
-        );
+        let best = choice::choose(&self.tables, &live, self.modes, kept, next);
         self.merged(rows, best.triple, best.weight)
     }
 
@@ -168,7 +137,7 @@ impl Run {
         ensures { (job : Job) → Holds job rows.old self → Went job (finished_from job (history_of self)) rows.old result rows.new }
     {
         let mut run = self;
-        while run.step < run.modes {
+        for _ in self.step..self.modes {
             run = run.stepped(rows);
         }
         run

@@ -1,51 +1,39 @@
 -- How each part of a text is read, case by case.
+use Rattle.std.specs.Prelude.{Result, Ok, Err}
 use mathlib.Core.Path.{◌≡◌, refl, ap, ◌∙◌, sym}
 use mathlib.Core.Bool.{true, false}
-use mathlib.Core.Logic.{⊎_elim}
 use mathlib.Core.List.{List, [], ◌∷◌, ◌++◌}
 use Prim.Native.Nat.{ℕ, zero, suc, ◌+◌, ◌-◌, ◌*◌, ◌<◌, ◌≤◌}
 use native.Mathlib.Numerals.{add-one}
 use native.Mathlib.Omega.{arith}
-use borrow.Author.Rules.{rules}
-use types.Run.{OneOf}
-use denote.Enum.Declared.{tag_of}
 use borrow.Author.Tests.{eq-eqb, ne_eqb, lt-ltb, le-ltb}
 use lib.Dec.{eqb}
 use lib.ListN.{length, take}
 use Rattle.lists.specs.Written.{written_at}
 use Rattle.lists.proofs.Written.{front_written}
-use Rattle.newick.specs.declared.reading.Part.{Part}
-use Rattle.newick.specs.declared.reading.Part.TheVariants.{Child, Stuck, Crowded}
+use Rattle.newick.specs.declared.reading.Child.{Child}
+use Rattle.newick.specs.declared.reading.Stop.{Stop}
+use Rattle.newick.specs.declared.reading.Stop.TheVariants.{Stuck, Crowded}
 use Rattle.newick.specs.declared.digits.Number.{Number}
 use Rattle.newick.specs.Reading.{Reading, got, stuck, crowded, absent_name, leaf_name, follows, byte_at, expected, marked, number_digits, numbered, child_by, named, inside}
 use Rattle.newick.specs.code.Within.{node_within, child_within}
-use Rattle.newick.specs.code.Promises.{NumberRead, meant, end_of, closed_of, Reads}
-use Rattle.newick.specs.contracts.reading.Part.{the_type}
+use Rattle.newick.specs.code.Promises.{NumberRead, stopped, meant, place_of, end_of, closed_of, Reads}
 
--- The part with the byte behind it says what a byte behind the part says, and ends within the text.
-module _ (text : List ℕ) (byte : ℕ) (part : Part) where
-  abbrev Marked : Part → Type 0
+-- The child with the byte behind it says what a byte behind the child says, and ends within the text.
+module _ (text : List ℕ) (byte : ℕ) (child : Child) where
+  abbrev pub Marked : Result Child Stop → Type 0
   Marked r =
-      ((numbers : List ℕ) → meant r numbers ≡ marked byte text (meant part numbers))
-      × ((end_of r ≤ length text) × (closed_of r ≤ closed_of part))
+      ((numbers : List ℕ) → meant r numbers ≡ marked byte text (meant (Ok child) numbers))
+      × ((end_of r ≤ length text) × (closed_of r ≤ child.closed))
 
-  module _ (h : end_of part ≤ length text) where
-    pub marked_stuck : (place : ℕ) → part ≡ Stuck place → Marked (Stuck place)
-    unfolding meant marked follows end_of closed_of
-    marked_stuck place e = (λ numbers. rw e, (rw e at h, omega arith))
+  pub marked_missing : child.end ≤ length text → eqb (byte_at text child.end) byte ≡ false → Marked (Err (Stuck child.end))
+  unfolding meant stopped marked follows expected end_of place_of closed_of
+  marked_missing h f = (λ numbers. rw f, (h, omega arith))
 
-    pub marked_crowded : (place : ℕ) → part ≡ Crowded place → Marked (Crowded place)
-    unfolding meant marked follows end_of closed_of
-    marked_crowded place e = (λ numbers. rw e, (rw e at h, omega arith))
-
-    module _ (name end closed : ℕ) (e : part ≡ Child name end closed) where
-      pub marked_missing : eqb (byte_at text end) byte ≡ false → Marked (Stuck end)
-      unfolding meant marked follows expected end_of closed_of
-      marked_missing f = (λ numbers. rw (e, f), (rw e at h, omega arith))
-
-      pub marked_there : eqb (byte_at text end) byte ≡ true → end < length text → Marked (Child name (end + 1) closed)
-      unfolding meant marked follows expected end_of closed_of
-      marked_there f k = (λ numbers. rw (e, f, add-one end), (omega arith, rw e (omega arith)))
+  pub marked_there : eqb (byte_at text child.end) byte ≡ true → child.end < length text
+      → Marked (Ok (record { name = child.name; end = child.end + 1; closed = child.closed }))
+  unfolding meant marked follows expected end_of closed_of
+  marked_there f k = (λ numbers. rw (f, add-one child.end), (omega arith, omega arith))
 
 -- A number that must stand at a place: there is none, or it goes on behind it.
 module _ (text : List ℕ) (at : ℕ) (next : ℕ → ℕ → Reading) (r : Number) (n : NumberRead text at r) where
@@ -132,54 +120,62 @@ module _ (text rows : List ℕ) (at : ℕ) where
       rw (e, lt-ltb (length rows) (4 * suc height) f, down, add-one at)
 
 -- A part was read, and what is to follow it comes to the whole.
-pub record Onward (whole : Reading) (text numbers : List ℕ) (below : ℕ) (r : Part) (next : ℕ → List ℕ → ℕ → Reading) : Type 0 where
+pub record Onward (whole : Reading) (text numbers : List ℕ) (below : ℕ) (r : Result Child Stop) (next : ℕ → List ℕ → ℕ → Reading) : Type 0 where
   pub comes : whole ≡ follows (meant r numbers) next
   pub within : end_of r ≤ length text
   pub few : closed_of r ≤ below
 
-module _ {whole : Reading} {text numbers : List ℕ} {below : ℕ} {r : Part} {next : ℕ → List ℕ → ℕ → Reading} where
-  pub onward : {reading : Reading} {part : Part} (byte : ℕ) → whole ≡ follows (marked byte text reading) next
-      → Reads reading text numbers below part → Marked text byte part r → Onward whole text numbers below r next
-  onward byte e reads m =
+-- What stopped is the whole, whatever was to follow.
+stays : (next : ℕ → List ℕ → ℕ → Reading) (stop : Stop) → follows (stopped stop) next ≡ stopped stop
+unfolding stopped follows
+stays next (Stuck place) = refl
+stays next (Crowded place) = refl
+
+-- Behind a part that was read a byte is to stand; where the part stopped, none is asked for.
+module _ {whole reading : Reading} {text numbers : List ℕ} {below : ℕ} {part : Result Child Stop} (byte : ℕ) (next : ℕ → List ℕ → ℕ → Reading)
+    (e : whole ≡ follows (marked byte text reading) next) (reads : Reads reading text numbers below part) where
+  pub onward : {child : Child} {r : Result Child Stop} → part ≡ Ok child → Marked text byte child r → Onward whole text numbers below r next
+  unfolding closed_of
+  onward {child} {r} f m =
+      let few : child.closed ≤ below = rw f at reads.few in
+      let said : reading ≡ meant (Ok child) numbers = sym reads.says ∙ ap (λ w. meant w numbers) f in
       record {
-        comes = e ∙ ap (λ w. follows (marked byte text w) next) (sym reads.says) ∙ ap (λ w. follows w next) (sym (m.0 numbers));
+        comes = e ∙ ap (λ w. follows (marked byte text w) next) said ∙ ap (λ w. follows w next) (sym (m.0 numbers));
         within = m.1.0;
-        few = omega (arith, m.1.1, reads.few);
+        few = omega (arith, m.1.1);
       }
 
-  module _ (o : Onward whole text numbers below r next) where
-    -- What is no child ends the whole as it ended.
-    pub stops_there : {height : ℕ} → OneOf (1 ∷ (2 ∷ [])) (tag_of the_type r) → below ≤ height → Reads whole text numbers height r
-    unfolding meant follows
-    stops_there tag h = record { says = stays r tag ∙ sym o.comes; within = o.within; few = omega (arith, o.few) }
-      where
-        stays : (p : Part) → OneOf (1 ∷ (2 ∷ [])) (tag_of the_type p) → meant p numbers ≡ follows (meant p numbers) next
-        stays (Child name end closed) tag = absurd (⊎_elim (λ e. omega arith) (λ e. omega arith) tag)
-        stays (Stuck place) tag = refl
-        stays (Crowded place) tag = refl
+  pub stops_before : {height : ℕ} {stop : Stop} → part ≡ Err stop → Reads whole text numbers height (Err stop)
+  unfolding meant marked closed_of
+  stops_before {height} {stop} f =
+      let read : reading ≡ stopped stop = sym reads.says ∙ ap (λ w. meant w numbers) f in
+      record {
+        says = sym (e ∙ ap (λ w. follows (marked byte text w) next) read ∙ ap (λ w. follows w next) (stays _ stop) ∙ stays next stop);
+        within = rw f at reads.within;
+        few = omega arith;
+      }
 
-    -- Behind a child it goes on.
-    pub goes_behind : {name end closed : ℕ} → r ≡ Child name end closed
-        → (whole ≡ next name (take (4 * closed) numbers) end) × ((end ≤ length text) × (closed ≤ below))
-    unfolding meant follows end_of closed_of
-    goes_behind e = (o.comes ∙ rw e, (rw e at o.within, rw e at o.few))
+module _ {whole : Reading} {text numbers : List ℕ} {below : ℕ} {r : Result Child Stop} {next : ℕ → List ℕ → ℕ → Reading}
+    (o : Onward whole text numbers below r next) where
+  -- What stopped ends the whole as it ended.
+  pub stops_there : {height : ℕ} {stop : Stop} → r ≡ Err stop → Reads whole text numbers height (Err stop)
+  unfolding meant closed_of
+  stops_there {height} {stop} e =
+      record { says = sym (o.comes ∙ ap (λ w. follows (meant w numbers) next) e ∙ stays next stop); within = rw e at o.within; few = omega arith }
 
--- What is no child is one of the other two.
-pub no_child : (r : Part) → ((name end closed : ℕ) → r ≡ Child name end closed → ⊥) → OneOf (1 ∷ (2 ∷ [])) (tag_of the_type r)
-no_child (Child name end closed) h = absurd (h name end closed refl)
-no_child (Stuck place) h = search rules
-no_child (Crowded place) h = search rules
+  -- Behind a child it goes on.
+  pub goes_behind : {child : Child} → r ≡ Ok child
+      → (whole ≡ next child.name (take (4 * child.closed) numbers) child.end) × ((child.end ≤ length text) × (child.closed ≤ below))
+  unfolding meant follows end_of closed_of
+  goes_behind e = (o.comes ∙ rw e, (rw e at o.within, rw e at o.few))
 
 -- What a part that was read says of the reading.
-module _ {reading : Reading} {text numbers : List ℕ} {height : ℕ} {r : Part} (reads : Reads reading text numbers height r) where
-  pub part_child : {name end closed : ℕ} → r ≡ Child name end closed → (reading ≡ got name (take (4 * closed) numbers) end) × (closed ≤ height)
-  unfolding meant closed_of
-  part_child e = (sym reads.says ∙ rw e, rw e at reads.few)
+module _ {reading : Reading} {text numbers : List ℕ} {height : ℕ} {r : Result Child Stop} (reads : Reads reading text numbers height r) where
+  pub part_child : {child : Child} → r ≡ Ok child
+      → (reading ≡ got child.name (take (4 * child.closed) numbers) child.end) × ((child.end ≤ length text) × (child.closed ≤ height))
+  unfolding meant end_of closed_of
+  part_child e = (sym reads.says ∙ rw e, (rw e at reads.within, rw e at reads.few))
 
-  pub part_stuck : {place : ℕ} → r ≡ Stuck place → reading ≡ stuck place
+  pub part_stopped : {stop : Stop} → r ≡ Err stop → reading ≡ stopped stop
   unfolding meant
-  part_stuck e = sym reads.says ∙ rw e
-
-  pub part_crowded : {place : ℕ} → r ≡ Crowded place → reading ≡ crowded place
-  unfolding meant
-  part_crowded e = sym reads.says ∙ rw e
+  part_stopped e = sym reads.says ∙ rw e

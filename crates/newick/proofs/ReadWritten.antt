@@ -1,4 +1,5 @@
 -- "Reading a written tree gives the tree".
+use Rattle.std.specs.Prelude.{Ok}
 use mathlib.Core.Path.{◌≡◌, refl, ap, ◌∙◌, sym}
 use mathlib.Core.Bool.{true}
 use mathlib.Core.Logic.{inl}
@@ -11,7 +12,6 @@ use Rattle.lists.specs.Counting.{occurrences}
 use Rattle.lists.proofs.Totals.{total_same, total_ones}
 use Rattle.lists.proofs.Pigeonholes.{counted_all}
 use Rattle.entities.specs.Codes.{absent}
-use Rattle.tree.specs.declared.TreeChecked.TheVariants.{Accepted}
 use Rattle.tree.specs.Table.{child}
 use Rattle.tree.specs.OneTree.{root_of}
 use Rattle.tree.specs.Check.{tree_checked}
@@ -50,7 +50,7 @@ laid_same modes table rows whole has there =
     (has_laid table rows blank has (length-replicate (3 * modes) absent ∙ sym whole) label edge (omega arith) (omega arith)
     (there label (omega arith))))
 
-module _ (most modes : ℕ) (table : List ℕ) (small : 3 * most ≤ 65535) (accepted : tree_checked most modes table ≡ Accepted) where
+module _ (most modes : ℕ) (table : List ℕ) (small : 3 * most ≤ 65535) (accepted : tree_checked most modes table ≡ Ok tt) where
   fits : 3 * modes ≤ 65535
   fits = omega (arith, (accepted_parts most modes table accepted).few)
 

@@ -1,4 +1,5 @@
 -- The text of an accepted tree has the length that its modes say, whatever the tree.
+use Rattle.std.specs.Prelude.{Ok}
 use mathlib.Core.Path.{◌≡◌, refl, ap, ◌∙◌}
 use mathlib.Core.Bool.{Bool, true, false, cond, and-eq-true_iff, ◌||◌}
 use mathlib.Core.List.{List, [], ◌∷◌, ◌++◌}
@@ -15,7 +16,6 @@ use Rattle.lists.proofs.Sums.{sum_of, sum_append, sum_listed}
 use Rattle.lists.proofs.SumOnce.{sum_once}
 use Rattle.entities.specs.Codes.{absent}
 use Rattle.fields.specs.Decimal.{decimal}
-use Rattle.tree.specs.declared.TreeChecked.TheVariants.{Accepted}
 use Rattle.tree.specs.Table.{nodes, child}
 use Rattle.tree.specs.OneTree.{root_of}
 use Rattle.tree.specs.Check.{codes_good, tree_checked}
@@ -165,7 +165,7 @@ module _ (modes : ℕ) (fits : 3 * modes ≤ absent) where
       rw e
       (omega (arith, total_parts (part_length modes) modes (2 * modes), front, behind, total_add node_part pair_part modes, both))
 
-module _ (most modes : ℕ) (table : List ℕ) (fits : 3 * modes ≤ 65535) (accepted : tree_checked most modes table ≡ Accepted) where
+module _ (most modes : ℕ) (table : List ℕ) (fits : 3 * modes ≤ 65535) (accepted : tree_checked most modes table ≡ Ok tt) where
   pub accepted_length : length (newick_text modes table) ≡ text_length modes
   unfolding newick_text text_length nodes
   accepted_length =

@@ -1,4 +1,5 @@
 -- What reading comes to once the nodes are read: their numbers are out of range, or the table that they make is checked.
+use Rattle.std.specs.Prelude.{Err}
 use mathlib.Core.Path.{◌≡◌}
 use mathlib.Core.Bool.{true, false}
 use mathlib.Core.List.{List, ◌++◌, map}
@@ -7,12 +8,14 @@ use native.Mathlib.Omega.{arith}
 use lib.ListN.{length, take, replicate, length-append}
 use lib.Seq.{length-take-le}
 use Rattle.lists.specs.Members.{every}
-use Rattle.refusal.specs.declared.Refusal.TheVariants.{NotOneTree, NewickForm, TooManyNodes}
+use Rattle.refusal.specs.declared.Refusal.TheVariants.{NotOneTree}
 use Rattle.entities.specs.Codes.{absent}
 use Rattle.tree.specs.Check.{tree_checked}
 use Rattle.tree.specs.Laying.{laid_over, laid, modes_in}
-use Rattle.newick.specs.declared.reading.NewickRead.TheVariants.{Unread}
-use Rattle.newick.specs.Reading.{got, stuck, crowded, text_read}
+use Rattle.newick.specs.declared.reading.Stop.{Stop}
+use Rattle.newick.specs.declared.reading.Stop.TheVariants.{Stuck, Crowded}
+use Rattle.newick.specs.Reading.{got, text_read}
+use Rattle.newick.specs.code.Promises.{stopped, refused_at}
 use Rattle.newick.specs.Names.{in_range, code_of}
 use Rattle.newick.specs.Calls.{table_in, taken_as, read_as, table_read, newick_read, newick_table}
 
@@ -27,7 +30,7 @@ module _ (modes : ℕ) (rows : List ℕ) (size : length rows ≡ 4 * modes) wher
   table_is codes e = rw (e, modes_are)
 
   module _ (most name at room : ℕ) where
-    pub out_of_range : every (in_range modes) rows ≡ false → read_as most (got name rows at) room ≡ Unread NotOneTree
+    pub out_of_range : every (in_range modes) rows ≡ false → read_as most (got name rows at) room ≡ Err NotOneTree
     unfolding read_as
     out_of_range e = rw modes_are (rw e)
 
@@ -49,14 +52,10 @@ module _ (front behind : List ℕ) (count : ℕ) (e : length front ≡ count) wh
 
 -- What the call says of each answer of the text.
 module _ (most : ℕ) (text : List ℕ) where
-  module _ (room place : ℕ) where
-    pub says_stuck : text_read most text ≡ stuck place → Unread (NewickForm place) ≡ newick_read most text room
-    unfolding newick_read read_as
-    says_stuck e = rw e
-
-    pub says_crowded : text_read most text ≡ crowded place → Unread (TooManyNodes place) ≡ newick_read most text room
-    unfolding newick_read read_as
-    says_crowded e = rw e
+  pub says_stopped : (room : ℕ) (stop : Stop) → text_read most text ≡ stopped stop → Err (refused_at stop) ≡ newick_read most text room
+  unfolding newick_read read_as stopped
+  says_stopped room (Stuck place) e = rw e
+  says_stopped room (Crowded place) e = rw e
 
   module _ (name : ℕ) (rows : List ℕ) (at : ℕ) (e : text_read most text ≡ got name rows at) where
     pub says_read : (room : ℕ) → read_as most (got name rows at) room ≡ newick_read most text room

@@ -1,5 +1,6 @@
 -- The height with which an accepted tree is written is enough: no node is met where none is left.
 -- For one more node of height would meet that node too, and an accepted tree has no more nodes to meet.
+use Rattle.std.specs.Prelude.{Ok}
 use mathlib.Core.Path.{◌≡◌, refl, ◌∙◌, sym}
 use mathlib.Core.Bool.{Bool, true, false, cond, ◌&&◌}
 use mathlib.Core.List.{List}
@@ -12,7 +13,6 @@ use Rattle.lists.specs.Counting.{same}
 use Rattle.lists.proofs.Sums.{same_one, same_none}
 use Rattle.lists.proofs.Totals.{total, total_same, total_none, total_ones, total_add}
 use Rattle.lists.proofs.Pigeonholes.{total_at_most, total_same_beyond, total_same_below}
-use Rattle.tree.specs.declared.TreeChecked.TheVariants.{Accepted}
 use Rattle.tree.specs.Table.{child}
 use Rattle.tree.specs.OneTree.{root_of}
 use Rattle.tree.specs.Check.{tree_checked}
@@ -156,7 +156,7 @@ module _ (modes : ℕ) (table : List ℕ) where
           total_ones modes,
         )
 
-pub accepted_whole : (most modes : ℕ) (table : List ℕ) → tree_checked most modes table ≡ Accepted
+pub accepted_whole : (most modes : ℕ) (table : List ℕ) → tree_checked most modes table ≡ Ok tt
     → whole_under modes table (suc modes) (root_of modes table) ≡ true
 unfolding met count
 accepted_whole most modes table accepted =

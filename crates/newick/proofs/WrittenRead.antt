@@ -1,4 +1,6 @@
 -- "writing a read text gives the text".
+use Rattle.std.specs.Prelude.{Err, Ok, Result}
+use Rattle.refusal.specs.declared.Refusal.{Refusal}
 use mathlib.Core.Path.{◌≡◌, refl, ap, ◌∙◌, sym}
 use mathlib.Core.Bool.{Bool, true, false, cond}
 use mathlib.Core.List.{List, [], ◌∷◌, ◌++◌, map, append-nil}
@@ -16,8 +18,6 @@ use Rattle.lists.proofs.Totals.{total_ones}
 use Rattle.lists.proofs.Pigeonholes.{values_same, counted_all, counted_with}
 use Rattle.refusal.specs.declared.Refusal.TheVariants.{Room, NotOneTree}
 use Rattle.entities.specs.Codes.{absent}
-use Rattle.tree.specs.declared.TreeChecked.{TreeChecked}
-use Rattle.tree.specs.declared.TreeChecked.TheVariants.{Accepted, Refused}
 use Rattle.tree.specs.Table.{child}
 use Rattle.tree.specs.OneTree.{root_of}
 use Rattle.tree.specs.Check.{tree_checked}
@@ -26,7 +26,6 @@ use Rattle.tree.proofs.AcceptedParts.{accepted_parts}
 use Rattle.tree.proofs.AcceptedTree.{accepted_says}
 use Rattle.tree.specs.Laying.{laid, modes_in}
 use Rattle.tree.proofs.LaidTable.{labels_of, laid_other, laid_has}
-use Rattle.newick.specs.declared.reading.NewickRead.TheVariants.{Read, Unread}
 use Rattle.newick.specs.Grammar.{Shape, leaf, none, node, is_node}
 use Rattle.newick.specs.Writing.{shape_under, newick_text}
 use Rattle.newick.specs.Reading.{Reading, got, stuck, crowded, text_read}
@@ -46,29 +45,29 @@ record Done (most : ℕ) (text : List ℕ) (room modes : ℕ) : Type 0 where
   at : ℕ
   reading : text_read most text ≡ got name rows at
   ranged : every (in_range modes) rows ≡ true
-  accepted : tree_checked most modes (table_in rows) ≡ Accepted
+  accepted : tree_checked most modes (table_in rows) ≡ Ok tt
   modes_are : modes_in rows ≡ modes
   roomy : 3 * modes ≤ room
 
-read_done : (most : ℕ) (text : List ℕ) (room modes : ℕ) → newick_read most text room ≡ Read modes → Done most text room modes
+read_done : (most : ℕ) (text : List ℕ) (room modes : ℕ) → newick_read most text room ≡ Ok modes → Done most text room modes
 unfolding newick_read read_as taken_as
 read_done most text room modes e = go (text_read most text) refl e
   where
-    roomed : (n : ℕ) (b : Bool) → leb (3 * n) room ≡ b → cond b (Read n) (Unread Room) ≡ Read modes → (n ≡ modes) × (3 * n ≤ room)
+    roomed : (n : ℕ) (b : Bool) → leb (3 * n) room ≡ b → cond b (Ok n) (Err Room) ≡ Ok modes → (n ≡ modes) × (3 * n ≤ room)
     roomed n true q f = (cc, leb-true (3 * n) room q)
     roomed n false q f = let z : ◌≡◌ {A = ℕ} 0 1 = cc in absurd (omega arith)
 
-    checked : (n : ℕ) (c : TreeChecked) → taken_as c n room ≡ Read modes → (c ≡ Accepted) × (n ≡ modes) × (3 * n ≤ room)
-    checked n Accepted f = let r = roomed n (leb (3 * n) room) refl f in (refl, r.0, r.1)
-    checked n (Refused refusal) f = let z : ◌≡◌ {A = ℕ} 0 1 = cc in absurd (omega arith)
+    checked : (n : ℕ) (c : Result (Unit {0}) Refusal) → taken_as c n room ≡ Ok modes → (c ≡ Ok tt) × (n ≡ modes) × (3 * n ≤ room)
+    checked n (Ok tt) f = let r = roomed n (leb (3 * n) room) refl f in (refl, r.0, r.1)
+    checked n (Err refusal) f = let z : ◌≡◌ {A = ℕ} 0 1 = cc in absurd (omega arith)
 
-    ranges : (rows : List ℕ) (c : TreeChecked) (b : Bool) → every (in_range (modes_in rows)) rows ≡ b
-        → cond b (taken_as c (modes_in rows) room) (Unread NotOneTree) ≡ Read modes
-        → (every (in_range (modes_in rows)) rows ≡ true) × (c ≡ Accepted) × (modes_in rows ≡ modes) × (3 * modes_in rows ≤ room)
+    ranges : (rows : List ℕ) (c : Result (Unit {0}) Refusal) (b : Bool) → every (in_range (modes_in rows)) rows ≡ b
+        → cond b (taken_as c (modes_in rows) room) (Err NotOneTree) ≡ Ok modes
+        → (every (in_range (modes_in rows)) rows ≡ true) × (c ≡ Ok tt) × (modes_in rows ≡ modes) × (3 * modes_in rows ≤ room)
     ranges rows c true q f = let r = checked (modes_in rows) c f in (q, r.0, r.1, r.2)
     ranges rows c false q f = let z : ◌≡◌ {A = ℕ} 0 1 = cc in absurd (omega arith)
 
-    go : (r : Reading) → text_read most text ≡ r → read_as most r room ≡ Read modes → Done most text room modes
+    go : (r : Reading) → text_read most text ≡ r → read_as most r room ≡ Ok modes → Done most text room modes
     go (got name rows at) q f =
         let r = ranges rows (tree_checked most (modes_in rows) (table_in rows)) (every (in_range (modes_in rows)) rows) refl f in
         record {
@@ -98,7 +97,7 @@ root_ranged modes (node x y z label) root ranged =
 
 -- Rows of n nodes whose table is accepted: no node has two, for then another would have none, and three absent children.
 module _ (most modes : ℕ) (shape : Shape) (small : 3 * modes ≤ 65535) (within : Within modes shape) (size : length (labels_in shape) ≡ modes)
-    (table : List ℕ) (table_is : table ≡ laid modes (map (code_of modes) (rows_in shape))) (accepted : tree_checked most modes table ≡ Accepted) where
+    (table : List ℕ) (table_is : table ≡ laid modes (map (code_of modes) (rows_in shape))) (accepted : tree_checked most modes table ≡ Ok tt) where
   abbrev rows : List ℕ
   rows = map (code_of modes) (rows_in shape)
 

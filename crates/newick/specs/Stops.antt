@@ -1,8 +1,7 @@
 -- "19 at the first byte that no such text can go on with, or at its end if it stops short …, or 1 at a 257th `(` if that stands first".
-use Rattle.std.specs.Prelude.{◌≡◌, List, ◌++◌, ℕ, suc, ◌<◌, ◌≤◌, length, get_or, take}
+use Rattle.std.specs.Prelude.{◌≡◌, List, ◌++◌, ℕ, suc, ◌<◌, ◌≤◌, length, get_or, take, Err}
 use Prim.Native.Char.{code}
 use Rattle.refusal.specs.declared.Refusal.TheVariants.{NewickForm, TooManyNodes}
-use Rattle.newick.specs.declared.reading.NewickRead.TheVariants.{Unread}
 use Rattle.newick.specs.Grammar.{Shape, Spells}
 use Rattle.newick.specs.Reading.{opened}
 use Rattle.newick.specs.Calls.{newick_read}
@@ -29,11 +28,11 @@ pub record CrowdedAt (most : ℕ) (text : List ℕ) (place : ℕ) : Type 0 where
 -- Of every call that gives 19, and of every call that gives 1 with a place.
 abbrev pub FormRefused : Type 0
 FormRefused =
-    (most : ℕ) (text : List ℕ) (room place : ℕ) → newick_read most text room ≡ Unread (NewickForm place) → StopsAt most text place
+    (most : ℕ) (text : List ℕ) (room place : ℕ) → newick_read most text room ≡ Err (NewickForm place) → StopsAt most text place
 
 abbrev pub CrowdRefused : Type 0
 CrowdRefused =
-    (most : ℕ) (text : List ℕ) (room place : ℕ) → newick_read most text room ≡ Unread (TooManyNodes place) → CrowdedAt most text place
+    (most : ℕ) (text : List ℕ) (room place : ℕ) → newick_read most text room ≡ Err (TooManyNodes place) → CrowdedAt most text place
 
 -- The two exclude each other, wherever their places are.
 abbrev pub NeverBoth : Type 0

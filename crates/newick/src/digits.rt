@@ -18,10 +18,7 @@ pub fn stands(text: &[u8], at: usize, byte: u8) -> bool
     ensures value { result ≡ eqb (byte_at text.now at) byte }
     ensures at_in_bounds { result ≡ true → at < length text.now }
 {
-    if at < text.len() {
-        return text[at] == byte;
-    }
-    false
+    at < text.len() && text[at] == byte
 }
 
 // The byte is one more digit of a number.
@@ -29,16 +26,9 @@ fn follows(count: usize, value: u32, byte: u8) -> bool
     requires { value ≤ 65535 }
     ensures { result ≡ may_follow count value byte }
 {
-    if byte < 48 {
-        return false;
-    }
-    if 57 < byte {
-        return false;
-    }
-    if !decimal::goes_on(count, value) {
-        return false;
-    }
-    10 * value + ((byte - 48) as u32) <= 65535
+    byte.is_ascii_digit()
+        && decimal::goes_on(count, value)
+        && 10 * value + u32::from(byte - b'0') <= 65535
 }
 
 // The number whose digits begin at this place.
@@ -47,20 +37,17 @@ pub fn read_digits(text: &[u8], at: usize) -> Number
     ensures { NumberRead text.now at result }
 {
     let mut value: u32 = 0;
-    let mut end = at;
-    while end < text.len() {
-        let byte = text[end];
-        if !follows(end - at, value, byte) {
+    for (count, byte) in text[at..].iter().enumerate() {
+        if !follows(count, value, *byte) {
             return Number {
-                value: value,
-                end: end,
+                value,
+                end: at + count,
             };
         }
-        value = 10 * value + ((byte - 48) as u32);
-        end += 1;
+        value = 10 * value + u32::from(*byte - b'0');
     }
     Number {
-        value: value,
-        end: end,
+        value,
+        end: text.len(),
     }
 }

@@ -21,11 +21,5 @@ pub fn text_length(modes: usize) -> usize
     requires { modes ≤ most_modes }
     ensures { (result ≡ text_length modes) × (result ≤ 2 + 67 * modes) }
 {
-    let mut length = 2;
-    let mut mode = 0;
-    while mode < modes {
-        length += mode_length(mode);
-        mode += 1;
-    }
-    length
+    2 + (0..modes).map(mode_length).sum::<usize>()
 }

@@ -6,28 +6,12 @@ ghost use Rattle.newick.specs.code.Promises.{Coded};
 
 use entities::codes;
 
-// The name as a number to count with.
-fn wide(name: u32) -> usize
-    ensures { result ≡ name }
-{
-    name as usize
-}
-
 // The name is a label, a leaf or the absent child of a tree of so many modes.
 fn in_range(modes: usize, name: usize) -> bool
     requires { modes ≤ most_modes }
     ensures { result ≡ in_range modes name }
 {
-    if name < modes {
-        return true;
-    }
-    if name == 131072 {
-        return true;
-    }
-    if name < 65536 {
-        return false;
-    }
-    name < 65536 + 2 * modes
+    name < modes || (65536..65536 + 2 * modes).contains(&name) || name == 131072
 }
 
 // The code of such a name.
@@ -45,18 +29,17 @@ fn code_of(modes: usize, name: usize) -> u16
 }
 
 // The codes of as many names, where all of them are in range.
+// A yes or no: what is read stands in the lent room, and an Option would hold nothing.
 pub fn put_codes(modes: usize, names: &[u32], codes: &mut [u16]) -> bool
     requires { (modes ≤ most_modes) × (length codes.old ≡ length names.now) }
     ensures { Coded modes names.now codes.new result }
 {
-    let mut at = 0;
-    while at < names.len() {
-        let name = wide(names[at]);
+    for (at, name) in names.iter().enumerate() {
+        let name = *name as usize;
         if !in_range(modes, name) {
             return false;
         }
         codes[at] = code_of(modes, name);
-        at += 1;
     }
     true
 }

@@ -1,10 +1,9 @@
 // An accepted tree written as Newick text.
-ghost use Rattle.std.specs.Prelude.{◌≡◌, ◌∷◌, suc, ◌+◌, ◌*◌, ◌≤◌, ◌<◌, length};
+ghost use Rattle.std.specs.Prelude.{◌≡◌, ◌∷◌, suc, ◌+◌, ◌*◌, ◌≤◌, ◌<◌, length, Ok};
 ghost use Rattle.lists.specs.Written.{written_at};
 ghost use Rattle.refusal.specs.Numbers.{Tells};
 ghost use Rattle.entities.specs.Limits.{most_modes};
 ghost use Rattle.fields.specs.Decimal.{decimal};
-ghost use Rattle.tree.specs.declared.TreeChecked.«TheVariants».{Accepted};
 ghost use Rattle.tree.specs.Check.{tree_checked};
 ghost use Rattle.tree.specs.Writing.{written_numbers, written_as, text_after};
 ghost use Rattle.newick.specs.Grammar.{spelled};
@@ -15,7 +14,7 @@ use crate::length;
 use entities::codes;
 use fields::decimal;
 use refusal::Refusal;
-use tree::{TreeChecked, TreeWritten, table};
+use tree::table;
 
 // A letter and a number written at this place; the place after them.
 fn put_name(text: &mut [u8], at: usize, letter: u8, number: usize) -> usize
@@ -97,28 +96,26 @@ fn put_node(
 }
 
 // An accepted tree's text written over the front where it fits.
-fn put_tree(text: &mut [u8], modes: usize, tree: &[u16]) -> TreeWritten
-    requires { tree_checked most_modes modes tree.now ≡ Accepted }
-    ensures value { result ≡ written_as Accepted (newick_text modes tree.now) (length text.old) }
+fn put_tree(text: &mut [u8], modes: usize, tree: &[u16]) -> Result<usize, Refusal>
+    requires { tree_checked most_modes modes tree.now ≡ (Ok tt) }
+    ensures value { result ≡ written_as (Ok tt) (newick_text modes tree.now) (length text.old) }
     ensures text_after { text.new ≡ text_after result (newick_text modes tree.now) text.old }
 {
     let length = length::text_length(modes);
     if text.len() < length {
-        return TreeWritten::Unwritten(Refusal::Room);
+        return Err(Refusal::Room);
     }
     let root = table::climb(tree, modes, 0);
     let end = put_child(text, 0, modes, tree, modes + 1, root);
     text[end] = b';';
-    TreeWritten::Written(length)
+    Ok(length)
 }
 
 // The tree as Newick text, or why it is refused.
-pub fn write_newick(modes: usize, tree: &[u16], text: &mut [u8]) -> TreeWritten
+pub fn write_newick(modes: usize, tree: &[u16], text: &mut [u8]) -> Result<usize, Refusal>
     ensures tells { Tells written_numbers (newick_written most_modes modes tree.now (length text.old)) result }
     ensures text_after { text.new ≡ text_after result (newick_text modes tree.now) text.old }
 {
-    match tree::check_tree(modes, tree) {
-        TreeChecked::Refused(refusal) => TreeWritten::Unwritten(refusal),
-        TreeChecked::Accepted => put_tree(text, modes, tree),
-    }
+    tree::check_tree(modes, tree)?;
+    put_tree(text, modes, tree)
 }

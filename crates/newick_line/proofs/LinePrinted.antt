@@ -1,4 +1,5 @@
 -- A tree's text written with a byte's room behind it, and the line that it is printed as.
+use Rattle.std.specs.Prelude.{Err, Ok, Result}
 use mathlib.Core.Path.{◌≡◌, ap}
 use mathlib.Core.List.{List, [], ◌++◌}
 use Prim.Native.Nat.{ℕ, ◌+◌, ◌*◌, ◌<◌, ◌≤◌}
@@ -7,8 +8,6 @@ use lib.ListN.{length, take, drop, set, length-append, take-append-drop}
 use Rattle.lists.proofs.Behind.{written_one}
 use Rattle.refusal.specs.declared.Refusal.{Refusal}
 use Rattle.fields.specs.Texts.{spelt}
-use Rattle.tree.specs.declared.TreeWritten.{TreeWritten}
-use Rattle.tree.specs.declared.TreeWritten.TheVariants.{Written, Unwritten}
 use Rattle.tree.specs.Check.{tree_checked}
 use Rattle.tree.specs.Writing.{tree_written, text_after}
 use Rattle.tree.proofs.WritingAnswered.{Fits, written_fits}
@@ -28,22 +27,22 @@ module _ (most modes : ℕ) (table : List ℕ) (room : ℕ) where
   abbrev text : List ℕ
   text = newick_text modes table
 
-  abbrev means : TreeWritten
+  abbrev means : Result ℕ Refusal
   means = newick_written most modes table room
 
-  pub line_fits : (count : ℕ) → Written count ≡ means → Fits text room count
+  pub line_fits : (count : ℕ) → Ok count ≡ means → Fits text room count
   unfolding newick_written tree_written
   line_fits count e = written_fits (tree_checked most modes table) text room count e
 
   module _ (out : List ℕ) where
     -- Written over the front of what is lent, the text is written over all of it.
-    pub after_front : room ≤ length out → (r : TreeWritten) → r ≡ means → text_after r text (take room out) ++ drop room out ≡ text_after r text out
+    pub after_front : room ≤ length out → (r : Result ℕ Refusal) → r ≡ means → text_after r text (take room out) ++ drop room out ≡ text_after r text out
     unfolding text_after
-    after_front k (Written count) e = front_over text out room (line_fits count e).within k
-    after_front k (Unwritten refusal) e = take-append-drop room out
+    after_front k (Ok count) e = front_over text out room (line_fits count e).within k
+    after_front k (Err refusal) e = take-append-drop room out
 
     -- LF behind the text makes the line.
-    pub written_line : (count : ℕ) (after : List ℕ) → Written count ≡ means → after ≡ text_after (Written count) text out → room < length out
+    pub written_line : (count : ℕ) (after : List ℕ) → Ok count ≡ means → after ≡ text_after (Ok count) text out → room < length out
         → Puts (table_line most room modes table) out (set after count 10) (count + 1)
     unfolding text_after table_line newick_line written_printed
     written_line count after e f k =
@@ -59,7 +58,7 @@ module _ (most modes : ℕ) (table : List ℕ) (room : ℕ) where
         rw line at puts
 
     -- A refusal leaves nothing, and is printed over that.
-    pub refused_line : (refusal : Refusal) (after : List ℕ) → Unwritten refusal ≡ means → after ≡ text_after (Unwritten refusal) text out
+    pub refused_line : (refusal : Refusal) (after : List ℕ) → Err refusal ≡ means → after ≡ text_after (Err refusal) text out
         → {last : List ℕ} {r : ℕ} → Puts (refusal_text refusal) after last r → Puts (table_line most room modes table) out last r
     unfolding text_after table_line newick_line written_printed
     refused_line refusal after e f puts =

@@ -1,4 +1,5 @@
 -- Any accepted tree's text has room, so the line that the code prints of a run's tree is the text and LF.
+use Rattle.std.specs.Prelude.{Ok}
 use mathlib.Core.Path.{◌≡◌}
 use mathlib.Core.List.{List, []}
 use Prim.Native.Nat.{ℕ, zero, suc, ◌+◌, ◌*◌, ◌<◌, ◌≤◌}
@@ -11,7 +12,6 @@ use Rattle.lists.proofs.Sums.{sum_listed}
 use Rattle.entities.specs.Limits.{most_modes}
 use Rattle.fields.proofs.Digits.{few_digits}
 use Rattle.terms_text.specs.Jobs.{Request}
-use Rattle.tree.specs.declared.TreeChecked.TheVariants.{Accepted}
 use Rattle.tree.specs.Table.{nodes}
 use Rattle.tree.specs.Check.{tree_checked}
 use Rattle.tree.specs.Writing.{written_as, tree_written}
@@ -43,7 +43,7 @@ unfolding text_length nodes
 text_short modes few =
     omega (arith, sum_listed mode_length modes, total_most mode_length 16 modes (λ k h. mode_short k (omega arith)))
 
-accepted_line : (modes : ℕ) (table : List ℕ) → tree_checked most_modes modes table ≡ Accepted
+accepted_line : (modes : ℕ) (table : List ℕ) → tree_checked most_modes modes table ≡ Ok tt
     → table_line most_modes line_room modes table ≡ newick_line modes table
 unfolding table_line newick_written tree_written written_as written_printed
 accepted_line modes table accepted =

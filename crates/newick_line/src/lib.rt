@@ -1,26 +1,24 @@
 // The tree that a text's run ends in, printed as a Newick line.
 #![tactic(auto)]
 
-ghost use Rattle.std.specs.Prelude.{◌≡◌, ◌*◌, length};
+ghost use Rattle.std.specs.Prelude.{◌≡◌};
 ghost use Rattle.entities.specs.Limits.{most_modes};
 ghost use Rattle.tree.specs.Writing.{text_after};
 ghost use Rattle.newick.specs.Writing.{newick_text};
 ghost use Rattle.newick.specs.Calls.{newick_written};
-ghost use Rattle.text.specs.Running.{program_rooms, printed_room};
+ghost use Rattle.text.specs.Running.{program_rooms};
 ghost use Rattle.text.specs.Output.{Prints};
 ghost use Rattle.newick_line.specs.NewickLine.{newick_answer_text};
 ghost use Rattle.newick_line.specs.code.Lines.{table_line, line_room};
 ghost use Rattle.text.specs.code.Printing.{Puts};
 
 use newick::writing;
-use ran_tree::Ended;
+use refusal::Refusal;
 use terms::rules::Rule;
 use text::{Printed, output};
-use tree::TreeWritten;
 
 // A tree's text written over the front, with room for a byte behind it.
-fn write_text(out: &mut [u8], modes: usize, tree: &[u16]) -> TreeWritten
-    requires { length out.old ≡ printed_room }
+fn write_text(out: &mut [u8; 16384], modes: usize, tree: &[u16]) -> Result<usize, Refusal>
     ensures value { result ≡ newick_written most_modes modes tree.now line_room }
     ensures out_after { out.new ≡ text_after result (newick_text modes tree.now) out.old }
 {
@@ -28,13 +26,12 @@ fn write_text(out: &mut [u8], modes: usize, tree: &[u16]) -> TreeWritten
 }
 
 // A tree's line printed over the front; how many bytes that is.
-fn put_line(out: &mut [u8], modes: usize, tree: &[u16]) -> usize
-    requires { length out.old ≡ printed_room }
+fn put_line(out: &mut [u8; 16384], modes: usize, tree: &[u16]) -> usize
     ensures { Puts (table_line most_modes line_room modes tree.now) out.old out.new result }
 {
     match write_text(out, modes, tree) {
-        TreeWritten::Unwritten(refusal) => output::put_refusal(out, refusal),
-        TreeWritten::Written(count) => {
+        Err(refusal) => output::put_refusal(out, refusal),
+        Ok(count) => {
             out[count] = b'\n';
             count + 1
         }
@@ -42,13 +39,12 @@ fn put_line(out: &mut [u8], modes: usize, tree: &[u16]) -> usize
 }
 
 // The answer to a text printed over the front, in lent room for its table; how many bytes that is.
-fn print_newick(input: &[u8], table: &mut [u16], out: &mut [u8]) -> usize
-    requires { (length table.old ≡ 3 * most_modes) × (length out.old ≡ printed_room) }
+fn print_newick(input: &[u8], table: &mut [u16; 768], out: &mut [u8; 16384]) -> usize
     ensures { Puts (newick_answer_text program_rooms input.now) out.old out.new result }
 {
     match ran_tree::run_tree(Rule::Published, input, table) {
-        Ended::Refused(refusal) => output::put_refusal(out, refusal),
-        Ended::Tree(modes) => {
+        Err(refusal) => output::put_refusal(out, refusal),
+        Ok(modes) => {
             let end = 3 * modes;
             put_line(out, modes, &table[..end])
         }
@@ -62,8 +58,5 @@ pub fn answer_newick(input: &[u8]) -> Printed
     let mut table = [0u16; 768];
     let mut bytes = [0u8; 16384];
     let count = print_newick(input, &mut table, &mut bytes);
-    Printed {
-        bytes: bytes,
-        count: count,
-    }
+    Printed { bytes, count }
 }

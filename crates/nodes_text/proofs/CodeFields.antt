@@ -1,4 +1,5 @@
 -- A field read as a code: `-` told by its byte and what follows, and any other field by the number that it says.
+use Rattle.std.specs.Prelude.{None, Some}
 use mathlib.Core.Path.{◌≡◌, refl}
 use mathlib.Core.Bool.{Bool, true, false, cond}
 use mathlib.Core.List.{List, [], ◌∷◌}
@@ -13,7 +14,6 @@ use Rattle.lists.proofs.Alike.{alike_same}
 use Rattle.entities.specs.Codes.{absent}
 use Rattle.fields.specs.Texts.{spelt}
 use Rattle.fields.specs.Decimal.{is_number, value}
-use Rattle.fields.specs.declared.numbers.Field.TheVariants.{Number, Broken}
 use Rattle.fields.specs.code.Reading.{first_field, field_read, field_at, number_at}
 use Rattle.fields.proofs.Numerals.{numeral}
 use Rattle.fields.proofs.ReadingFields.{field_good, field_broken}
@@ -48,24 +48,24 @@ module _ (text : List ℕ) (at : ℕ) where
         go true = refl
         go false = refl
 
-  pub code_dash : alike field (spelt "-") ≡ true → field_at is_code code_said text at ≡ Number absent (at + 1)
+  pub code_dash : alike field (spelt "-") ≡ true → field_at is_code code_said text at ≡ Some (record { number = absent; end = at + 1 })
   unfolding field_at field_read is_code code_said alike
   code_dash e = rw (alike_same field (spelt "-") e)
 
   -- A field that is no `-` is read as a number, and the absent child's is none.
   module _ (other : alike field (spelt "-") ≡ false) where
-    pub code_broken : number_at text at ≡ Broken → field_at is_code code_said text at ≡ Broken
+    pub code_broken : number_at text at ≡ None → field_at is_code code_said text at ≡ None
     unfolding field_at field_read is_code
     code_broken e = rw (other, field_broken is_number value field (at + length field) e)
 
-    module _ (number end : ℕ) (e : number_at text at ≡ Number number end) where
-      pub code_absent : number ≡ absent → field_at is_code code_said text at ≡ Broken
+    module _ (number end : ℕ) (e : number_at text at ≡ Some (record { number = number; end = end })) where
+      pub code_absent : number ≡ absent → field_at is_code code_said text at ≡ None
       unfolding field_at field_read is_code
       code_absent f =
           let good = field_good is_number value field (at + length field) number end e in
           rw (other, good.is, le-ltb (value field) absent (omega (arith, good.value_is)))
 
-      pub code_number : (number ≡ absent → ⊥) → field_at is_code code_said text at ≡ Number number end
+      pub code_number : (number ≡ absent → ⊥) → field_at is_code code_said text at ≡ Some (record { number = number; end = end })
       unfolding field_at field_read is_code code_said
       code_number f =
           let good = field_good is_number value field (at + length field) number end e in

@@ -29,39 +29,41 @@ fn is_dash(text: &[u8], at: usize) -> bool
 }
 
 // The code in the field that begins at this place.
-fn read_code(text: &[u8], at: usize) -> Field
+fn read_code(text: &[u8], at: usize) -> Option<Field>
     requires { at ≤ length text.now }
     ensures { result ≡ field_at is_code code_said text.now at }
 {
     if is_dash(text, at) {
-        return Field::Number(codes::ABSENT, at + 1);
+        return Some(Field {
+            number: codes::ABSENT,
+            end: at + 1,
+        });
     }
-    let Field::Number(number, end) = numbers::read_number(text, at) else {
-        return Field::Broken;
-    };
+    let field = numbers::read_number(text, at)?;
     // the absent child's number isn't written
-    if number == codes::ABSENT {
-        return Field::Broken;
+    if field.number == codes::ABSENT {
+        return None;
     }
-    Field::Number(number, end)
+    Some(field)
 }
 
 // The text is as many codes as there is room for, and they are put there.
+// A yes or no: what is read stands in the lent room, and an Option would hold nothing.
+// `read_numbers` with another reader of a field: their laws are one; a closure would need a longer contract than this loop.
 pub fn read_codes(text: &[u8], codes: &mut [u16]) -> bool
     ensures { FieldsRead is_code code_said (fields_after [] text.now) (length codes.old) codes.new result }
 {
+    let room = codes.len();
     let mut at = 0;
-    let mut count = 0;
-    while count < codes.len() {
-        let Field::Number(code, end) = read_code(text, at) else {
+    for (count, place) in codes.iter_mut().enumerate() {
+        let Some(field) = read_code(text, at) else {
             return false;
         };
-        codes[count] = code;
-        count += 1;
-        if end == text.len() {
-            return count == codes.len();
+        *place = field.number;
+        if field.end == text.len() {
+            return count + 1 == room;
         }
-        at = end + 1;
+        at = field.end + 1;
     }
     false
 }

@@ -8,17 +8,12 @@ ghost use Rattle.nodes_text.specs.code.Reading.{NodeRead, NodePut, Reads};
 
 use entities::codes;
 use fields::{lines, numbers};
+use refusal::Refusal;
 
 mod code_fields;
 
-// What a text says: so many nodes, or the line at which it is malformed.
-#[derive(Clone, Copy)]
-pub enum Nodes {
-    Are(usize),
-    Malformed(usize),
-}
-
 // The row of the node that a line, LF included, says.
+// A yes or no: what is read stands in the lent room, and an Option would hold nothing.
 fn read_node(line: &[u8], row: &mut [u16]) -> bool
     requires { length row.old ≡ 4 }
     ensures { NodeRead line.now row.new result }
@@ -35,6 +30,7 @@ fn read_node(line: &[u8], row: &mut [u16]) -> bool
 }
 
 // The row of a line put behind so many rows.
+// A yes or no: what is read stands in the lent room, and an Option would hold nothing.
 fn put_row(line: &[u8], rows: &mut [u16], count: usize) -> bool
     requires { 4 * count + 4 ≤ length rows.old }
     ensures { NodePut line.now (4 * count) rows.old rows.new result }
@@ -45,31 +41,25 @@ fn put_row(line: &[u8], rows: &mut [u16], count: usize) -> bool
 }
 
 // What a text says, its nodes' rows put over the front of the lent ones.
-pub fn read_nodes(text: &[u8], rows: &mut [u16]) -> Nodes
-    requires { length rows.old ≡ 4 * most_modes }
+pub fn read_nodes(text: &[u8], rows: &mut [u16; 1024]) -> Result<usize, Refusal>
     ensures { Reads most_modes (tree_said most_modes text.now) rows.new result }
 {
-    let mut at = 0;
     let mut count = 0;
-    loop {
-        let end = lines::line_end(text, at);
-        if end == at {
-            // bytes behind the last LF are a line without one
-            if at < text.len() {
-                return Nodes::Malformed(count);
-            }
-            if count == 0 {
-                return Nodes::Malformed(0);
-            }
-            return Nodes::Are(count);
-        }
+    for line in lines::lines_of(text) {
         if count == 256 {
-            return Nodes::Malformed(count);
+            return Err(Refusal::Malformed(count));
         }
-        if !put_row(&text[at..end], rows, count) {
-            return Nodes::Malformed(count);
+        if !put_row(line, rows, count) {
+            return Err(Refusal::Malformed(count));
         }
-        at = end;
         count += 1;
     }
+    // bytes behind the last LF are a line without one
+    if lines::kept_bytes(text) < text.len() {
+        return Err(Refusal::Malformed(count));
+    }
+    if count == 0 {
+        return Err(Refusal::Malformed(0));
+    }
+    Ok(count)
 }

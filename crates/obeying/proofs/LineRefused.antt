@@ -1,4 +1,6 @@
 -- What lines are refused by: a number of their own, 6 to 12, at a line that is no further than the merges made.
+use Rattle.obeying.specs.declared.header.HeaderLine.{HeaderLine}
+use Rattle.std.specs.Prelude.{Err, None, Ok, Option, Result, Some}
 use mathlib.Core.Path.{◌≡◌, refl}
 use mathlib.Core.Bool.{Bool, true, false, cond, not, ◌&&◌}
 use mathlib.Core.List.{List, [], ◌∷◌}
@@ -16,12 +18,6 @@ use Rattle.terms.specs.Rules.{rule_number}
 use Rattle.terms.specs.Job.{Job}
 use Rattle.history.specs.Lawful.{three_open, paired}
 use Rattle.history.specs.Choice.{weight_in}
-use Rattle.obeying.specs.declared.header.Header.{Header}
-use Rattle.obeying.specs.declared.header.Header.TheVariants.{Is as HeaderIs, Broken as HeaderBroken}
-use Rattle.obeying.specs.declared.judging.Judged.{Judged}
-use Rattle.obeying.specs.declared.judging.Judged.TheVariants.{Obey, Refused}
-use Rattle.obeying.specs.declared.merge_line.Merge.{Merge}
-use Rattle.obeying.specs.declared.merge_line.Merge.TheVariants.{Is as MergeIs, Broken as MergeBroken}
 use Rattle.obeying.specs.declared.merge_line.MergeLine.{MergeLine}
 use Rattle.obeying.specs.LineForms.{header_of}
 use Rattle.obeying.specs.Obeying.{
@@ -49,9 +45,9 @@ pub record LineRefusal (merges : ℕ) (why : Refusal) : Type 0 where
   pub place : place_of why ≤ suc merges
 
 -- No more merges than modes were made, and what is refused is a line.
-abbrev Judges : ℕ → Judged → Type 0
-Judges merges (Obey said) = Unit
-Judges merges (Refused why) = LineRefusal merges why
+abbrev Judges : ℕ → Result MergeLine Refusal → Type 0
+Judges merges (Ok said) = Unit
+Judges merges (Err why) = LineRefusal merges why
 
 abbrev Within : Job → Obeyed → Type 0
 Within job (went history) = length history ≤ job.modes
@@ -71,24 +67,24 @@ module _ (job : Job) where
       where
         go : (a b c d : Bool)
             → Judges (length history)
-            (cond (not a) (Refused (StepNotNext (line_after history)))
-            (cond (not b) (Refused (ChildNotOpen (line_after history)))
-            (cond (not c) (Refused (NotLawful (line_after history))) (cond (not d) (Refused (WeightUntrue (line_after history))) (Obey said)))))
+            (cond (not a) (Err (StepNotNext (line_after history)))
+            (cond (not b) (Err (ChildNotOpen (line_after history)))
+            (cond (not c) (Err (NotLawful (line_after history))) (cond (not d) (Err (WeightUntrue (line_after history))) (Ok said)))))
         go false b c d = at_line _ _ (omega arith) (omega arith) (omega arith)
         go true false c d = at_line _ _ (omega arith) (omega arith) (omega arith)
         go true true false d = at_line _ _ (omega arith) (omega arith) (omega arith)
         go true true true false = at_line _ _ (omega arith) (omega arith) (omega arith)
         go true true true true = tt
 
-    form_judges : (merge : Merge) → Judges (length history) (judged_form job history merge)
+    form_judges : (merge : Option MergeLine) → Judges (length history) (judged_form job history merge)
     unfolding judged_form
-    form_judges (MergeIs said) = merge_judges said
-    form_judges MergeBroken = at_line _ _ (omega arith) (omega arith) (omega arith)
+    form_judges (Some said) = merge_judges said
+    form_judges None = at_line _ _ (omega arith) (omega arith) (omega arith)
 
-    as_within : (judged : Judged) → length history < job.modes → Judges (length history) judged → Within job (obeyed_as history judged)
+    as_within : (judged : Result MergeLine Refusal) → length history < job.modes → Judges (length history) judged → Within job (obeyed_as history judged)
     unfolding obeyed_as
-    as_within (Obey said) left judges = omega arith
-    as_within (Refused why) left judges = (omega arith, judges)
+    as_within (Ok said) left judges = omega arith
+    as_within (Err why) left judges = (omega arith, judges)
 
     line_within : (by_hand : Bool) (bytes : List ℕ) → length history ≤ job.modes → Within job (obeyed_as history (judged_line by_hand job history bytes))
     unfolding judged_line obeyed_as
@@ -97,7 +93,7 @@ module _ (job : Job) where
         go : (test : Bool) → ltb (length history) job.modes ≡ test
             → Within job
             (obeyed_as history
-            (cond (not test) (Refused (LineAfterLast (line_after history))) (judged_form job history (line_said by_hand job history bytes))))
+            (cond (not test) (Err (LineAfterLast (line_after history))) (judged_form job history (line_said by_hand job history bytes))))
         go true e =
             let merge = line_said by_hand job history bytes in
             as_within (judged_form job history merge) (ltb-true _ _ e) (form_judges merge)
@@ -114,15 +110,15 @@ module _ (job : Job) where
   lines_within by_hand so_far (bytes ∷ rest) h =
       lines_within by_hand (obeyed_next by_hand job bytes so_far) rest (next_within by_hand bytes so_far h)
 
-  header_within : (header : Header) → Within job (obeyed_header job header)
+  header_within : (header : Option HeaderLine) → Within job (obeyed_header job header)
   unfolding obeyed_header
-  header_within (HeaderIs rule n t) =
-      go (eqb (rule_number rule) (rule_number job.rule) && (eqb n job.modes && eqb t (length job.terms)))
+  header_within (Some said) =
+      go (eqb (rule_number said.rule) (rule_number job.rule) && (eqb said.modes job.modes && eqb said.terms (length job.terms)))
     where
       go : (b : Bool) → Within job (cond (not b) (refused [] OtherHeader) (went []))
       go false = (omega arith, at_line _ _ (omega arith) (omega arith) (omega arith))
       go true = omega arith
-  header_within HeaderBroken = (omega arith, at_line _ _ (omega arith) (omega arith) (omega arith))
+  header_within None = (omega arith, at_line _ _ (omega arith) (omega arith) (omega arith))
 
   texts_within : (texts : List (List ℕ)) → Within job (obeyed_texts job texts)
   unfolding obeyed_texts

@@ -1,4 +1,6 @@
 -- What a line says, told by its fields read as numbers.
+use Rattle.obeying.specs.declared.header.HeaderLine.{HeaderLine}
+use Rattle.std.specs.Prelude.{None, Option, Some}
 use mathlib.Core.Path.{◌≡◌, refl, ◌∙◌, sym}
 use mathlib.Core.Bool.{Bool, true, false, ◌&&◌, true≢false}
 use mathlib.Core.List.{List, [], ◌∷◌, map}
@@ -22,20 +24,17 @@ use Rattle.fields.proofs.Openings.{opening, opened_fields, opens_with}
 use Rattle.terms.specs.declared.rules.Rule.{Rule}
 use Rattle.terms.specs.declared.rules.Rule.TheVariants.{Published, Keep}
 use Rattle.terms.specs.Job.{Job}
-use Rattle.obeying.specs.declared.header.Header.{Header}
-use Rattle.obeying.specs.declared.header.Header.TheVariants.{Is as HeaderIs, Broken as HeaderBroken}
-use Rattle.obeying.specs.declared.merge_line.Merge.TheVariants.{Is as MergeIs, Broken as MergeBroken}
 use Rattle.obeying.specs.LineForms.{rule_word, header_good, header_by, merge_good, merge_of_line}
 use Rattle.obeying.specs.Obeying.{completed, merge_by_hand}
 use Rattle.obeying.specs.code.Openings.{header_opening}
 
-pub merge_broken : (line : List ℕ) → numbers_good 5 (fields line) ≡ false → merge_of_line line ≡ MergeBroken
+pub merge_broken : (line : List ℕ) → numbers_good 5 (fields line) ≡ false → merge_of_line line ≡ None
 unfolding merge_of_line merge_good fields_good
 merge_broken line e = rw e
 
 pub merge_said : (line found : List ℕ) → numbers_good 5 (fields line) ≡ true → found ≡ map value (fields line)
     → merge_of_line line
-    ≡ MergeIs
+    ≡ Some
     (record {
       step = get_or found 0 0;
       triple = record { x = get_or found 1 0; y = get_or found 2 0; z = get_or found 3 0 };
@@ -48,13 +47,13 @@ merge_said line found e f =
 
 -- A line by hand, likewise.
 module _ (job : Job) (history : List Triple) (line : List ℕ) where
-  pub hand_broken : numbers_good 3 (fields line) ≡ false → merge_by_hand job history line ≡ MergeBroken
+  pub hand_broken : numbers_good 3 (fields line) ≡ false → merge_by_hand job history line ≡ None
   unfolding merge_by_hand fields_good
   hand_broken e = rw e
 
   pub hand_said : (found : List ℕ) → numbers_good 3 (fields line) ≡ true → found ≡ map value (fields line)
       → merge_by_hand job history line
-      ≡ MergeIs (completed job history (record { x = get_or found 0 0; y = get_or found 1 0; z = get_or found 2 0 }))
+      ≡ Some (completed job history (record { x = get_or found 0 0; y = get_or found 1 0; z = get_or found 2 0 }))
   unfolding merge_by_hand fields_good
   hand_said found e f = let p = fields line in rw (e, f, value_at p 0, value_at p 1, value_at p 2)
 
@@ -113,38 +112,39 @@ module _ (rule : Rule) (line : List ℕ) where
           rw (opened_header e, alike_self (rule_word rule), alike_self (spelt "1"), count)
       go false e = not_so (header_good rule (fields line)) (λ f. true≢false (sym (header_opens f) ∙ e))
 
-  module _ (other : Header) where
+  module _ (other : Option HeaderLine) where
     pub header_broken : says_numbers (header_opening rule) 2 line ≡ false → header_by rule line other ≡ other
     unfolding header_by
     header_broken e = rw (header_says ∙ e)
 
     pub header_said : (found : List ℕ) → says_numbers (header_opening rule) 2 line ≡ true → found ≡ map value (fields_behind (header_opening rule) line)
-        → header_by rule line other ≡ HeaderIs rule (get_or found 0 0) (get_or found 1 0)
+        → header_by rule line other ≡ Some (record { rule = rule; modes = get_or found 0 0; terms = get_or found 1 0 })
     unfolding header_by
     header_said found e f =
         let parts = fields_behind (header_opening rule) line in
         rw (header_says ∙ e, opened_header (header_opens (header_says ∙ e)), f, value_at parts 0, value_at parts 1)
 
 -- What the bytes of one rule say is what the line says where they say a header, and otherwise the rest says it.
-module _ (rule : Rule) (line : List ℕ) (other : Header) where
-  pub header_first : (said : Rule) (n t : ℕ) → header_by rule line HeaderBroken ≡ HeaderIs said n t → header_by rule line other ≡ HeaderIs said n t
+module _ (rule : Rule) (line : List ℕ) (other : Option HeaderLine) where
+  pub header_first : (said : HeaderLine) → header_by rule line None ≡ Some said → header_by rule line other ≡ Some said
   unfolding header_by
-  header_first said n t e = go (header_good rule (fields line)) refl
+  header_first said e = go (header_good rule (fields line)) refl
     where
-      go : (b : Bool) → header_good rule (fields line) ≡ b → header_by rule line other ≡ HeaderIs said n t
+      go : (b : Bool) → header_good rule (fields line) ≡ b → header_by rule line other ≡ Some said
       go true f = let g = rw f at e in rw f g
       go false f =
-          let g : HeaderBroken ≡ HeaderIs said n t = rw f at e in
+          let g : ◌≡◌ {A = Option HeaderLine} None (Some said) = rw f at e in
           let z : ◌≡◌ {A = ℕ} 0 1 = cc in
           absurd (omega arith)
 
-  pub header_next : header_by rule line HeaderBroken ≡ HeaderBroken → header_by rule line other ≡ other
+  pub header_next : header_by rule line None ≡ None → header_by rule line other ≡ other
   unfolding header_by
   header_next e = go (header_good rule (fields line)) refl
     where
       go : (b : Bool) → header_good rule (fields line) ≡ b → header_by rule line other ≡ other
       go true f =
-          let g : HeaderIs rule (value (get_or (fields line) 2 [])) (value (get_or (fields line) 3 [])) ≡ HeaderBroken = rw f at e in
+          let found : HeaderLine = record { rule = rule; modes = value (get_or (fields line) 2 []); terms = value (get_or (fields line) 3 []) } in
+          let g : Some found ≡ None = rw f at e in
           let z : ◌≡◌ {A = ℕ} 0 1 = cc in
           absurd (omega arith)
       go false f = rw f

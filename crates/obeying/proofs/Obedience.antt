@@ -1,4 +1,7 @@
 -- Whatever bytes are obeyed to a history: the history is lawful and no longer than the modes, and its merges are what the lines say, in their order.
+use Rattle.obeying.specs.declared.header.HeaderLine.{HeaderLine}
+use Rattle.std.specs.Prelude.{Err, None, Ok, Option, Result, Some}
+use Rattle.obeying.specs.declared.merge_line.MergeLine.{MergeLine}
 use mathlib.Core.Path.{◌≡◌, refl, ap, ◌∙◌, sym}
 use mathlib.Core.Bool.{Bool, true, false, cond, ◌&&◌, not}
 use mathlib.Core.List.{List, [], ◌∷◌}
@@ -21,12 +24,6 @@ use Rattle.history.specs.History.{merge_of, history_before}
 use Rattle.history.specs.Lawful.{Lawful, LawfulHistory}
 use Rattle.history.specs.Choice.{weight_in}
 use Rattle.history.proofs.Amounts.{merge_getD}
-use Rattle.obeying.specs.declared.header.Header.{Header}
-use Rattle.obeying.specs.declared.header.Header.TheVariants.{Is as HeaderIs, Broken as HeaderBroken}
-use Rattle.obeying.specs.declared.merge_line.Merge.{Merge}
-use Rattle.obeying.specs.declared.merge_line.Merge.TheVariants.{Is as MergeIs}
-use Rattle.obeying.specs.declared.judging.Judged.{Judged}
-use Rattle.obeying.specs.declared.judging.Judged.TheVariants.{Obey, Refused}
 use Rattle.obeying.specs.LineForms.{header_of}
 use Rattle.obeying.specs.Obeying.{Obeyed, went, refused, merge_by_hand, line_said, judged_line, obeyed_as, obeyed_next, obeyed_lines, obeyed_header, obeyed_texts, obeyed, obeyed_by_hand}
 use Rattle.obeying.specs.Obedience.{Obedient}
@@ -38,11 +35,11 @@ not_went : (made : List Triple) (refusal : Refusal) (history : List Triple) → 
 not_went made refusal history e = let z : ◌≡◌ {A = ℕ} 0 1 = cc in absurd (omega arith)
 
 -- What one line that was obeyed has said and done.
-record Added (job : Job) (history : List Triple) (said : Merge) (after : List Triple) : Type 0 where
+record Added (job : Job) (history : List Triple) (said : Option MergeLine) (after : List Triple) : Type 0 where
   merge : Triple
   left : length history < job.modes
   lawful : Lawful job.modes history merge
-  says : said ≡ MergeIs (record { step = length history; triple = merge; weight = weight_in job history merge })
+  says : said ≡ Some (record { step = length history; triple = merge; weight = weight_in job history merge })
   adds : after ≡ merge ∷ history
 
 line_added : (by_hand : Bool) (job : Job) (history : List Triple) (bytes : List ℕ) (after : List Triple)
@@ -50,9 +47,9 @@ line_added : (by_hand : Bool) (job : Job) (history : List Triple) (bytes : List 
 unfolding obeyed_next obeyed_as
 line_added by_hand job history bytes after e = go (judged_line by_hand job history bytes) refl e
   where
-    go : (judged : Judged) → judged_line by_hand job history bytes ≡ judged → obeyed_as history judged ≡ went after
+    go : (judged : Result MergeLine Refusal) → judged_line by_hand job history bytes ≡ judged → obeyed_as history judged ≡ went after
         → Added job history (line_said by_hand job history bytes) after
-    go (Obey said) f g =
+    go (Ok said) f g =
         let next = says_next by_hand job history said bytes f in
         record {
           merge = said.triple;
@@ -60,11 +57,11 @@ line_added by_hand job history bytes after e = go (judged_line by_hand job histo
           lawful = next.lawful;
           says =
               next.reads
-              ∙ ap (λ n. MergeIs (record { step = n; triple = said.triple; weight = said.weight })) next.step_is
-              ∙ ap (λ n. MergeIs (record { step = length history; triple = said.triple; weight = n })) next.weight_is;
+              ∙ ap (λ n. Some (record { step = n; triple = said.triple; weight = said.weight })) next.step_is
+              ∙ ap (λ n. Some (record { step = length history; triple = said.triple; weight = n })) next.weight_is;
           adds = cc;
         }
-    go (Refused refusal) f g = absurd (not_went history refusal after g)
+    go (Err refusal) f g = absurd (not_went history refusal after g)
 
 -- Three zeros, where there is no such merge.
 abbrev no_merge : Triple
@@ -82,7 +79,7 @@ abbrev Says : Bool → Job → ℕ → List (List ℕ) → List Triple → Type 
 Says by_hand job begun texts history =
     (i : ℕ) → i < length texts
     → line_said by_hand job (before_at history (length texts) i) (get_or texts i [])
-    ≡ MergeIs
+    ≡ Some
     (record {
       step = begun + i;
       triple = merge_at history (length texts) i;
@@ -158,27 +155,27 @@ module _ (by_hand : Bool) (job : Job) where
 
 module _ (job : Job) where
   -- A header that was obeyed says the rule, the modes and the count of the terms, and no merge.
-  header_obeyed : (said : Header) (history : List Triple) → obeyed_header job said ≡ went history
-      → (said ≡ HeaderIs job.rule job.modes (length job.terms)) × (history ≡ [])
+  header_obeyed : (said : Option HeaderLine) (history : List Triple) → obeyed_header job said ≡ went history
+      → (said ≡ Some (record { rule = job.rule; modes = job.modes; terms = length job.terms })) × (history ≡ [])
   unfolding obeyed_header
-  header_obeyed (HeaderIs rule n t) history e =
-      go (eqb (rule_number rule) (rule_number job.rule) && (eqb n job.modes && eqb t (length job.terms))) refl e
+  header_obeyed (Some said) history e =
+      go (eqb (rule_number said.rule) (rule_number job.rule) && (eqb said.modes job.modes && eqb said.terms (length job.terms))) refl e
     where
-      go : (test : Bool) → (eqb (rule_number rule) (rule_number job.rule) && (eqb n job.modes && eqb t (length job.terms))) ≡ test
+      go : (test : Bool) → (eqb (rule_number said.rule) (rule_number job.rule) && (eqb said.modes job.modes && eqb said.terms (length job.terms))) ≡ test
           → cond (not test) (refused [] OtherHeader) (went []) ≡ went history
-          → (HeaderIs rule n t ≡ HeaderIs job.rule job.modes (length job.terms)) × (history ≡ [])
+          → (Some said ≡ Some (record { rule = job.rule; modes = job.modes; terms = length job.terms })) × (history ≡ [])
       go true f g =
-          let ruled = both (eqb (rule_number rule) (rule_number job.rule)) (eqb n job.modes && eqb t (length job.terms)) f in
-          let parts = both (eqb n job.modes) (eqb t (length job.terms)) ruled.1 in
-          let r = same_rule rule job.rule (eqb-true (rule_number rule) (rule_number job.rule) ruled.0) in
-          let m = eqb-true n job.modes parts.0 in
-          let c = eqb-true t (length job.terms) parts.1 in
-          (cc, cc)
+          let ruled = both (eqb (rule_number said.rule) (rule_number job.rule)) (eqb said.modes job.modes && eqb said.terms (length job.terms)) f in
+          let parts = both (eqb said.modes job.modes) (eqb said.terms (length job.terms)) ruled.1 in
+          let r = same_rule said.rule job.rule (eqb-true (rule_number said.rule) (rule_number job.rule) ruled.0) in
+          let m = eqb-true said.modes job.modes parts.0 in
+          let c = eqb-true said.terms (length job.terms) parts.1 in
+          (rw (← r, ← m, ← c), cc)
       go false f g = absurd (not_went [] OtherHeader history g)
-  header_obeyed HeaderBroken history e = absurd (not_went [] (LineForm 0) history e)
+  header_obeyed None history e = absurd (not_went [] (LineForm 0) history e)
 
   rest_obedient : (first : List ℕ) (rest : List (List ℕ)) (history : List Triple)
-      → header_of first ≡ HeaderIs job.rule job.modes (length job.terms) → AddedAll false job [] rest history → Obedient job (first ∷ rest) history
+      → header_of first ≡ Some (record { rule = job.rule; modes = job.modes; terms = length job.terms }) → AddedAll false job [] rest history → Obedient job (first ∷ rest) history
   rest_obedient first rest history h all =
       let size : length rest ≡ length history = omega (arith, all.longer) in
       record {
@@ -215,7 +212,7 @@ module _ (job : Job) where
     pub within : length history ≤ job.modes
     pub a_line_each : length history ≡ length texts
     pub says : (i : ℕ) → i < length history
-        → merge_by_hand job (history_before history i) (get_or texts i []) ≡ MergeIs (record {
+        → merge_by_hand job (history_before history i) (get_or texts i []) ≡ Some (record {
           step = i;
           triple = merge_of history i;
           weight = weight_in job (history_before history i) (merge_of history i);

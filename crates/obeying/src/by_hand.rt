@@ -6,7 +6,7 @@ ghost use Rattle.merging.specs.code.Runs.{Holds};
 ghost use Rattle.obeying.specs.Obeying.{completed, merge_by_hand, line_said};
 
 use crate::merge_line;
-use crate::merge_line::{Merge, MergeLine};
+use crate::merge_line::MergeLine;
 use entities::Triple;
 use fields::numbers;
 use merging::asked;
@@ -25,24 +25,17 @@ fn complete(run: Run, rows: &[u16], triple: Triple) -> MergeLine
 }
 
 // The merge that a line by hand, LF included, says after this run.
-fn read_by_hand(run: Run, rows: &[u16], line: &[u8]) -> Merge
+fn read_by_hand(run: Run, rows: &[u16], line: &[u8]) -> Option<MergeLine>
     requires { (job : Job) × Holds job rows.now run }
     ensures { (job : Job) → Holds job rows.now run → result ≡ merge_by_hand job (history_of run) line.now }
 {
-    let mut found = [0u16; 3];
-    if !numbers::read_line(line, b"", &mut found) {
-        return Merge::Broken;
-    }
-    let triple = Triple {
-        x: found[0],
-        y: found[1],
-        z: found[2],
-    };
-    Merge::Is(complete(run, rows, triple))
+    let [x, y, z] = numbers::line_numbers::<3>(line, b"")?;
+    Some(complete(run, rows, Triple { x, y, z }))
 }
 
 // What a line says after this run, by hand or as a journal's.
-pub fn read_said(run: Run, rows: &[u16], line: &[u8], by_hand: bool) -> Merge
+// By a flag, which the definition `line_said` has: every law of the lines is of either.
+pub fn read_said(run: Run, rows: &[u16], line: &[u8], by_hand: bool) -> Option<MergeLine>
     requires { (job : Job) × Holds job rows.now run }
     ensures { (job : Job) → Holds job rows.now run → result ≡ line_said by_hand job (history_of run) line.now }
 {

@@ -1,37 +1,34 @@
 // The header line: its rule's word, `1`, modes, terms.
-ghost use Rattle.std.specs.Prelude.{◌≡◌};
+ghost use Rattle.std.specs.Prelude.{◌≡◌, None};
 ghost use Rattle.obeying.specs.LineForms.{header_by, header_of};
 ghost use Rattle.obeying.specs.code.Openings.{header_opening};
-ghost use Rattle.obeying.specs.declared.header.Header.«TheVariants».{Broken};
 
 use fields::numbers;
 use terms::rules::Rule;
 
-// What a line says as a header.
+// What a header line says.
 #[derive(Clone, Copy)]
-pub enum Header {
-    Is(Rule, u16, u16),
-    Broken,
+pub struct HeaderLine {
+    pub rule: Rule,
+    pub modes: u16,
+    pub terms: u16,
 }
 
 // The header that a line, LF included, says where its first bytes are those of this rule.
-fn read_by(rule: Rule, line: &[u8], opening: &[u8]) -> Header
+fn read_by(rule: Rule, line: &[u8], opening: &[u8]) -> Option<HeaderLine>
     requires { opening.now ≡ header_opening rule }
-    ensures { result ≡ header_by rule line.now Broken }
+    ensures { result ≡ header_by rule line.now None }
 {
-    let mut found = [0u16; 2];
-    if !numbers::read_line(line, opening, &mut found) {
-        return Header::Broken;
-    }
-    Header::Is(rule, found[0], found[1])
+    let [modes, terms] = numbers::line_numbers::<2>(line, opening)?;
+    Some(HeaderLine { rule, modes, terms })
 }
 
 // The header that a line, LF included, says in either rule's word.
-pub fn read_header(line: &[u8]) -> Header
+pub fn read_header(line: &[u8]) -> Option<HeaderLine>
     ensures { result ≡ header_of line.now }
 {
-    match read_by(Rule::Published, line, b"hatt\t1\t") {
-        Header::Is(rule, n, t) => Header::Is(rule, n, t),
-        Header::Broken => read_by(Rule::Keep, line, b"keep\t1\t"),
+    if let Some(header) = read_by(Rule::Published, line, b"hatt\t1\t") {
+        return Some(header);
     }
+    read_by(Rule::Keep, line, b"keep\t1\t")
 }

@@ -6,17 +6,10 @@ ghost use Rattle.merging.specs.code.Runs.{Holds};
 ghost use Rattle.obeying.specs.Obeying.{line_after, judged_merge, judged_line};
 
 use crate::by_hand;
-use crate::merge_line::{Merge, MergeLine};
+use crate::merge_line::MergeLine;
 use merging::asked;
 use merging::run::Run;
 use refusal::Refusal;
-
-// What becomes of a line: the merge that it says is to be made, or it is refused.
-#[derive(Clone, Copy)]
-pub enum Judged {
-    Obey(MergeLine),
-    Refused(Refusal),
-}
 
 // The number of the line that follows the merges of a run: each line before it but the header has made one.
 fn line_after(run: Run, rows: &[u16]) -> usize
@@ -27,37 +20,41 @@ fn line_after(run: Run, rows: &[u16]) -> usize
 }
 
 // What the line of this number says, tested in the order of the refusals.
-fn judge_merge(run: Run, rows: &[u16], said: MergeLine, line: usize) -> Judged
+fn judge_merge(run: Run, rows: &[u16], said: MergeLine, line: usize) -> Result<MergeLine, Refusal>
     requires holds { (job : Job) × Holds job rows.now run }
     requires line_value { line ≡ line_after (history_of run) }
     ensures { (job : Job) → Holds job rows.now run → result ≡ judged_merge job (history_of run) said }
 {
-    if entities::wide(said.step) != asked::merges(run) {
-        return Judged::Refused(Refusal::StepNotNext(line));
+    if usize::from(said.step) != asked::merges(run) {
+        return Err(Refusal::StepNotNext(line));
     }
     if !asked::three_open(run, said.triple) {
-        return Judged::Refused(Refusal::ChildNotOpen(line));
+        return Err(Refusal::ChildNotOpen(line));
     }
     if !asked::are_paired(run, said.triple) {
-        return Judged::Refused(Refusal::NotLawful(line));
+        return Err(Refusal::NotLawful(line));
     }
-    if entities::wide(said.weight) != asked::weight_of(run, rows, said.triple) {
-        return Judged::Refused(Refusal::WeightUntrue(line));
+    if usize::from(said.weight) != asked::weight_of(run, rows, said.triple) {
+        return Err(Refusal::WeightUntrue(line));
     }
-    Judged::Obey(said)
+    Ok(said)
 }
 
 // One line after a run; a line after the last merge is refused unread.
-pub fn judge_line(run: Run, modes: usize, rows: &[u16], bytes: &[u8], by_hand: bool) -> Judged
+pub fn judge_line(
+    run: Run,
+    modes: usize,
+    rows: &[u16],
+    bytes: &[u8],
+    by_hand: bool,
+) -> Result<MergeLine, Refusal>
     requires { (job : Job) × Holds job rows.now run }
     ensures { (job : Job) → Holds job rows.now run → job.modes ≡ modes → result ≡ judged_line by_hand job (history_of run) bytes.now }
 {
     let line = line_after(run, rows);
     if modes <= asked::merges(run) {
-        return Judged::Refused(Refusal::LineAfterLast(line));
+        return Err(Refusal::LineAfterLast(line));
     }
-    match by_hand::read_said(run, rows, bytes, by_hand) {
-        Merge::Is(said) => judge_merge(run, rows, said, line),
-        Merge::Broken => Judged::Refused(Refusal::LineForm(line)),
-    }
+    let said = by_hand::read_said(run, rows, bytes, by_hand).ok_or(Refusal::LineForm(line))?;
+    judge_merge(run, rows, said, line)
 }

@@ -13,28 +13,14 @@ pub struct MergeLine {
     pub weight: u16,
 }
 
-// What a line says as a merge line.
-#[derive(Clone, Copy)]
-pub enum Merge {
-    Is(MergeLine),
-    Broken,
-}
-
 // The merge that a line, LF included, says.
-pub fn read_merge(line: &[u8]) -> Merge
+pub fn read_merge(line: &[u8]) -> Option<MergeLine>
     ensures { result ≡ merge_of_line line.now }
 {
-    let mut found = [0u16; 5];
-    if !numbers::read_line(line, b"", &mut found) {
-        return Merge::Broken;
-    }
-    Merge::Is(MergeLine {
-        step: found[0],
-        triple: Triple {
-            x: found[1],
-            y: found[2],
-            z: found[3],
-        },
-        weight: found[4],
+    let [step, x, y, z, weight] = numbers::line_numbers::<5>(line, b"")?;
+    Some(MergeLine {
+        step,
+        triple: Triple { x, y, z },
+        weight,
     })
 }

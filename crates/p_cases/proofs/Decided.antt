@@ -1,4 +1,6 @@
 -- "What the promises decide": the wrong programs that document 01 names break the promise of `resume` on a P case.
+use Rattle.std.specs.Prelude.{Err, Result}
+use Rattle.journal.specs.declared.resuming.Numbers.{Numbers}
 use mathlib.Core.Path.{◌≡◌, ap, ◌∙◌}
 use mathlib.Core.Bool.{◌&&◌}
 use mathlib.Core.List.{List, [], ◌∷◌, ◌++◌, append-nil}
@@ -13,8 +15,6 @@ use Rattle.lists.proofs.Every.{every_at}
 use Rattle.lists.proofs.Tests.{both}
 use Rattle.refusal.specs.declared.Refusal.{Refusal}
 use Rattle.refusal.specs.Numbers.{refused_numbers}
-use Rattle.journal.specs.declared.resuming.Answer.{Answer}
-use Rattle.journal.specs.declared.resuming.Answer.TheVariants.{Refused}
 use Rattle.journal.specs.Resuming.{Outcome, done, refuses}
 use Rattle.journal.specs.Promises.{Lent, lent, lent_then, Answers, numbers_of}
 use Rattle.p_cases.specs.Cases.{Case, holds, resuming, told, cases, p1, p3, p5}
@@ -58,9 +58,9 @@ second : (outcome : Outcome) (before after : Lent) (seen : List ℕ) → after �
 second outcome before after seen e f h =
     ap (λ l. get_or l.rows 1 0) e ∙ front outcome before 1 (rw f h) ∙ ap (λ l. get_or l 1 0) f
 
-module _ (before after : Lent) (r : Answer) where
+module _ (before after : Lent) (r : Result Numbers Refusal) where
   -- "A call that refuses always fails demand 2 on P1".
-  pub refuses_always : (why : Refusal) → Answers (λ given. p1) before after (Refused why) → ⊥
+  pub refuses_always : (why : Refusal) → Answers (λ given. p1) before after (Err why) → ⊥
   unfolding numbers_of refused_numbers cases resuming
   refuses_always why a =
       let e = ap (λ l. get_or l 2 0) (ap numbers_of a.answer ∙ (shown 0 (omega arith)).numbers) in
@@ -73,7 +73,7 @@ module _ (before after : Lent) (r : Answer) where
       let e = second p1 before after _ a.leaves (shown 0 (omega arith)).rows (omega arith) in
       omega (arith, e, ap (λ l. get_or l 1 0) (left ∙ zeros))
 
-  module _ (other_before other_After : Lent) (other : Answer) (third : Answers (λ given. p3) before after r)
+  module _ (other_before other_After : Lent) (other : Result Numbers Refusal) (third : Answers (λ given. p3) before after r)
       (fifth : Answers (λ given. p5) other_before other_After other) where
     -- "one fixed tree fails on P3 beside P5's rows".
     pub one_fixed_tree : after.rows ≡ other_After.rows → ⊥

@@ -7,12 +7,10 @@ use std::io::Write;
 fn main(rt: HostRuntime) -> io::Result<()> {
     // more than any well-formed text has; what lies beyond alters no answer
     let mut input = [0u8; 98304];
-    let read = standard_input::read_input(&mut rt.stdin(), &mut input);
     // one whose input failed says nothing, and its starter says why
-    if read.failed {
+    let Ok(count) = standard_input::read_input(&mut rt.stdin(), &mut input) else {
         return Ok(());
-    }
-    let count = read.count;
+    };
     let printed = newick_line::answer_newick(&input[..count]);
     let bytes = printed.bytes;
     let length = printed.count;

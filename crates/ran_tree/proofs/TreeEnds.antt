@@ -1,4 +1,4 @@
--- A run's rows laid out in front of a table are what is printed of; and what an answer tells, case by case.
+-- A run's rows laid out in front of a table are what is printed of, or its refusal.
 use mathlib.Core.Path.{◌≡◌, ap, ◌∙◌, sym}
 use mathlib.Core.List.{List}
 use Prim.Native.Nat.{ℕ, ◌*◌, ◌≤◌}
@@ -11,10 +11,8 @@ use Rattle.text.specs.declared.running.Run.{Run}
 use Rattle.text.specs.code.Runs.{Lent, RanDone}
 use Rattle.text.specs.Output.{refusal_text}
 use Rattle.text.proofs.RunEnds.{rows_stand}
-use Rattle.ran_tree.specs.declared.Ended.{Ended}
-use Rattle.ran_tree.specs.declared.Ended.TheVariants.{Tree, Refused}
 use Rattle.ran_tree.specs.Printing.{tree_printed}
-use Rattle.ran_tree.specs.code.Ending.{TreeStands, EndsIn}
+use Rattle.ran_tree.specs.code.Ending.{TreeStands}
 
 module _ {most : ℕ} {means : Outcome} {before after : Lent} {run : Run} (known : RanDone most means before after run) (room : 4 * most ≤ length before.rows) where
   -- The rows of a run that is done, in front of what was lent.
@@ -34,11 +32,8 @@ module _ {most : ℕ} {means : Outcome} {before after : Lent} {run : Run} (known
         prints = λ of_table. rw (known.is, front) (ap (λ n. of_table n (table_of known.ending.rows)) size);
       }
 
--- What is known of an answer, case by case.
-module _ (most : ℕ) (means : Outcome) (table : List ℕ) (r : Ended) (ends : EndsIn most means table r) where
-  pub tree_stands : (modes : ℕ) → r ≡ Tree modes → TreeStands most means table modes
-  tree_stands modes e = rw e at ends
-
-  pub tree_refused : (refusal : Refusal) → r ≡ Refused refusal → (of_table : ℕ → List ℕ → List ℕ) → refusal_text refusal ≡ tree_printed of_table means
-  unfolding tree_printed
-  tree_refused refusal e of_table = let is : means ≡ refuses refusal = (rw e at ends) in rw is
+-- Of a run that is refused the refusal is printed.
+pub tree_refused : {means : Outcome} {refusal : Refusal} → means ≡ refuses refusal → (of_table : ℕ → List ℕ → List ℕ)
+    → refusal_text refusal ≡ tree_printed of_table means
+unfolding tree_printed
+tree_refused is of_table = rw is

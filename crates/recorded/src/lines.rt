@@ -3,7 +3,7 @@ ghost use Rattle.std.specs.Prelude.{◌≤◌, ◌<◌, length};
 
 use entities::codes;
 use fields::numbers::Field;
-use fields::{lines, numbers, parts};
+use fields::{lines, numbers};
 
 // How many numbers were read, and the place behind what was read; 0 numbers where the text is another.
 #[derive(Clone, Copy)]
@@ -12,52 +12,34 @@ pub struct Read {
     pub end: usize,
 }
 
-// The place of the next tab, or the text's end.
-fn field_end(text: &[u8], from: usize) -> usize
-    requires { from ≤ length text.now }
-    ensures { (from ≤ result) × (result ≤ length text.now) }
-{
-    let mut at = from;
-    while at < text.len() {
-        if text[at] == 9 {
-            return at;
-        }
-        at += 1;
-    }
-    at
-}
-
 // The number that a field says; the dash is the absent child's code.
-fn read_code(field: &[u8]) -> Field {
-    if parts::same_bytes(field, b"-") {
-        return Field::Number(codes::ABSENT, 0);
+fn read_code(field: &[u8]) -> Option<u16> {
+    if field == b"-".as_slice() {
+        return Some(codes::ABSENT);
     }
     let mut number = [0u16; 1];
     if !numbers::read_numbers(field, &mut number) {
-        return Field::Broken;
+        return None;
     }
-    Field::Number(number[0], 0)
+    Some(number[0])
 }
 
 // The text's fields put into the front of the codes; how many, or 0 where one is broken or has no room.
 fn read_codes(text: &[u8], codes: &mut [u16]) -> usize
     ensures { result ≤ length codes.old }
 {
-    let mut at = 0;
     let mut count = 0;
-    while count < codes.len() {
-        let end = field_end(text, at);
-        let Field::Number(code, _) = read_code(&text[at..end]) else {
+    for field in text.split(|byte| *byte == b'\t') {
+        if count == codes.len() {
+            return 0;
+        }
+        let Some(code) = read_code(field) else {
             return 0;
         };
         codes[count] = code;
         count += 1;
-        if end == text.len() {
-            return count;
-        }
-        at = end + 1;
     }
-    0
+    count
 }
 
 // The numbers of the line that begins here, if it has this word, put into the front of the codes.
@@ -80,7 +62,7 @@ pub fn read_line(text: &[u8], from: usize, word: &[u8], codes: &mut [u16]) -> Re
         return nothing;
     }
     let fields = from + word.len();
-    if !parts::same_bytes(&text[from..fields], word) {
+    if &text[from..fields] != word {
         return nothing;
     }
     let last = end - 1;
@@ -91,13 +73,16 @@ pub fn read_line(text: &[u8], from: usize, word: &[u8], codes: &mut [u16]) -> Re
 }
 
 // The one number of the line that begins here, and the place behind the line.
-pub fn read_one(text: &[u8], from: usize, word: &[u8]) -> Field {
+pub fn read_one(text: &[u8], from: usize, word: &[u8]) -> Option<Field> {
     let mut number = [0u16; 1];
     let line = read_line(text, from, word, &mut number);
     if line.count != 1 {
-        return Field::Broken;
+        return None;
     }
-    Field::Number(number[0], line.end)
+    Some(Field {
+        number: number[0],
+        end: line.end,
+    })
 }
 
 // The numbers of the lines with this word that begin here, so many a line; only the last line may have fewer.
@@ -106,28 +91,21 @@ pub fn read_lines(text: &[u8], from: usize, word: &[u8], width: usize, codes: &m
 {
     let mut at = from;
     let mut count = 0;
-    while width <= codes.len() - count {
-        let room = count + width;
-        let line = read_line(text, at, word, &mut codes[count..room]);
+    if width == 0 {
+        return Read { count, end: at };
+    }
+    for part in codes.chunks_exact_mut(width) {
+        let line = read_line(text, at, word, part);
         if line.count == 0 {
-            return Read {
-                count: count,
-                end: at,
-            };
+            break;
         }
         count += line.count;
         at = line.end;
         if line.count < width {
-            return Read {
-                count: count,
-                end: at,
-            };
+            break;
         }
     }
-    Read {
-        count: count,
-        end: at,
-    }
+    Read { count, end: at }
 }
 
 // The term lines that begin here as rows of eight: the length, the indices, and the zeros that were there.
@@ -136,22 +114,15 @@ pub fn read_terms(text: &[u8], from: usize, rows: &mut [u16]) -> Read
 {
     let mut at = from;
     let mut count = 0;
-    while 8 <= rows.len() - count {
-        let room = count + 8;
-        let line = read_term(text, at, &mut rows[count..room]);
+    for row in rows.chunks_exact_mut(8) {
+        let line = read_term(text, at, row);
         if line.count == 0 {
-            return Read {
-                count: count,
-                end: at,
-            };
+            break;
         }
         count += 8;
         at = line.end;
     }
-    Read {
-        count: count,
-        end: at,
-    }
+    Read { count, end: at }
 }
 
 // The term line that begins here as a row of eight.

@@ -1,11 +1,7 @@
 // A recorded assign case asked anew: the weight and the table must be those that ferrmion's Rust gave.
 #![tactic(auto)]
 
-use fields::numbers::Field;
-use recorded::answer::Recorded;
 use recorded::{answer, fronts, lines};
-use terms::slices;
-use topphatt::Assigned;
 
 // The case is read whole and the library answers the same.
 pub fn agrees(case: &[u8]) -> bool {
@@ -17,10 +13,10 @@ pub fn agrees(case: &[u8]) -> bool {
 
 // The same, with room for what is read lent.
 fn agrees_in(case: &[u8], tree: &mut [u16], terms: &mut [u16], rows: &mut [u16]) -> bool {
-    let Field::Number(modes, at) = lines::read_one(case, 0, b"modes\t") else {
+    let Some(modes) = lines::read_one(case, 0, b"modes\t") else {
         return false;
     };
-    let codes = lines::read_lines(case, at, b"tree\t", 3, tree);
+    let codes = lines::read_lines(case, modes.end, b"tree\t", 3, tree);
     let count = codes.count;
     if tree.len() < count {
         return false;
@@ -28,7 +24,7 @@ fn agrees_in(case: &[u8], tree: &mut [u16], terms: &mut [u16], rows: &mut [u16])
     agrees_on(
         case,
         codes.end,
-        entities::wide(modes),
+        usize::from(modes.number),
         &tree[0..count],
         terms,
         rows,
@@ -44,13 +40,14 @@ fn agrees_on(
     terms: &mut [u16],
     rows: &mut [u16],
 ) -> bool {
-    let Field::Number(heuristic, at) = lines::read_one(case, from, b"heuristic\t") else {
+    let Some(heuristic) = lines::read_one(case, from, b"heuristic\t") else {
         return false;
     };
-    let read = lines::read_terms(case, at, terms);
-    let Recorded::Answer(weight, count) = answer::read_answer(case, read.end, rows) else {
+    let read = lines::read_terms(case, heuristic.end, terms);
+    let Some(recorded) = answer::read_answer(case, read.end, rows) else {
         return false;
     };
+    let count = recorded.count;
     let numbers = read.count;
     if terms.len() < numbers {
         return false;
@@ -61,9 +58,9 @@ fn agrees_on(
     same_answer(
         modes,
         tree,
-        entities::wide(heuristic),
+        usize::from(heuristic.number),
         &terms[0..numbers],
-        weight,
+        recorded.weight,
         &rows[0..count],
     )
 }
@@ -96,7 +93,7 @@ fn same_written(
     table: &mut [u16],
 ) -> bool {
     let answer = topphatt::assign(modes, 0, tree, heuristic, terms, work, table);
-    let Assigned::Weight(sum) = answer else {
+    let Ok(sum) = answer else {
         return false;
     };
     if sum != weight {
@@ -114,41 +111,24 @@ fn same_table(rows: &[u16], table: &[u16]) -> bool {
         return false;
     }
     let count = rows.len() / 4;
-    let mut label = 0;
-    while label < count {
-        if !same_row(rows, table, label) {
-            return false;
-        }
-        label += 1;
-    }
-    let end = 3 * count;
-    if table.len() < end {
+    if 256 < count {
         return false;
     }
-    slices::all_are(&table[end..], fronts::UNTOUCHED)
+    if table.len() < 3 * count {
+        return false;
+    }
+    let (front, behind) = table.split_at(3 * count);
+    rows.chunks_exact(4)
+        .zip(front.chunks_exact(3))
+        .enumerate()
+        .all(|(label, (row, codes))| same_row(row, label, codes))
+        && fronts::untouched(behind)
 }
 
-// The row at this place has this label and the table's three codes of it.
-fn same_row(rows: &[u16], table: &[u16], label: usize) -> bool {
-    if 256 <= label {
+// The row has this label and these codes behind it.
+fn same_row(row: &[u16], label: usize, codes: &[u16]) -> bool {
+    let [said, children @ ..] = row else {
         return false;
-    }
-    let from = 4 * label;
-    if rows.len() < from + 4 {
-        return false;
-    }
-    let to = 3 * label;
-    if table.len() < to + 3 {
-        return false;
-    }
-    if entities::wide(rows[from]) != label {
-        return false;
-    }
-    if rows[from + 1] != table[to] {
-        return false;
-    }
-    if rows[from + 2] != table[to + 1] {
-        return false;
-    }
-    rows[from + 3] == table[to + 2]
+    };
+    usize::from(*said) == label && children == codes
 }

@@ -1,12 +1,9 @@
 // A recorded HATT case asked anew: the weight and the rows must be those that ferrmion's Rust gave. It counts no drops; ours must be of every term.
 #![tactic(auto)]
 
-use fields::numbers::Field;
 use journal::resuming;
-use journal::resuming::Answer;
-use recorded::answer::Recorded;
 use recorded::{answer, fronts, lines};
-use terms::{row, slices};
+use terms::row;
 
 // The case is read whole and the library answers the same.
 pub fn agrees(case: &[u8]) -> bool {
@@ -17,13 +14,14 @@ pub fn agrees(case: &[u8]) -> bool {
 
 // The same, with room for the case's terms and rows lent.
 fn agrees_in(case: &[u8], terms: &mut [u16], rows: &mut [u16]) -> bool {
-    let Field::Number(modes, at) = lines::read_one(case, 0, b"modes\t") else {
+    let Some(modes) = lines::read_one(case, 0, b"modes\t") else {
         return false;
     };
-    let read = lines::read_terms(case, at, terms);
-    let Recorded::Answer(weight, count) = answer::read_answer(case, read.end, rows) else {
+    let read = lines::read_terms(case, modes.end, terms);
+    let Some(recorded) = answer::read_answer(case, read.end, rows) else {
         return false;
     };
+    let count = recorded.count;
     let numbers = read.count;
     if terms.len() < numbers {
         return false;
@@ -32,9 +30,9 @@ fn agrees_in(case: &[u8], terms: &mut [u16], rows: &mut [u16]) -> bool {
         return false;
     }
     same_answer(
-        entities::wide(modes),
+        usize::from(modes.number),
         &terms[0..numbers],
-        weight,
+        recorded.weight,
         &rows[0..count],
     )
 }
@@ -69,7 +67,7 @@ fn same_written(
     drops: &mut [u16],
 ) -> bool {
     let answer = resuming::hatt(modes, 0, terms, work, written, journal, drops);
-    let Answer::Done(numbers) = answer else {
+    let Ok(numbers) = answer else {
         return false;
     };
     if numbers.weight != weight {
@@ -92,18 +90,10 @@ fn all_dropped(drops: &[u16], modes: usize, terms: usize) -> bool {
     if drops.len() < modes {
         return false;
     }
-    let mut left = terms;
-    let mut step = 0;
-    while step < modes {
-        let dropped = entities::wide(drops[step]);
-        if left < dropped {
-            return false;
-        }
-        left -= dropped;
-        step += 1;
-    }
-    if left != 0 {
-        return false;
-    }
-    slices::all_are(&drops[modes..], fronts::UNTOUCHED)
+    let (steps, behind) = drops.split_at(modes);
+    let left = steps.iter().try_fold(
+        terms,
+        |left, dropped| left.checked_sub(usize::from(*dropped)),
+    );
+    left == Some(0) && fronts::untouched(behind)
 }

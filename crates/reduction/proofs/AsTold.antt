@@ -15,7 +15,7 @@ use Rattle.terms.specs.declared.rules.Rule.{Rule}
 use Rattle.terms.specs.Letters.{letter_of, counted_letter}
 use Rattle.terms.specs.Weight.{term_letter, term_weight, weight_of}
 use Rattle.reduction.specs.Reduction.{sorted, rewriting, dropped, stays, settled, reduced_row, reduction, is_there, live, told_reduction}
-use Rattle.reduction.proofs.Sorting.{length_rewriting}
+use Rattle.reduction.proofs.SortedRight.{length_rewriting}
 
 -- What weighs the empty term as nothing weighs those that are there as all.
 pub live_weighs : (weight : List ℕ → ℕ) → weight [] ≡ 0 → (terms : List (List ℕ)) → sum_of weight (live terms) ≡ sum_of weight terms

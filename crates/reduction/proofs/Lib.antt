@@ -1,6 +1,5 @@
 -- The laws of reduction.
 pub mod SortedRight
-pub mod Sorting
 pub mod RowRewritten
 pub mod RowReduced
 pub mod ChainedRows

@@ -13,7 +13,7 @@ use Rattle.terms.specs.Rows.{term}
 use Rattle.terms.proofs.RowSteps.{length_term}
 use Rattle.reduction.specs.Reduction.{rewriting}
 use Rattle.reduction.specs.code.Promises.{Rewritten}
-use Rattle.reduction.proofs.Sorting.{length_rewriting}
+use Rattle.reduction.proofs.SortedRight.{length_rewriting}
 
 module _ (row : List ℕ) (short : get_or row 0 0 < 8) (room : 8 < length row) where
   within : get_or row 0 0 < length row

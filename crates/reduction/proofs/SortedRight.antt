@@ -1,19 +1,25 @@
 -- Sorting is right: the numbers ascend, each occurs as often as before, and a list that ascends already stays as it is.
 use mathlib.Core.Path.{◌≡◌, refl, ap, ◌∙◌, sym}
 use mathlib.Core.Bool.{Bool, true, false}
-use mathlib.Core.List.{List, [], ◌∷◌}
+use mathlib.Core.List.{List, [], ◌∷◌, map}
 use Prim.Native.Nat.{ℕ, suc, ◌+◌, ◌≤◌, min, max}
 use native.Mathlib.Omega.{arith}
 use borrow.Author.Tests.{leb-true, leb-false}
 use lib.Dec.{leb}
-use lib.ListN.{length}
+use lib.ListN.{length, length-map}
 use Rattle.lists.specs.Counting.{sum, same, occurrences}
 use Rattle.lists.specs.Members.{every}
 use Rattle.lists.specs.Ranges.{ascends_from, ascends}
 use Rattle.lists.proofs.Ascending.{ascends_cons, ascends_uncons, ascends_lower}
 use Rattle.lists.proofs.Every.{every_cons, every_uncons}
+use Rattle.lists.proofs.Standard.{non_decreasing}
+use Rattle.lists.proofs.OneOrder.{as_often, one_order}
+use Rattle.std.proofs.Common.{nat_cmp}
+use Rattle.std.proofs.lemmas.List.Sorted.{IsNonDecreasingBy-from_sort}
+use Rattle.std.specs.List.Sorted.{IsPermutation, IsSortedByKey}
 use Rattle.lists.proofs.Sums.{sum_of, sum_occurrences}
-use Rattle.reduction.specs.Reduction.{put_in, sorted}
+use Rattle.entities.specs.declared.Triple.{Triple}
+use Rattle.reduction.specs.Reduction.{put_in, sorted, replacement, rewriting}
 
 pub length_put_in : (number : ℕ) (l : List ℕ) → length (put_in number l) ≡ suc (length l)
 unfolding put_in
@@ -108,3 +114,14 @@ sorted_from low (number ∷ l) e =
 pub sorted_already : (l : List ℕ) → ascends l ≡ true → sorted l ≡ l
 unfolding ascends
 sorted_already l e = sorted_from 0 l e
+
+-- A list sorted by std's `sort_unstable` is this one: the same numbers, in the one order that ascends.
+pub sorts : (l m : List ℕ) → IsPermutation l m → IsSortedByKey (λ v. v) nat_cmp m → m ≡ sorted l
+sorts l m moved up =
+    one_order m (sorted l) (non_decreasing m (IsNonDecreasingBy-from_sort (λ v. v) m up)) (ascends_sorted l)
+    (λ v. as_often l m moved v ∙ sym (occurrences_sorted v l))
+
+-- A term rewritten is as long as it was.
+pub length_rewriting : (triple : Triple) (parent : ℕ) (l : List ℕ) → length (rewriting triple parent l) ≡ length l
+unfolding rewriting
+length_rewriting triple parent l = length_sorted (map (replacement triple parent) l) ∙ length-map l (replacement triple parent)

@@ -12,7 +12,7 @@ use Rattle.terms.specs.declared.rules.Rule.{Rule}
 use Rattle.terms.specs.Good.{good_term}
 use Rattle.terms.proofs.GoodTerms.{good_term_says, good_term_from}
 use Rattle.reduction.specs.Reduction.{replacement, rewriting, dropped, reduction, live, told_reduction}
-use Rattle.reduction.proofs.Sorting.{length_rewriting}
+use Rattle.reduction.proofs.SortedRight.{length_rewriting}
 use Rattle.reduction.proofs.SortedRight.{ascends_sorted, every_sorted}
 use Rattle.reduction.proofs.AsTold.{as_told}
 

@@ -5,17 +5,15 @@ ghost use Rattle.terms.specs.Rows.{terms_of};
 ghost use Rattle.terms.specs.code.Held.{Held};
 ghost use Rattle.reduction.specs.code.Marks.{mark_room, mark_of, Chained, put_first, first_like};
 
-use terms::{row, slices};
+use terms::row;
 
 // The term's mark, a number made from its indices: terms with different marks differ.
 fn mark_of(term: &[u16]) -> usize
     ensures { (result ≡ mark_of mark_room term.now) × (result < mark_room) }
 {
     let mut mark: usize = 0;
-    let mut at = 0;
-    while at < term.len() {
-        mark = (773 * mark + entities::wide(term[at])) % 16384;
-        at += 1;
+    for index in term {
+        mark = (773 * mark + usize::from(*index)) % 16384;
     }
     mark
 }
@@ -28,13 +26,14 @@ pub fn find_like<'a>(rows: &'a [u16], count: usize, chains: &'a [u16], term: &[u
     ensures { result ≡ first_like term.now (terms_of work_width count rows.now) }
 {
     let mark = mark_of(term);
-    let mut at = entities::wide(chains[mark]);
+    let mut at = usize::from(chains[mark]);
+    // the places of a chain stand in no slice, one behind the other
     while 0 < at {
         let place = at - 1;
-        if slices::same(term, row::term_at(rows, row::WORK_WIDTH, place)) {
+        if term == row::term_at(rows, row::WORK_WIDTH, place) {
             return place;
         }
-        at = entities::wide(chains[16384 + place]);
+        at = usize::from(chains[16384 + place]);
     }
     count
 }

@@ -1,69 +1,42 @@
 // Reduction: the triple becomes its parent in every row, rows that are all parent are dropped if the rule drops them, equal rows become one.
 #![tactic(auto)]
 
-ghost use Rattle.std.specs.Prelude.{true, ◌≡◌, ◌+◌, ◌*◌, ◌≤◌, ◌<◌, length, get_or, set, drop, replicate};
-ghost use Rattle.lists.specs.Ranges.{ascends};
+ghost use Rattle.std.specs.Prelude.{◌≡◌, ◌+◌, ◌*◌, ◌≤◌, ◌<◌, length, get_or, set, replicate};
 ghost use Rattle.lists.specs.Written.{written_at};
 ghost use Rattle.entities.specs.Limits.{most_terms, row_width, work_width};
 ghost use Rattle.terms.specs.Rows.{terms_of};
 ghost use Rattle.terms.specs.code.Held.{Held, Worked};
-ghost use Rattle.reduction.specs.Reduction.{replacement, put_in, rewriting, dropped as is_dropped};
+ghost use Rattle.reduction.specs.Reduction.{replacement, rewriting, dropped as is_dropped};
 ghost use Rattle.reduction.specs.code.Promises.{term_at, Rewritten, merged_rows, RowSettled, RowReduced, Reduced};
 ghost use Rattle.reduction.specs.code.Marks.{mark_room, Chained, first_like as like_before};
 
 use entities::Triple;
+use terms::row;
 use terms::rules::Rule;
-use terms::{row, slices};
 
 mod kept_rows;
 pub mod live_rows;
 
-// The number put in among those after the first, which ascend: the smaller ones slide one place to the front, and it stands where that stops.
-fn insert(numbers: &mut [u16], number: u16)
-    requires numbers_nonzero { 0 < length numbers.old }
-    requires numbers_value { ascends (drop 1 numbers.old) ≡ true }
-    ensures { numbers.new ≡ put_in number (drop 1 numbers.old) }
-{
-    let last = numbers.len() - 1;
-    let mut at = 0;
-    while at < last {
-        let next = numbers[at + 1];
-        if number <= next {
-            numbers[at] = number;
-            return;
-        }
-        numbers[at] = next;
-        at += 1;
-    }
-    numbers[last] = number;
-}
-
 // The parent for each of the triple, any other number for itself.
+#[tactic(auto, unfolding(crate::specs::Reduction::replacement))]
 fn replaced(number: u16, triple: Triple, parent: u16) -> u16
     ensures { result ≡ replacement triple parent number }
 {
-    if number == triple.x {
-        return parent;
+    if number == triple.x || number == triple.y || number == triple.z {
+        parent
+    } else {
+        number
     }
-    if number == triple.y {
-        return parent;
-    }
-    if number == triple.z {
-        return parent;
-    }
-    number
 }
 
-// The term with the triple replaced, sorted; from its end, so that what is passed is sorted already.
+// The term with the triple replaced, sorted.
 fn rewrite(term: &mut [u16], triple: Triple, parent: u16)
     ensures { term.new ≡ rewriting triple parent term.old }
 {
-    let mut at = term.len();
-    while 0 < at {
-        at -= 1;
-        let number = replaced(term[at], triple, parent);
-        insert(&mut term[at..], number);
+    for index in term.iter_mut() {
+        *index = replaced(*index, triple, parent);
     }
+    term.sort_unstable();
 }
 
 // The row's term rewritten where it stands; its count stands behind it.
@@ -71,8 +44,8 @@ fn rewrite_row(row: &mut [u16], triple: Triple, parent: u16)
     requires { (get_or row.old 0 0 < row_width) × (row_width < length row.old) }
     ensures { Rewritten triple parent row.old row.new }
 {
-    let end = entities::wide(row[0]) + 1;
-    rewrite(&mut row[1..end], triple, parent);
+    let count = usize::from(row[0]);
+    rewrite(&mut row[1..=count], triple, parent);
 }
 
 // The rule drops rows that are all parent, and this term is.
@@ -80,7 +53,7 @@ fn is_dropped(rule: Rule, parent: u16, term: &[u16]) -> bool
     ensures { result ≡ is_dropped rule parent term.now }
 {
     match rule {
-        Rule::Published => slices::all_are(term, parent),
+        Rule::Published => term.iter().all(|index| *index == parent),
         Rule::Keep => false,
     }
 }
@@ -109,15 +82,15 @@ fn first_like<'a>(rows: &'a [u16], place: usize, chains: &'a [u16]) -> usize
 }
 
 // Zeros written over the row at this place; the count that stood there.
+#[tactic(auto, unfolding(lists::specs::Written::written_at))]
 fn clear_row(rows: &mut [u16], place: usize) -> u16
     requires { work_width * place + work_width ≤ length rows.old }
     ensures value { result ≡ get_or rows.old (work_width * place + row_width) 0 }
     ensures rows_after { rows.new ≡ written_at (work_width * place) (replicate work_width 0) rows.old }
 {
     let from = row::WORK_WIDTH * place;
-    let end = from + row::WORK_WIDTH;
     let count = rows[from + row::WIDTH];
-    slices::fill(&mut rows[from..end], 0);
+    rows[from..from + row::WORK_WIDTH].fill(0);
     count
 }
 
@@ -128,7 +101,7 @@ fn raise_count(rows: &mut [u16], place: usize, more: u16)
     ensures { rows.new ≡ set rows.old (work_width * place + row_width) (get_or rows.old (work_width * place + row_width) 0 + more) }
 {
     let at = row::WORK_WIDTH * place + row::WIDTH;
-    rows[at] = rows[at] + more;
+    rows[at] += more;
 }
 
 // The row at this place made zeros, and its count added to that of an earlier row, which has its term.
@@ -150,7 +123,7 @@ fn settle_row(rows: &mut [u16], chains: &mut [u16], place: usize, rule: Rule, pa
     ensures chained_2 { Chained mark_room most_terms (terms_of work_width (place + 1) rows.new) chains.new }
 {
     if drops_at(rows, place, rule, parent) {
-        return entities::wide(clear_row(rows, place));
+        return usize::from(clear_row(rows, place));
     }
     let first = first_like(rows, place, chains);
     if first < place {
@@ -181,8 +154,7 @@ fn reduce_row(
     if rows[from] == 0 {
         return 0;
     }
-    let end = from + row::WORK_WIDTH;
-    rewrite_row(&mut rows[from..end], triple, parent);
+    rewrite_row(&mut rows[from..from + row::WORK_WIDTH], triple, parent);
     settle_row(rows, chains, place, rule, parent)
 }
 
@@ -201,10 +173,8 @@ pub fn reduce_hamiltonian(
     // a number for each mark and one for each place; no row is passed yet, so no chain has begun
     let mut chains = [0u16; 18432];
     let mut dropped: usize = 0;
-    let mut place = 0;
-    while place < count {
+    for place in 0..count {
         dropped += reduce_row(rows, &mut chains, place, rule, selection, parent);
-        place += 1;
     }
     dropped
 }

@@ -12,12 +12,8 @@ fn gather_row(rows: &[u16], place: usize, live: &mut [u16], kept: usize) -> usiz
     ensures { RowGathered rows.now place kept live.old live.new result }
 {
     let from = row::WORK_WIDTH * place;
-    let end = from + row::WIDTH;
-    row::put_row(live, row::WIDTH, kept, &rows[from..end]);
-    if rows[from] == 0 {
-        return kept;
-    }
-    kept + 1
+    row::put_row(live, row::WIDTH, kept, &rows[from..from + row::WIDTH]);
+    if rows[from] == 0 { kept } else { kept + 1 }
 }
 
 // Those of the first `count` rows that are there, over the front of the numbers; how many they are.
@@ -27,10 +23,8 @@ pub fn put_live(rows: &[u16], count: usize, live: &mut [u16]) -> usize
     ensures { LiveRows count rows.now live.new result }
 {
     let mut kept = 0;
-    let mut place = 0;
-    while place < count {
+    for place in 0..count {
         kept = gather_row(rows, place, live, kept);
-        place += 1;
     }
     kept
 }

@@ -1,4 +1,5 @@
 -- On an accepted tree the code of the absent child is no other's: were it a leaf's, the table would have fewer codes than places.
+use Rattle.std.specs.Prelude.{Ok}
 use mathlib.Core.Path.{◌≡◌, refl, ap}
 use mathlib.Core.Bool.{Bool, true, false}
 use mathlib.Core.List.{List}
@@ -15,14 +16,13 @@ use Rattle.lists.proofs.Every.{every_by_place}
 use Rattle.lists.proofs.Totals.{total_ones}
 use Rattle.lists.proofs.Pigeonholes.{counted_all, values_same}
 use Rattle.entities.specs.Codes.{absent}
-use Rattle.tree.specs.declared.TreeChecked.TheVariants.{Accepted}
 use Rattle.tree.specs.OneTree.{root_of}
 use Rattle.tree.specs.Check.{tree_checked}
 use Rattle.tree.proofs.TableSteps.{code_good}
 use Rattle.tree.proofs.AcceptedParts.{accepted_parts}
 use Rattle.tree.proofs.AcceptedTree.{accepted_says}
 
-module _ (most modes : ℕ) (table : List ℕ) (accepted : tree_checked most modes table ≡ Accepted) where
+module _ (most modes : ℕ) (table : List ℕ) (accepted : tree_checked most modes table ≡ Ok tt) where
   at_most_once : (code : ℕ) → code < 3 * modes → occurrences code table ≤ 1
   at_most_once code h =
       ⊎_elim

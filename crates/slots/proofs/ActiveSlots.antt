@@ -1,6 +1,7 @@
 -- An active node's unfixed slots, on an accepted tree: X and Y are the two leaves of one pair without a mode, or neither is unfixed and Z is.
 -- Were X an unfixed leaf and Y a node, the leaf's partner would end the z-chain from Y under Z of a node farther from the root that isn't
 -- complete either.
+use Rattle.std.specs.Prelude.{Ok}
 use mathlib.Core.Path.{◌≡◌, refl, ◌∙◌, sym}
 use mathlib.Core.Bool.{Bool, true, false, ◌&&◌}
 use mathlib.Core.List.{List}
@@ -10,7 +11,6 @@ use native.Mathlib.Omega.{arith}
 use borrow.Author.Tests.{ltb-true, ltb-false}
 use lib.Dec.{ltb}
 use lib.ListN.{get_or}
-use Rattle.tree.specs.declared.TreeChecked.TheVariants.{Accepted}
 use Rattle.tree.specs.Table.{child}
 use Rattle.tree.specs.Pairs.{chain_end}
 use Rattle.tree.specs.Check.{tree_checked}
@@ -61,7 +61,7 @@ module _ (modes : ℕ) (table assigned : List ℕ) (node : ℕ) where
     rw p.y_is (without_unfixed modes assigned (modes + 2 * k + 1) (odd_without modes k assigned p.inside p.none)),
   )
 
-module _ (most modes : ℕ) (table : List ℕ) (accepted : tree_checked most modes table ≡ Accepted) (heuristic : ℕ) (assigned : List ℕ) where
+module _ (most modes : ℕ) (table : List ℕ) (accepted : tree_checked most modes table ≡ Ok tt) (heuristic : ℕ) (assigned : List ℕ) where
   module _ (node : ℕ) (a : Active modes table heuristic assigned node) (k : ℕ) (few : k < modes) (pair : PairUnder modes table k node) where
     -- A leaf whose pair has no mode doesn't end a z-chain from a node under X or Y: what ends there is the child itself.
     child_here : (edge end : ℕ) → edge < 3 → chain_end modes table modes (child table node edge) ≡ end → Without modes assigned end

@@ -1,5 +1,6 @@
 -- In an accepted tree a node's child that is a node is one step farther from the root; and the z-chain from a node ends under Z of a node
 -- that is no nearer.
+use Rattle.std.specs.Prelude.{Ok}
 use mathlib.Core.Path.{◌≡◌, refl, ap, ◌∙◌, sym}
 use mathlib.Core.Bool.{Bool, true, false}
 use mathlib.Core.List.{List}
@@ -8,7 +9,6 @@ use native.Mathlib.Omega.{arith}
 use borrow.Author.Tests.{ltb-true, ltb-false}
 use lib.Dec.{ltb}
 use lib.ListN.{length}
-use Rattle.tree.specs.declared.TreeChecked.TheVariants.{Accepted}
 use Rattle.tree.specs.Table.{child, place_of_code, parent_of, climb}
 use Rattle.tree.specs.OneTree.{root_of}
 use Rattle.tree.specs.Pairs.{chain_end}
@@ -38,7 +38,7 @@ distance_enough table root top (suc steps) node e = go (ltb (place_of_code table
         let h = ltb-false (place_of_code table node) (length table) q in
         distance_none table (suc (suc steps)) node h ∙ sym (distance_none table (suc steps) node h)
 
-module _ (most modes : ℕ) (table : List ℕ) (accepted : tree_checked most modes table ≡ Accepted) where
+module _ (most modes : ℕ) (table : List ℕ) (accepted : tree_checked most modes table ≡ Ok tt) where
   pub deeper : (node edge : ℕ) → node < modes → edge < 3 → child table node edge < modes
       → distance table modes (child table node edge) ≡ suc (distance table modes node)
   deeper node edge h k low =

@@ -1,4 +1,5 @@
 -- Before the first round a farthest node isn't complete: under its X is no node, and no leaf is fixed. So it makes no difference that none has left the round list.
+use Rattle.std.specs.Prelude.{Ok}
 use mathlib.Core.Path.{◌≡◌, refl, ap, ◌∙◌}
 use mathlib.Core.Bool.{Bool, true, false, cond, not}
 use mathlib.Core.List.{List, [], ◌∷◌, ◌++◌, map, Memᴰ}
@@ -10,7 +11,6 @@ use lib.ListN.{get_or, replicate}
 use Rattle.lists.specs.Members.{keep}
 use Rattle.lists.proofs.Membership.{kept, of_kept, counted, counted_below}
 use Rattle.lists.proofs.Narrowing.{some_member}
-use Rattle.tree.specs.declared.TreeChecked.TheVariants.{Accepted}
 use Rattle.tree.specs.Table.{nodes, child}
 use Rattle.tree.specs.Check.{tree_checked}
 use Rattle.tree.proofs.AcceptedParts.{accepted_parts}
@@ -42,7 +42,7 @@ none_assigned zero i mode = refl
 none_assigned (suc count) zero mode = refl
 none_assigned (suc count) (suc i) mode = none_assigned count i mode
 
-module _ (most modes : ℕ) (table : List ℕ) (accepted : tree_checked most modes table ≡ Accepted) where
+module _ (most modes : ℕ) (table : List ℕ) (accepted : tree_checked most modes table ≡ Ok tt) where
   -- A node under whose X is no node.
   leaf_incomplete : (node : ℕ) → modes ≤ child table node 0 → complete modes table (replicate modes modes) node ≡ false
   unfolding slot is_fixed

@@ -1,9 +1,8 @@
 -- "Each round: the remaining nodes farthest from the root; `x_first` keeps the lowest number, `z_first` the highest; `min_weight` keeps all but drops a node whose three slots equal an earlier one's."
-use Rattle.std.specs.Prelude.{◌≡◌, Bool, cond, not, ◌&&◌, List, [], ◌∷◌, map, ℕ, zero, suc, ◌-◌, ◌/◌, max, eqb, ltb, length, take, drop, replicate}
+use Rattle.std.specs.Prelude.{◌≡◌, Bool, cond, not, ◌&&◌, List, [], ◌∷◌, map, ℕ, zero, suc, ◌-◌, ◌/◌, max, eqb, ltb, length, take, drop, replicate, Ok}
 use Rattle.lists.specs.Members.{keep, alike, firsts}
 use Rattle.tree.specs.Table.{nodes, place_of_code}
 use Rattle.tree.specs.Check.{tree_checked}
-use Rattle.tree.specs.declared.TreeChecked.TheVariants.{Accepted}
 use Rattle.slots.specs.Slots.{slot, slots, unfixed, is_fixed}
 
 -- How many steps up from a node lead to the root, which stands nowhere; so many are counted at most.
@@ -48,5 +47,5 @@ active modes table heuristic assigned =
 -- In the first round, in which no pair has a mode, the farthest of all nodes are the farthest of those that aren't complete.
 abbrev pub FirstRound : Type 0
 FirstRound =
-    (most modes : ℕ) (table : List ℕ) → tree_checked most modes table ≡ Accepted
+    (most modes : ℕ) (table : List ℕ) → tree_checked most modes table ≡ Ok tt
     → farthest modes table (remaining modes table (replicate modes modes)) ≡ farthest modes table (nodes modes)

@@ -10,6 +10,7 @@ ghost use Rattle.slots.specs.Slots.{leaf_slot, slot_of, slot as slot_at, stands_
 use entities::{Triple, parents};
 use tree::table;
 
+pub mod heuristics;
 pub mod nodes;
 
 // A leaf's number once its pair has a mode; until then a number behind all others.
@@ -36,7 +37,7 @@ pub fn slot_of(modes: usize, assigned: &[u16], code: usize) -> u16
     }
     let leaf = code - modes;
     let pair = leaf / 2;
-    leaf_slot(modes, entities::wide(assigned[pair]), leaf % 2)
+    leaf_slot(modes, usize::from(assigned[pair]), leaf % 2)
 }
 
 // The number of a node's slot under X (edge 0), Y (1) or Z (2).
@@ -64,7 +65,7 @@ pub fn unfixed(modes: usize, slot: u16) -> bool
     requires { modes ≤ most_modes }
     ensures { result ≡ number_unfixed modes slot }
 {
-    3 * modes < entities::wide(slot)
+    3 * modes < usize::from(slot)
 }
 
 // The leaf that an unfixed slot takes of a mode: its parity.

@@ -1,8 +1,9 @@
 // The nodes of a round: those that remain, farthest from the root, and what the heuristic keeps of them.
-ghost use Rattle.std.specs.Prelude.{◌≡◌, true, cond, List, [], ◌∷◌, ◌++◌, map, ℕ, ◌+◌, ◌*◌, ◌≤◌, ◌<◌, max, ltb, length, take, drop};
+ghost use Rattle.std.specs.Prelude.{◌≡◌, true, cond, List, [], ◌∷◌, ◌++◌, map, ℕ, ◌+◌, ◌*◌, ◌≤◌, ◌<◌, ltb, length, take, drop};
 ghost use Rattle.lists.specs.Members.{every, some_of, alike, firsts};
 ghost use Rattle.entities.specs.Limits.{most_modes};
 ghost use Rattle.slots.specs.Slots.{slots as slots_at};
+ghost use Rattle.slots.specs.Heuristics.{heuristic_number};
 ghost use Rattle.slots.specs.Nodes.{
   distance as distance_of,
   complete as is_complete,
@@ -15,7 +16,7 @@ ghost use Rattle.slots.specs.Nodes.{
 ghost use Rattle.slots.specs.code.Numbers.{number_fixed};
 ghost use Rattle.slots.specs.code.Promises.{Distances};
 
-use entities::Triple;
+use crate::heuristics::Heuristic;
 use tree::table;
 
 // How many steps up from a node lead to the root; so many are counted at most.
@@ -23,16 +24,14 @@ fn distance(tree: &[u16], steps: usize, node: usize) -> usize
     ensures { result ≡ distance_of tree.now steps node }
 {
     let mut at = node;
-    let mut up = 0;
-    while up < steps {
+    for up in 0..steps {
         let place = table::place_of(tree, at);
         if tree.len() <= place {
             return up;
         }
         at = place / 3;
-        up += 1;
     }
-    up
+    steps
 }
 
 // The distance of each node, so that a round takes no search.
@@ -40,10 +39,8 @@ pub fn fill_distances(modes: usize, tree: &[u16], distances: &mut [usize])
     requires { modes ≤ length distances.old }
     ensures { Distances modes tree.now distances.new }
 {
-    let mut node = 0;
-    while node < modes {
+    for node in 0..modes {
         distances[node] = distance(tree, modes, node);
-        node += 1;
     }
 }
 
@@ -52,10 +49,7 @@ fn is_fixed(modes: usize, slot: u16) -> bool
     requires { modes ≤ most_modes }
     ensures { result ≡ number_fixed modes slot }
 {
-    if crate::unfixed(modes, slot) {
-        return false;
-    }
-    entities::wide(slot) != 2 * modes
+    !crate::unfixed(modes, slot) && usize::from(slot) != 2 * modes
 }
 
 // Every slot of the node is a fixed leaf, a child or, under Z, empty.
@@ -64,13 +58,7 @@ fn complete(modes: usize, tree: &[u16], assigned: &[u16], node: usize) -> bool
     ensures { result ≡ is_complete modes tree.now assigned.now node }
 {
     let at = crate::slots(modes, tree, assigned, node);
-    if !is_fixed(modes, at.x) {
-        return false;
-    }
-    if !is_fixed(modes, at.y) {
-        return false;
-    }
-    !crate::unfixed(modes, at.z)
+    is_fixed(modes, at.x) && is_fixed(modes, at.y) && !crate::unfixed(modes, at.z)
 }
 
 // Puts `number` behind the first `count` of `numbers` where `stays` is true; returns how many there are then.
@@ -91,11 +79,9 @@ fn fill_remaining(modes: usize, tree: &[u16], assigned: &[u16], left: &mut [u16]
     ensures { (result ≤ modes) × (take result left.new ≡ remaining modes tree.now assigned.now) }
 {
     let mut count = 0;
-    let mut node = 0;
-    while node < modes {
+    for node in 0..modes {
         let stays = !complete(modes, tree, assigned, node);
         count = put_if(left, count, node as u16, stays);
-        node += 1;
     }
     count
 }
@@ -105,15 +91,7 @@ fn distance_at(modes: usize, distances: &[usize], node: u16) -> usize
     requires { (modes ≤ length distances.now) × (node < modes) }
     ensures { (table : List ℕ) → Distances modes table distances.now → result ≡ distance_of table modes node }
 {
-    let at = entities::wide(node);
-    distances[at]
-}
-
-// The larger of two numbers.
-fn larger(a: usize, b: usize) -> usize
-    ensures { result ≡ max a b }
-{
-    if b < a { a } else { b }
+    distances[usize::from(node)]
 }
 
 // The largest distance of these nodes.
@@ -123,10 +101,8 @@ fn largest(modes: usize, distances: &[usize], left: &[u16]) -> usize
     ensures { (table : List ℕ) → Distances modes table distances.now → result ≡ largest_of (map (distance_of table modes) left.now) }
 {
     let mut most = 0;
-    let mut at = 0;
-    while at < left.len() {
-        most = larger(most, distance_at(modes, distances, left[at]));
-        at += 1;
+    for node in left {
+        most = most.max(distance_at(modes, distances, *node));
     }
     most
 }
@@ -139,26 +115,11 @@ fn fill_far(modes: usize, distances: &[usize], left: &[u16], far: &mut [u16]) ->
 {
     let most = largest(modes, distances, left);
     let mut count = 0;
-    let mut at = 0;
-    while at < left.len() {
-        let stays = distance_at(modes, distances, left[at]) == most;
-        count = put_if(far, count, left[at], stays);
-        at += 1;
+    for node in left {
+        let stays = distance_at(modes, distances, *node) == most;
+        count = put_if(far, count, *node, stays);
     }
     count
-}
-
-// The three slots are the same, each with its own.
-fn same_slots(a: Triple, b: Triple) -> bool
-    ensures { result ≡ alike (a.x ∷ (a.y ∷ (a.z ∷ []))) (b.x ∷ (b.y ∷ (b.z ∷ []))) }
-{
-    if a.x != b.x {
-        return false;
-    }
-    if a.y != b.y {
-        return false;
-    }
-    a.z == b.z
 }
 
 // The two nodes' slots are the same.
@@ -166,11 +127,8 @@ fn alike_nodes(modes: usize, tree: &[u16], assigned: &[u16], node: u16, other: u
     requires { (modes ≤ most_modes) × (length assigned.now ≡ modes) × (length tree.now ≡ 3 * modes) × (node < modes) × (other < modes) }
     ensures { result ≡ alike (slots_at modes tree.now assigned.now node) (slots_at modes tree.now assigned.now other) }
 {
-    let at = crate::slots(modes, tree, assigned, entities::wide(node));
-    same_slots(
-        at,
-        crate::slots(modes, tree, assigned, entities::wide(other)),
-    )
+    crate::slots(modes, tree, assigned, usize::from(node))
+        == crate::slots(modes, tree, assigned, usize::from(other))
 }
 
 // One of the first so many nodes has the same slots as this one.
@@ -187,14 +145,9 @@ fn has_like(
     requires kept_value { every (λ other. ltb other modes) (take count kept.now) ≡ true }
     ensures { result ≡ some_of (λ other. alike (slots_at modes tree.now assigned.now node) (slots_at modes tree.now assigned.now other)) (take count kept.now) }
 {
-    let mut at = 0;
-    while at < count {
-        if alike_nodes(modes, tree, assigned, node, kept[at]) {
-            return true;
-        }
-        at += 1;
-    }
-    false
+    kept[..count]
+        .iter()
+        .any(|other| alike_nodes(modes, tree, assigned, node, *other))
 }
 
 // The nodes whose slots equal no earlier one's; how many there are.
@@ -204,11 +157,9 @@ fn fill_firsts(modes: usize, tree: &[u16], assigned: &[u16], far: &[u16], kept: 
     ensures { (result ≤ length far.now) × (take result kept.new ≡ firsts (λ node other. alike (slots_at modes tree.now assigned.now node) (slots_at modes tree.now assigned.now other)) far.now) }
 {
     let mut count = 0;
-    let mut at = 0;
-    while at < far.len() {
-        let seen = has_like(modes, tree, assigned, kept, count, far[at]);
-        count = put_if(kept, count, far[at], !seen);
-        at += 1;
+    for node in far {
+        let seen = has_like(modes, tree, assigned, kept, count, *node);
+        count = put_if(kept, count, *node, !seen);
     }
     count
 }
@@ -225,30 +176,24 @@ fn fill_one(far: &[u16], at: usize, kept: &mut [u16]) -> usize
     1
 }
 
-// What the heuristic keeps of ascending nodes: 0 the first of those with equal slots, 1 the first, 2 the last.
+// What the heuristic keeps of ascending nodes: the first of those with equal slots, the first, or the last.
 fn fill_narrowed(
     modes: usize,
     tree: &[u16],
     assigned: &[u16],
-    heuristic: usize,
+    heuristic: Heuristic,
     far: &[u16],
     kept: &mut [u16],
 ) -> usize
     requires modes_le_most_modes { (modes ≤ most_modes) × (length assigned.now ≡ modes) × (length tree.now ≡ 3 * modes) × (length far.now ≤ length kept.old) }
     requires far_value { every (λ node. ltb node modes) far.now ≡ true }
-    ensures { (result ≤ length far.now) × (take result kept.new ≡ narrowed heuristic (λ node other. alike (slots_at modes tree.now assigned.now node) (slots_at modes tree.now assigned.now other)) far.now) }
+    ensures { (result ≤ length far.now) × (take result kept.new ≡ narrowed (heuristic_number heuristic) (λ node other. alike (slots_at modes tree.now assigned.now node) (slots_at modes tree.now assigned.now other)) far.now) }
 {
-    if heuristic == 0 {
-        return fill_firsts(modes, tree, assigned, far, kept);
+    match heuristic {
+        Heuristic::MinWeight => fill_firsts(modes, tree, assigned, far, kept),
+        Heuristic::XFirst => fill_one(far, 0, kept),
+        Heuristic::ZFirst => fill_one(far, far.len().saturating_sub(1), kept),
     }
-    if heuristic == 1 {
-        return fill_one(far, 0, kept);
-    }
-    let count = far.len();
-    if count == 0 {
-        return 0;
-    }
-    fill_one(far, count - 1, kept)
 }
 
 // The nodes of a round; how many there are.
@@ -256,13 +201,13 @@ pub fn fill_active(
     modes: usize,
     tree: &[u16],
     distances: &[usize],
-    heuristic: usize,
+    heuristic: Heuristic,
     assigned: &[u16],
     active: &mut [u16],
 ) -> usize
     requires modes_le_most_modes { (modes ≤ most_modes) × (length assigned.now ≡ modes) × (length tree.now ≡ 3 * modes) × (modes ≤ length active.old) }
     requires distances { Distances modes tree.now distances.now }
-    ensures { (result ≤ modes) × (take result active.new ≡ active_nodes modes tree.now heuristic assigned.now) }
+    ensures { (result ≤ modes) × (take result active.new ≡ active_nodes modes tree.now (heuristic_number heuristic) assigned.now) }
 {
     let mut left = [0u16; 256];
     let remaining = fill_remaining(modes, tree, assigned, &mut left);

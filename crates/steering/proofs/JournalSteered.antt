@@ -1,4 +1,5 @@
 -- Merges by hand that were obeyed, as the code comes to them: their journal, or the refusal.
+use Rattle.std.specs.Prelude.{Err, Ok}
 use mathlib.Core.Path.{◌≡◌, sym, ◌∙◌, ap}
 use mathlib.Core.List.{List}
 use Prim.Native.Nat.{ℕ, ◌≤◌}
@@ -6,7 +7,6 @@ use native.Mathlib.Omega.{arith}
 use borrow.Author.Tests.{eq-eqb, ne_eqb}
 use lib.ListN.{length}
 use Rattle.lists.specs.Written.{written_at}
-use Rattle.refusal.specs.declared.Refusal.{Refusal}
 use Rattle.refusal.specs.declared.Refusal.TheVariants.{LineForm}
 use Rattle.entities.specs.declared.Triple.{Triple}
 use Rattle.fields.specs.Lines.{kept_of}
@@ -15,10 +15,9 @@ use Rattle.merging.specs.declared.run.Run.{Run}
 use Rattle.merging.specs.code.State.{history_of}
 use Rattle.merging.specs.code.Runs.{Holds}
 use Rattle.merging.proofs.Runs.{merges_within, merges_lawful}
-use Rattle.obeying.specs.declared.Verdict.{Verdict}
-use Rattle.obeying.specs.declared.Verdict.TheVariants.{Fine, Refused}
 use Rattle.obeying.specs.Obeying.{line_after, Obeyed, went}
 use Rattle.obeying.specs.code.Sized.{Sized}
+use Rattle.obeying.specs.declared.Refused.{Refused}
 use Rattle.obeying.specs.code.Obeys.{came_to}
 use Rattle.journal.specs.Writing.{journal_text}
 use Rattle.journal.specs.code.NewLines.{noted_behind, TextFits}
@@ -37,14 +36,14 @@ module _ (job : Job) (merges : List ℕ) where
     unfolding steered_as
     ended all = rw (eq-eqb _ _ all)
 
-  module _ (verdict : Verdict) (run : Run) (answer : Obeyed) (comes : came_to verdict run ≡ answer) where
-    pub refused_steered : (why : Refusal) → verdict ≡ Refused why → steered_as job merges answer ≡ refuses why
+  module _ (answer : Obeyed) where
+    pub refused_steered : (stop : Refused) → came_to (Err stop) ≡ answer → steered_as job merges answer ≡ refuses stop.why
     unfolding came_to steered_as
-    refused_steered why told = rw (sym comes) (rw told)
+    refused_steered stop comes = rw (sym comes)
 
-    pub fine_steered : verdict ≡ Fine → steered_as job merges answer ≡ steered_as job merges (went (history_of run))
+    pub fine_steered : (run : Run) → came_to (Ok run) ≡ answer → steered_as job merges answer ≡ steered_as job merges (went (history_of run))
     unfolding came_to
-    fine_steered told = rw (sym comes) (rw told)
+    fine_steered run comes = rw (sym comes)
 
 -- A run's journal fits where the longest does, and is what is written.
 module _ (job : Job) (own : List ℕ) (run : Run) (modes count : ℕ) (holds : Holds job own run) (sized : Sized job modes count) where

@@ -1,13 +1,38 @@
 -- A reason as the code comes to it: nothing, or a word and a number.
-use mathlib.Core.Path.{◌≡◌, ◌∙◌, ap}
+use Rattle.std.specs.Prelude.{Err, Ok}
+use mathlib.Core.Path.{◌≡◌, refl, ◌∙◌, ap}
 use mathlib.Core.List.{List, [], ◌∷◌, ◌++◌, append_assoc}
 use Prim.Native.Nat.{ℕ, ◌+◌, ◌≤◌}
 use native.Mathlib.Nat.{zero-add}
 use native.Mathlib.Omega.{arith}
-use borrow.Author.Tests.{eq-eqb, ne_eqb}
 use lib.ListN.{length}
-use Rattle.lists.specs.Written.{written_at}
 use Rattle.refusal.specs.declared.Refusal.{Refusal}
+use Rattle.refusal.specs.declared.Refusal.TheVariants.{
+  Modes,
+  TermNumbers,
+  TooManyTerms,
+  BadRow,
+  Room,
+  LineForm,
+  Header,
+  StepNotNext,
+  ChildNotOpen,
+  NotLawful,
+  WeightUntrue,
+  LineAfterLast,
+  TreeLength,
+  ChildCode,
+  NotOneTree,
+  WrongPair,
+  Heuristic,
+  Malformed,
+  NewickForm,
+  Rule as NoRule,
+  TooManyToTry,
+  TooManyNodes,
+}
+use Rattle.refusal.specs.Numbers.{number_of}
+use Rattle.lists.specs.Written.{written_at}
 use Rattle.entities.specs.declared.Triple.{Triple}
 use Rattle.fields.specs.Texts.{spelt}
 use Rattle.fields.specs.Decimal.{decimal}
@@ -16,9 +41,8 @@ use Rattle.terms.specs.Job.{Job}
 use Rattle.history.specs.Choice.{weight_in}
 use Rattle.merging.specs.declared.run.Run.{Run}
 use Rattle.merging.specs.code.State.{history_of}
-use Rattle.obeying.specs.declared.Verdict.{Verdict}
-use Rattle.obeying.specs.declared.Verdict.TheVariants.{Fine, Refused}
 use Rattle.obeying.specs.Obeying.{Obeyed, refused}
+use Rattle.obeying.specs.declared.Refused.{Refused}
 use Rattle.obeying.specs.code.Obeys.{came_to}
 use Rattle.text.specs.Output.{line_of}
 use Rattle.text.specs.code.Printing.{Puts}
@@ -39,29 +63,51 @@ module _ (word : List ℕ) (number : ℕ) where
         bytes = written ∙ ap (λ l. written_at 0 l before) line_is;
       }
 
--- Which line a refusal's number gives.
-module _ (job : Job) (made : List Triple) (number : ℕ) (triple : Triple) where
-  pub due_told : number ≡ 8 → reason_of job made number triple ≡ reason_line (spelt "due") (length made)
+-- Which line a refusal gives.
+module _ (job : Job) (made : List Triple) (triple : Triple) where
+  pub due_told : (line : ℕ) → reason_of job made (number_of (StepNotNext line)) triple ≡ reason_line (spelt "due") (length made)
   unfolding reason_of
-  due_told e = rw (eq-eqb number 8 e)
+  due_told line = refl
 
-  pub closed_told : number ≡ 9 → reason_of job made number triple ≡ reason_line (spelt "closed") (first_closed job.modes made triple)
+  pub closed_told : (line : ℕ) → reason_of job made (number_of (ChildNotOpen line)) triple ≡ reason_line (spelt "closed") (first_closed job.modes made triple)
   unfolding reason_of
-  closed_told e = rw (ne_eqb number 8 (λ f. omega arith), eq-eqb number 9 e)
+  closed_told line = refl
 
-  pub weight_told : number ≡ 11 → reason_of job made number triple ≡ reason_line (spelt "weight") (weight_in job made triple)
+  pub weight_told : (line : ℕ) → reason_of job made (number_of (WeightUntrue line)) triple ≡ reason_line (spelt "weight") (weight_in job made triple)
   unfolding reason_of
-  weight_told e = rw (ne_eqb number 8 (λ f. omega arith), ne_eqb number 9 (λ f. omega arith), eq-eqb number 11 e)
+  weight_told line = refl
 
-  pub nothing_told : (number ≡ 8 → ⊥) → (number ≡ 9 → ⊥) → (number ≡ 11 → ⊥) → reason_of job made number triple ≡ []
+  pub nothing_told : (why : Refusal) → ((line : ℕ) → why ≡ StepNotNext line → ⊥) → ((line : ℕ) → why ≡ ChildNotOpen line → ⊥)
+      → ((line : ℕ) → why ≡ WeightUntrue line → ⊥) → reason_of job made (number_of why) triple ≡ []
   unfolding reason_of
-  nothing_told a b d = rw (ne_eqb number 8 a, ne_eqb number 9 b, ne_eqb number 11 d)
+  nothing_told Modes a b d = refl
+  nothing_told TermNumbers a b d = refl
+  nothing_told TooManyTerms a b d = refl
+  nothing_told Room a b d = refl
+  nothing_told Header a b d = refl
+  nothing_told TreeLength a b d = refl
+  nothing_told NotOneTree a b d = refl
+  nothing_told Heuristic a b d = refl
+  nothing_told NoRule a b d = refl
+  nothing_told TooManyToTry a b d = refl
+  nothing_told (BadRow place) a b d = refl
+  nothing_told (LineForm place) a b d = refl
+  nothing_told (NotLawful place) a b d = refl
+  nothing_told (LineAfterLast place) a b d = refl
+  nothing_told (ChildCode place) a b d = refl
+  nothing_told (WrongPair place) a b d = refl
+  nothing_told (Malformed place) a b d = refl
+  nothing_told (NewickForm place) a b d = refl
+  nothing_told (TooManyNodes place) a b d = refl
+  nothing_told (StepNotNext line) a b d = absurd (a line refl)
+  nothing_told (ChildNotOpen line) a b d = absurd (b line refl)
+  nothing_told (WeightUntrue line) a b d = absurd (d line refl)
 
-module _ (job : Job) (read : List ℕ) (verdict : Verdict) (run : Run) (answer : Obeyed) (comes : came_to verdict run ≡ answer) where
-  pub refused_told : (why : Refusal) → verdict ≡ Refused why → reason_in job read (refused (history_of run) why) ≡ reason_in job read answer
+module _ (job : Job) (read : List ℕ) (answer : Obeyed) where
+  pub refused_told : (stop : Refused) → came_to (Err stop) ≡ answer → reason_in job read (refused (history_of stop.run) stop.why) ≡ reason_in job read answer
   unfolding came_to
-  refused_told why told = rw (← comes) (rw told)
+  refused_told stop comes = rw (← comes)
 
-  pub fine_told : verdict ≡ Fine → [] ≡ reason_in job read answer
+  pub fine_told : (run : Run) → came_to (Ok run) ≡ answer → [] ≡ reason_in job read answer
   unfolding came_to reason_in
-  fine_told told = rw (← comes) (rw told)
+  fine_told run comes = rw (← comes)

@@ -1,4 +1,5 @@
 -- What steering prints is accepted by resuming and obeyed to the merges that were written by hand.
+use Rattle.std.specs.Prelude.{Err, Ok, Result}
 use mathlib.Core.Path.{◌≡◌, refl, sym, ◌∙◌}
 use mathlib.Core.Bool.{Bool, true, false, cond}
 use mathlib.Core.List.{List}
@@ -17,8 +18,6 @@ use Rattle.fields.proofs.LinesJoined.{kept_front}
 use Rattle.terms.specs.Rules.{rule_number}
 use Rattle.terms.specs.Job.{Job, job_of}
 use Rattle.terms.specs.Good.{modes_good}
-use Rattle.terms.specs.declared.checking.Checked.{Checked}
-use Rattle.terms.specs.declared.checking.Checked.TheVariants.{Good, Refused as BadTerms}
 use Rattle.terms.proofs.RuleNumbers.{rule_of_number, number_good}
 use Rattle.terms.proofs.RowSteps.{length_terms}
 use Rattle.terms.proofs.GoodTerms.{accepted}
@@ -71,7 +70,7 @@ module _ (job : Job) (merges journal : List ℕ) where
 
 -- Resuming from it.
 module _ (asks : Request) (merges journal : List ℕ) (modes count : ℕ) (numbers : List ℕ) (says : said most_terms asks.text ≡ given modes numbers)
-    (counts : counted most_modes modes numbers ≡ Good count) where
+    (counts : counted most_modes modes numbers ≡ Ok count) where
   abbrev job : Job
   job = job_of modes asks.rule count numbers
 
@@ -102,12 +101,12 @@ pub steered_is_obeyed : SteeredIsObeyed
 unfolding steered steered_by job_said job_by job_with
 steered_is_obeyed asks merges journal e = go (said most_terms asks.text) refl e
   where
-    by_count : (modes : ℕ) (numbers : List ℕ) → said most_terms asks.text ≡ given modes numbers → (found : Checked)
+    by_count : (modes : ℕ) (numbers : List ℕ) → said most_terms asks.text ≡ given modes numbers → (found : Result ℕ Refusal)
         → counted most_modes modes numbers ≡ found → steered_by (job_with modes asks.rule numbers found) merges ≡ writes journal → Steers asks merges journal
-    by_count modes numbers says (Good count) f g =
+    by_count modes numbers says (Ok count) f g =
         let job = job_of modes asks.rule count numbers in
         steers asks merges journal modes count numbers says f (written_by job merges journal (obeyed_by_hand job merges) refl g)
-    by_count modes numbers says (BadTerms refusal) f g = not_written refusal journal g
+    by_count modes numbers says (Err refusal) f g = not_written refusal journal g
 
     go : (says : Said) → said most_terms asks.text ≡ says → steered_by (job_by most_modes asks.rule says) merges ≡ writes journal → Steers asks merges journal
     go (given modes numbers) f g = by_count modes numbers f (counted most_modes modes numbers) refl g

@@ -1,5 +1,6 @@
 -- What a person is told of a refused line: "for 8 which step was due, for 9 which child is not open, for 11 the true weight".
-use Rattle.std.specs.Prelude.{cond, not, List, [], ◌∷◌, ℕ, eqb, length, get_or}
+use Rattle.obeying.specs.declared.merge_line.MergeLine.{MergeLine}
+use Rattle.std.specs.Prelude.{cond, not, List, [], ◌∷◌, ℕ, eqb, length, get_or, None, Option, Some}
 use Rattle.refusal.specs.Numbers.{number_of, place_of}
 use Rattle.entities.specs.declared.Triple.{Triple}
 use Rattle.fields.specs.Texts.{spelt}
@@ -8,8 +9,6 @@ use Rattle.fields.specs.Lines.{lines}
 use Rattle.terms.specs.Job.{Job}
 use Rattle.history.specs.History.{is_open}
 use Rattle.history.specs.Choice.{weight_in}
-use Rattle.obeying.specs.declared.merge_line.Merge.{Merge}
-use Rattle.obeying.specs.declared.merge_line.Merge.TheVariants.{Is as MergeIs, Broken as MergeBroken}
 use Rattle.obeying.specs.LineForms.{merge_of_line}
 use Rattle.obeying.specs.Obeying.{Obeyed, went, refused, obeyed}
 use Rattle.terms_text.specs.Jobs.{Request, JobSaid, a_job, no_job, job_said}
@@ -34,9 +33,9 @@ reason_of job made number triple =
     []))
 
 -- The refused line, read again.
-unfoldable pub reason_said : Job → List Triple → ℕ → Merge → List ℕ
-reason_said job made number (MergeIs said) = reason_of job made number said.triple
-reason_said job made number MergeBroken = []
+unfoldable pub reason_said : Job → List Triple → ℕ → Option MergeLine → List ℕ
+reason_said job made number (Some said) = reason_of job made number said.triple
+reason_said job made number None = []
 
 -- Of a journal that isn't refused there is nothing to tell.
 unfoldable pub reason_in : Job → List ℕ → Obeyed → List ℕ

@@ -1,8 +1,8 @@
 // What people need to write journals by hand and to mend them: merges made into a journal, and what a refused line lacks.
 #![tactic(auto)]
 
-ghost use Rattle.std.specs.Prelude.{◌≡◌, List, ℕ, ◌*◌, ◌≤◌, length};
-ghost use Rattle.entities.specs.Limits.{most_modes, most_terms, row_width};
+ghost use Rattle.std.specs.Prelude.{List, ℕ, ◌≤◌};
+ghost use Rattle.entities.specs.Limits.{most_modes, most_terms};
 ghost use Rattle.terms.specs.Job.{Job, job_of};
 ghost use Rattle.terms.specs.code.Held.{Spread};
 ghost use Rattle.merging.specs.code.State.{history_of};
@@ -10,7 +10,7 @@ ghost use Rattle.merging.specs.code.Runs.{Holds};
 ghost use Rattle.obeying.specs.Obeying.{went, obeyed_by_hand};
 ghost use Rattle.obeying.specs.code.Sized.{Sized};
 ghost use Rattle.terms_text.specs.Jobs.{request};
-ghost use Rattle.text.specs.Running.{program_rooms, printed_room};
+ghost use Rattle.text.specs.Running.{program_rooms};
 ghost use Rattle.text.specs.Output.{Prints};
 ghost use Rattle.text.specs.code.Printing.{Puts};
 ghost use Rattle.steering.specs.Steering.{steered_as, steer_printed, steer_text};
@@ -19,12 +19,10 @@ use fields::lines;
 use journal::new_lines;
 use merging::asked;
 use merging::run::Run;
-use obeying::Verdict;
 use refusal::Refusal;
 use terms::rules::Rule;
 use terms::{counted, row};
 use terms_text::jobs;
-use terms_text::jobs::JobRead;
 use text::{Printed, output};
 
 pub mod reasons;
@@ -36,10 +34,9 @@ fn put_journal(
     count: usize,
     rows: &[u16],
     merges: &[u8],
-    out: &mut [u8],
+    out: &mut [u8; 16384],
 ) -> usize
-    requires holds { (job : Job) × (Holds job rows.now run × Sized job modes count) }
-    requires out_len { length out.old ≡ printed_room }
+    requires { (job : Job) × (Holds job rows.now run × Sized job modes count) }
     ensures { (job : Job) → Holds job rows.now run → Sized job modes count → Puts (steer_printed (steered_as job merges.now (went (history_of run)))) out.old out.new result }
 {
     if lines::kept_bytes(merges) != merges.len() {
@@ -55,18 +52,15 @@ fn steer_job(
     count: usize,
     rows: &mut [u16],
     merges: &[u8],
-    out: &mut [u8],
+    out: &mut [u8; 16384],
 ) -> usize
     requires le_modes { (1 ≤ modes) × (modes ≤ most_modes) × (count ≤ most_terms) }
     requires by_index { (numbers : List ℕ) × Spread count numbers rows.old }
-    requires out_len { length out.old ≡ printed_room }
     ensures { (numbers : List ℕ) → Spread count numbers rows.old → Puts (steer_printed (steered_as (job_of modes rule count numbers) merges.now (obeyed_by_hand (job_of modes rule count numbers) merges.now))) out.old out.new result }
 {
-    let found = obeying::obey_by_hand(modes, rule, count, rows, merges);
-    let verdict = found.verdict;
-    match verdict {
-        Verdict::Refused(why) => output::put_refusal(out, why),
-        Verdict::Fine => put_journal(found.run, modes, count, rows, merges, out),
+    match obeying::obey_by_hand(modes, rule, count, rows, merges) {
+        Ok(run) => put_journal(run, modes, count, rows, merges, out),
+        Err(refused) => output::put_refusal(out, refused.why),
     }
 }
 
@@ -75,18 +69,17 @@ fn print_steered(
     rule: Rule,
     input: &[u8],
     merges: &[u8],
-    numbers: &mut [u16],
-    out: &mut [u8],
+    numbers: &mut [u16; 16384],
+    out: &mut [u8; 16384],
 ) -> usize
-    requires { (length numbers.old ≡ row_width * most_terms) × (length out.old ≡ printed_room) }
     ensures { Puts (steer_text program_rooms (request rule input.now) merges.now) out.old out.new result }
 {
     match jobs::read_job(input, numbers) {
-        JobRead::Refused(why) => output::put_refusal(out, why),
-        JobRead::Is(modes, count) => {
-            let end = row::WIDTH * count;
-            let mut own = counted::own_rows(&numbers[..end], count);
-            steer_job(modes, rule, count, &mut own, merges, out)
+        Err(why) => output::put_refusal(out, why),
+        Ok(job) => {
+            let end = row::WIDTH * job.count;
+            let mut own = counted::own_rows(&numbers[..end], job.count);
+            steer_job(job.modes, rule, job.count, &mut own, merges, out)
         }
     }
 }
@@ -98,8 +91,5 @@ pub fn steer_answer(rule: Rule, input: &[u8], merges: &[u8]) -> Printed
     let mut numbers = [0u16; 16384];
     let mut bytes = [0u8; 16384];
     let count = print_steered(rule, input, merges, &mut numbers, &mut bytes);
-    Printed {
-        bytes: bytes,
-        count: count,
-    }
+    Printed { bytes, count }
 }

@@ -1,13 +1,14 @@
 // What a refused line of a journal lacks, for whoever has to mend it.
-ghost use Rattle.std.specs.Prelude.{◌≡◌, List, ℕ, ◌*◌, ◌≤◌, length};
-ghost use Rattle.entities.specs.Limits.{most_modes, most_terms, row_width};
+ghost use Rattle.std.specs.Prelude.{◌≡◌, List, ℕ, ◌≤◌};
+ghost use Rattle.refusal.specs.Numbers.{number_of};
+ghost use Rattle.entities.specs.Limits.{most_modes, most_terms};
 ghost use Rattle.terms.specs.Job.{Job, job_of};
 ghost use Rattle.terms.specs.code.Held.{Spread};
 ghost use Rattle.merging.specs.code.State.{history_of};
 ghost use Rattle.merging.specs.code.Runs.{Holds};
 ghost use Rattle.obeying.specs.Obeying.{refused, obeyed};
 ghost use Rattle.terms_text.specs.Jobs.{request};
-ghost use Rattle.text.specs.Running.{program_rooms, printed_room};
+ghost use Rattle.text.specs.Running.{program_rooms};
 ghost use Rattle.text.specs.Output.{Prints};
 ghost use Rattle.text.specs.code.Printing.{Puts};
 ghost use Rattle.steering.specs.Reasons.{first_closed, reason_of, reason_in, reason_text};
@@ -16,13 +17,11 @@ use entities::Triple;
 use fields::lines;
 use merging::asked;
 use merging::run::Run;
-use obeying::merge_line::Merge;
-use obeying::{Verdict, merge_line};
+use obeying::merge_line;
 use refusal::Refusal;
 use terms::rules::Rule;
 use terms::{counted, row};
 use terms_text::jobs;
-use terms_text::jobs::JobRead;
 use text::{Printed, output};
 
 // The first of x, y and z that isn't open.
@@ -38,39 +37,33 @@ fn first_closed(run: Run, triple: Triple) -> u16
     triple.z
 }
 
-// What is wrong with a line that says this triple after this run, printed over the front.
-fn put_reason(run: Run, rows: &[u16], number: usize, triple: Triple, out: &mut [u8]) -> usize
-    requires holds { (job : Job) × Holds job rows.now run }
-    requires out_len { length out.old ≡ printed_room }
-    ensures { (job : Job) → Holds job rows.now run → Puts (reason_of job (history_of run) number triple) out.old out.new result }
+// What is wrong with a line that says this triple after this run, printed over the front; of most refusals there is no more to tell.
+fn put_reason(run: Run, rows: &[u16], why: Refusal, triple: Triple, out: &mut [u8; 16384]) -> usize
+    requires { (job : Job) × Holds job rows.now run }
+    ensures { (job : Job) → Holds job rows.now run → Puts (reason_of job (history_of run) (number_of why) triple) out.old out.new result }
 {
-    if number == 8 {
-        return output::put_value(out, 0, b"due\t", asked::merges(run) as u64);
+    match why {
+        Refusal::StepNotNext(_) => output::put_value(out, 0, b"due\t", asked::merges(run) as u64),
+        Refusal::ChildNotOpen(_) => {
+            output::put_value(out, 0, b"closed\t", first_closed(run, triple) as u64)
+        }
+        Refusal::WeightUntrue(_) => {
+            let weight = asked::weight_of(run, rows, triple);
+            output::put_value(out, 0, b"weight\t", weight as u64)
+        }
+        _ => 0,
     }
-    if number == 9 {
-        return output::put_value(out, 0, b"closed\t", first_closed(run, triple) as u64);
-    }
-    if number == 11 {
-        return output::put_value(
-            out,
-            0,
-            b"weight\t",
-            asked::weight_of(run, rows, triple) as u64,
-        );
-    }
-    0
 }
 
 // The refused line read again.
-fn put_refused(run: Run, rows: &[u16], why: Refusal, read: &[u8], out: &mut [u8]) -> usize
-    requires holds { (job : Job) × Holds job rows.now run }
-    requires out_len { length out.old ≡ printed_room }
+fn put_refused(run: Run, rows: &[u16], why: Refusal, read: &[u8], out: &mut [u8; 16384]) -> usize
+    requires { (job : Job) × Holds job rows.now run }
     ensures { (job : Job) → Holds job rows.now run → Puts (reason_in job read.now (refused (history_of run) why)) out.old out.new result }
 {
     let line = lines::line_at(read, refusal::place(why));
     match merge_line::read_merge(line) {
-        Merge::Is(said) => put_reason(run, rows, refusal::number(why), said.triple, out),
-        Merge::Broken => 0,
+        Some(said) => put_reason(run, rows, why, said.triple, out),
+        None => 0,
     }
 }
 
@@ -81,32 +74,34 @@ fn reason_job(
     count: usize,
     rows: &mut [u16],
     read: &[u8],
-    out: &mut [u8],
+    out: &mut [u8; 16384],
 ) -> usize
     requires le_modes { (1 ≤ modes) × (modes ≤ most_modes) × (count ≤ most_terms) }
     requires by_index { (numbers : List ℕ) × Spread count numbers rows.old }
-    requires out_len { length out.old ≡ printed_room }
     ensures { (numbers : List ℕ) → Spread count numbers rows.old → Puts (reason_in (job_of modes rule count numbers) read.now (obeyed (job_of modes rule count numbers) read.now)) out.old out.new result }
 {
-    let found = obeying::obey(modes, rule, count, rows, read);
-    let verdict = found.verdict;
-    match verdict {
-        Verdict::Refused(why) => put_refused(found.run, rows, why, read, out),
-        Verdict::Fine => 0,
+    match obeying::obey(modes, rule, count, rows, read) {
+        Ok(_) => 0,
+        Err(refused) => put_refused(refused.run, rows, refused.why, read, out),
     }
 }
 
 // The same for a text's terms, in lent room for their numbers.
-fn print_reason(rule: Rule, input: &[u8], read: &[u8], numbers: &mut [u16], out: &mut [u8]) -> usize
-    requires { (length numbers.old ≡ row_width * most_terms) × (length out.old ≡ printed_room) }
+fn print_reason(
+    rule: Rule,
+    input: &[u8],
+    read: &[u8],
+    numbers: &mut [u16; 16384],
+    out: &mut [u8; 16384],
+) -> usize
     ensures { Puts (reason_text program_rooms (request rule input.now) read.now) out.old out.new result }
 {
     match jobs::read_job(input, numbers) {
-        JobRead::Refused(why) => 0,
-        JobRead::Is(modes, count) => {
-            let end = row::WIDTH * count;
-            let mut own = counted::own_rows(&numbers[..end], count);
-            reason_job(modes, rule, count, &mut own, read, out)
+        Err(_) => 0,
+        Ok(job) => {
+            let end = row::WIDTH * job.count;
+            let mut own = counted::own_rows(&numbers[..end], job.count);
+            reason_job(job.modes, rule, job.count, &mut own, read, out)
         }
     }
 }
@@ -118,8 +113,5 @@ pub fn reason_answer(rule: Rule, input: &[u8], read: &[u8]) -> Printed
     let mut numbers = [0u16; 16384];
     let mut bytes = [0u8; 16384];
     let count = print_reason(rule, input, read, &mut numbers, &mut bytes);
-    Printed {
-        bytes: bytes,
-        count: count,
-    }
+    Printed { bytes, count }
 }

@@ -12,7 +12,7 @@ use Rattle.lists.specs.Counting.{sum, same}
 use Rattle.lists.proofs.Sums.{sum_of, sum_map, sum_listed, same_none}
 use Rattle.lists.proofs.Totals.{total, total_none, total_apart, total_changed}
 use Rattle.terms.specs.declared.letters.Letter.{Letter}
-use Rattle.terms.specs.declared.letters.Letter.TheVariants.{None, X, Y, Z}
+use Rattle.terms.specs.declared.letters.Letter.TheVariants.{Nothing, X, Y, Z}
 use Rattle.terms.specs.Letters.{not_none}
 use Rattle.tree.specs.Table.{nodes, place_of_code, climb}
 use Rattle.tree.specs.OneTree.{root_of}
@@ -49,7 +49,7 @@ none_clashes edge letter h = rw (no_edge_lettered edge h)
 -- No letter clashes with itself.
 clash_self : (letter : Letter) → clash letter letter ≡ 0
 unfolding clash
-clash_self None = refl
+clash_self Nothing = refl
 clash_self X = refl
 clash_self Y = refl
 clash_self Z = refl

@@ -10,7 +10,7 @@ use Rattle.lists.specs.Counting.{sum, same, occurrences}
 use Rattle.lists.specs.Members.{firsts, firsts_after, some_of}
 use Rattle.lists.proofs.Sums.{sum_map, same_none}
 use Rattle.terms.specs.declared.letters.Letter.{Letter}
-use Rattle.terms.specs.declared.letters.Letter.TheVariants.{None, X, Y, Z}
+use Rattle.terms.specs.declared.letters.Letter.TheVariants.{Nothing, X, Y, Z}
 use Rattle.terms.specs.Letters.{letter_of, odd, counted_letter, not_none}
 use Rattle.tree.specs.Table.{nodes}
 use Rattle.tree_weight.specs.Operators.{operators}
@@ -94,7 +94,7 @@ pub product_is_letters : ProductIsLetters
 unfolding product string node_letter edges occurrences counted_letter letter_of
 product_is_letters modes table [] = go (nodes modes)
   where
-    go : (l : List ℕ) → map (λ node. None) l ≡ map (node_letter modes table []) l
+    go : (l : List ℕ) → map (λ node. Nothing) l ≡ map (node_letter modes table []) l
     go [] = refl
     go (node ∷ l) = rw (go l)
 product_is_letters modes table (majorana ∷ term) =

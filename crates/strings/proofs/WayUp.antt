@@ -11,7 +11,7 @@ use lib.ListN.{length, get_or}
 use Rattle.lists.specs.Counting.{same, occurrences}
 use Rattle.lists.proofs.Sums.{same_one, same_none}
 use Rattle.terms.specs.Letters.{not_none}
-use Rattle.terms.specs.declared.letters.Letter.TheVariants.{None}
+use Rattle.terms.specs.declared.letters.Letter.TheVariants.{Nothing}
 use Rattle.tree.specs.Table.{place_of_code, parent_of, climb}
 use Rattle.tree.proofs.OneTreeSays.{OneTreeSays}
 use Rattle.tree.proofs.Standing.{place_within, stands_there, place_nowhere, own_parent, parent_is, above_below}
@@ -28,7 +28,7 @@ edge_lettered (suc zero) h = refl
 edge_lettered (suc (suc zero)) h = refl
 edge_lettered (suc (suc (suc edge))) h = absurd (omega arith)
 
-pub no_edge_lettered : (edge : ℕ) → 3 ≤ edge → edge_letter edge ≡ None
+pub no_edge_lettered : (edge : ℕ) → 3 ≤ edge → edge_letter edge ≡ Nothing
 unfolding edge_letter
 no_edge_lettered zero h = absurd (omega arith)
 no_edge_lettered (suc zero) h = absurd (omega arith)

@@ -1,11 +1,10 @@
 -- What the strings of a tree promise: any two "differ in an odd number of places where neither is I", and those of one term multiply to as many letters as the term weighs.
-use Rattle.std.specs.Prelude.{◌≡◌, true, List, [], ◌∷◌, map, ℕ, ◌+◌, ◌*◌, ◌%◌, ◌<◌, ltb}
+use Rattle.std.specs.Prelude.{◌≡◌, true, List, [], ◌∷◌, map, ℕ, ◌+◌, ◌*◌, ◌%◌, ◌<◌, ltb, Ok}
 use Rattle.lists.specs.Counting.{sum}
 use Rattle.lists.specs.Members.{every}
 use Rattle.terms.specs.declared.letters.Letter.{Letter}
-use Rattle.terms.specs.declared.letters.Letter.TheVariants.{None, X, Y, Z}
+use Rattle.terms.specs.declared.letters.Letter.TheVariants.{Nothing, X, Y, Z}
 use Rattle.terms.specs.Letters.{not_none}
-use Rattle.tree.specs.declared.TreeChecked.TheVariants.{Accepted}
 use Rattle.tree.specs.Table.{nodes}
 use Rattle.tree.specs.Check.{tree_checked}
 use Rattle.tree_weight.specs.Weight.{node_letter, tree_weight}
@@ -13,19 +12,19 @@ use Rattle.strings.specs.Strings.{string}
 
 -- Two letters multiplied, "phase left off": equal ones give none, two different ones the third.
 unfoldable pub times : Letter → Letter → Letter
-times None other = other
-times X None = X
-times X X = None
+times Nothing other = other
+times X Nothing = X
+times X X = Nothing
 times X Y = Z
 times X Z = Y
-times Y None = Y
+times Y Nothing = Y
 times Y X = Z
-times Y Y = None
+times Y Y = Nothing
 times Y Z = X
-times Z None = Z
+times Z Nothing = Z
 times Z X = Y
 times Z Y = X
-times Z Z = None
+times Z Z = Nothing
 
 -- "multiplied place by place".
 unfoldable pub multiplied : List Letter → List Letter → List Letter
@@ -35,7 +34,7 @@ multiplied (letter ∷ letters) (other ∷ others) = times letter other ∷ mult
 
 -- "the letters of one term's strings multiplied", from no letter anywhere.
 unfoldable pub product : ℕ → List ℕ → List ℕ → List Letter
-product modes table [] = map (λ node. None) (nodes modes)
+product modes table [] = map (λ node. Nothing) (nodes modes)
 product modes table (majorana ∷ term) = multiplied (string modes table majorana) (product modes table term)
 
 -- In how many places the letters are "non-I".
@@ -44,16 +43,16 @@ letters_in letters = sum (map not_none letters)
 
 -- 1 where two letters "differ … where neither is I".
 unfoldable pub clash : Letter → Letter → ℕ
-clash None other = 0
-clash X None = 0
+clash Nothing other = 0
+clash X Nothing = 0
 clash X X = 0
 clash X Y = 1
 clash X Z = 1
-clash Y None = 0
+clash Y Nothing = 0
 clash Y X = 1
 clash Y Y = 0
 clash Y Z = 1
-clash Z None = 0
+clash Z Nothing = 0
 clash Z X = 1
 clash Z Y = 1
 clash Z Z = 0
@@ -67,28 +66,28 @@ clashes (letter ∷ letters) (other ∷ others) = clash letter other + clashes l
 -- "Any two different strings differ in an odd number of places where neither is I": as operators they anticommute.
 abbrev pub Anticommute : Type 0
 Anticommute =
-    (most modes : ℕ) (table : List ℕ) → tree_checked most modes table ≡ Accepted
+    (most modes : ℕ) (table : List ℕ) → tree_checked most modes table ≡ Ok tt
     → (majorana other : ℕ) → majorana < 2 * modes → other < 2 * modes → (majorana ≡ other → ⊥)
     → clashes (string modes table majorana) (string modes table other) % 2 ≡ 1
 
 -- That number is always one: the node at which the two paths part.
 abbrev pub ClashOnce : Type 0
 ClashOnce =
-    (most modes : ℕ) (table : List ℕ) → tree_checked most modes table ≡ Accepted
+    (most modes : ℕ) (table : List ℕ) → tree_checked most modes table ≡ Ok tt
     → (majorana other : ℕ) → majorana < 2 * modes → other < 2 * modes → (majorana ≡ other → ⊥)
     → clashes (string modes table majorana) (string modes table other) ≡ 1
 
 -- So no two Majoranas have the same string,
 abbrev pub StringsDiffer : Type 0
 StringsDiffer =
-    (most modes : ℕ) (table : List ℕ) → tree_checked most modes table ≡ Accepted
+    (most modes : ℕ) (table : List ℕ) → tree_checked most modes table ≡ Ok tt
     → (majorana other : ℕ) → majorana < 2 * modes → other < 2 * modes → (majorana ≡ other → ⊥)
     → string modes table majorana ≡ string modes table other → ⊥
 
 -- and none is without a letter.
 abbrev pub NotAllNone : Type 0
 NotAllNone =
-    (most modes : ℕ) (table : List ℕ) → tree_checked most modes table ≡ Accepted
+    (most modes : ℕ) (table : List ℕ) → tree_checked most modes table ≡ Ok tt
     → (majorana : ℕ) → majorana < 2 * modes → 0 < letters_in (string modes table majorana)
 
 -- A term's product has at each node the letter that the term has there, for any table.

@@ -1,7 +1,7 @@
 -- "the Pauli string of each Majorana 0..2n-1 …: n letters I, X, Y, Z by node label."
 use Rattle.std.specs.Prelude.{List, map, ℕ, zero, suc, ◌+◌}
 use Rattle.terms.specs.declared.letters.Letter.{Letter}
-use Rattle.terms.specs.declared.letters.Letter.TheVariants.{None, X, Y, Z}
+use Rattle.terms.specs.declared.letters.Letter.TheVariants.{Nothing, X, Y, Z}
 use Rattle.tree.specs.Table.{nodes}
 use Rattle.tree_weight.specs.Weight.{edge_under}
 
@@ -10,7 +10,7 @@ unfoldable pub edge_letter : ℕ → Letter
 edge_letter zero = X
 edge_letter (suc zero) = Y
 edge_letter (suc (suc zero)) = Z
-edge_letter (suc (suc (suc more))) = None
+edge_letter (suc (suc (suc more))) = Nothing
 
 -- The letter of a Majorana at a node: "A node off the leaf's path gives I".
 unfoldable pub majorana_letter : ℕ → List ℕ → ℕ → ℕ → Letter

@@ -1,14 +1,14 @@
 -- "one record a line: the number, a tab, then n letters"; "Text room is the exact length. Refusals: 1, 13 to 16, then 5".
+use Rattle.refusal.specs.declared.Refusal.{Refusal}
 use mathlib.Core.List.{List, ◌++◌, map, flat_map}
 use Prim.Native.Char.{code}
-use Rattle.std.specs.Prelude.{ℕ, ◌+◌, ◌*◌, length}
+use Rattle.std.specs.Prelude.{ℕ, ◌+◌, ◌*◌, length, Result}
 use Rattle.lists.specs.Counting.{sum}
 use Rattle.lists.specs.Ranges.{listed}
 use Rattle.fields.specs.Texts.{spelt}
 use Rattle.fields.specs.Decimal.{decimal}
 use Rattle.terms.specs.declared.letters.Letter.{Letter}
 use Rattle.terms.specs.Letters.{letter_byte}
-use Rattle.tree.specs.declared.TreeWritten.{TreeWritten}
 use Rattle.tree.specs.Writing.{tree_written}
 use Rattle.strings.specs.Strings.{string}
 
@@ -40,5 +40,5 @@ unfoldable pub strings_length : ℕ → ℕ
 strings_length modes = sum (map (line_length modes) (majoranas modes))
 
 -- The call `write_strings` into so much room.
-unfoldable pub strings_written : ℕ → ℕ → List ℕ → ℕ → TreeWritten
+unfoldable pub strings_written : ℕ → ℕ → List ℕ → ℕ → Result ℕ Refusal
 strings_written most modes table room = tree_written most modes table (strings_text modes table) room

@@ -10,12 +10,7 @@ pub fn strings_length(modes: usize) -> usize
     requires { modes ≤ most_modes }
     ensures { result ≡ strings_length modes }
 {
-    let count = 2 * modes;
-    let mut length = 0;
-    let mut majorana = 0;
-    while majorana < count {
-        length += decimal::digit_count(majorana as u64) + (modes + 2);
-        majorana += 1;
-    }
-    length
+    (0..2 * modes)
+        .map(|majorana| decimal::digit_count(majorana as u64) + (modes + 2))
+        .sum()
 }

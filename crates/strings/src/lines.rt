@@ -19,7 +19,7 @@ fn edge_letter(edge: usize) -> Letter
         0 => Letter::X,
         1 => Letter::Y,
         2 => Letter::Z,
-        _ => Letter::None,
+        _ => Letter::Nothing,
     }
 }
 
@@ -48,10 +48,8 @@ fn put_letters(
     ensures value { result ≡ at + modes }
     ensures text_after { text.new ≡ written_at at (string_bytes modes tree.now majorana) text.old }
 {
-    let mut node = 0;
-    while node < modes {
+    for node in 0..modes {
         text[at + node] = letter_at(modes, tree, places, majorana, node);
-        node += 1;
     }
     at + modes
 }
@@ -84,11 +82,8 @@ pub fn put_lines(text: &mut [u8], modes: usize, tree: &[u16], places: &[usize])
     requires tree_in_bounds { length (strings_text modes tree.now) ≤ length text.old }
     ensures { text.new ≡ written_at 0 (strings_text modes tree.now) text.old }
 {
-    let count = 2 * modes;
     let mut at = 0;
-    let mut majorana = 0;
-    while majorana < count {
+    for majorana in 0..2 * modes {
         at = put_line(text, at, modes, tree, places, majorana);
-        majorana += 1;
     }
 }

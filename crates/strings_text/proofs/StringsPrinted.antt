@@ -1,13 +1,13 @@
 -- What writing a tree's strings left in the bytes, as it is printed.
+use Rattle.std.specs.Prelude.{Err, Ok, Result}
 use mathlib.Core.Path.{◌≡◌, ap, ◌∙◌}
 use mathlib.Core.List.{List}
 use Prim.Native.Nat.{ℕ, ◌*◌}
 use lib.ListN.{length, take}
 use Rattle.refusal.specs.declared.Refusal.{Refusal}
 use Rattle.refusal.specs.declared.Refusal.TheVariants.{Malformed}
+use Rattle.refusal.specs.Numbers.{place_of}
 use Rattle.entities.specs.Limits.{most_modes}
-use Rattle.tree.specs.declared.TreeWritten.{TreeWritten}
-use Rattle.tree.specs.declared.TreeWritten.TheVariants.{Written, Unwritten}
 use Rattle.tree.specs.Check.{tree_checked}
 use Rattle.tree.specs.Writing.{tree_written, text_after}
 use Rattle.tree.proofs.WritingAnswered.{written_fits}
@@ -23,14 +23,14 @@ module _ (modes : ℕ) (table out : List ℕ) (room : length out ≡ strings_roo
   abbrev text : List ℕ
   text = strings_text modes table
 
-  abbrev means : TreeWritten
+  abbrev means : Result ℕ Refusal
   means = strings_written most_modes modes table (length out)
 
   as_room : means ≡ strings_written most_modes modes table strings_room
   as_room = ap (strings_written most_modes modes table) room
 
   -- A text that was written is the answer.
-  pub written_strings : (count : ℕ) (after : List ℕ) → Written count ≡ means → after ≡ text_after (Written count) text out
+  pub written_strings : (count : ℕ) (after : List ℕ) → Ok count ≡ means → after ≡ text_after (Ok count) text out
       → Puts (table_strings most_modes modes table) out after count
   unfolding text_after table_strings written_printed strings_written tree_written
   written_strings count after e f =
@@ -40,7 +40,7 @@ module _ (modes : ℕ) (table out : List ℕ) (room : length out ≡ strings_roo
       rw answer at puts
 
   -- A refusal leaves nothing, and is printed over that.
-  pub refused_strings : (refusal : Refusal) (after : List ℕ) → Unwritten refusal ≡ means → after ≡ text_after (Unwritten refusal) text out
+  pub refused_strings : (refusal : Refusal) (after : List ℕ) → Err refusal ≡ means → after ≡ text_after (Err refusal) text out
       → {last : List ℕ} {r : ℕ} → Puts (refusal_text refusal) after last r → Puts (table_strings most_modes modes table) out last r
   unfolding text_after table_strings written_printed
   refused_strings refusal after e f puts =
@@ -49,9 +49,10 @@ module _ (modes : ℕ) (table out : List ℕ) (room : length out ≡ strings_roo
 
 -- What a tree's text was read to say.
 module _ (tree : List ℕ) where
-  pub strings_malformed : (line : ℕ) → tree_said most_modes tree ≡ malformed line → refusal_text (Malformed line) ≡ tree_strings_text most_modes tree
+  pub strings_malformed : (why : Refusal) → (why ≡ Malformed (place_of why)) × (tree_said most_modes tree ≡ malformed (place_of why))
+      → refusal_text why ≡ tree_strings_text most_modes tree
   unfolding tree_strings_text strings_as
-  strings_malformed line e = rw e
+  strings_malformed why bad = rw (bad.1, ← bad.0)
 
   pub strings_read : {rows table : List ℕ} {count : ℕ} → TreeRead most_modes (tree_said most_modes tree) rows table count
       → table_strings most_modes count (take (3 * count) table) ≡ tree_strings_text most_modes tree

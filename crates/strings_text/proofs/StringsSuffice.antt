@@ -1,4 +1,6 @@
 -- The strings of any accepted tree have room, so 5 is never what `strings` prints.
+use Rattle.std.specs.Prelude.{Err, Ok, Result}
+use Rattle.refusal.specs.declared.Refusal.{Refusal}
 use mathlib.Core.Path.{◌≡◌, refl, ap}
 use mathlib.Core.List.{List, [], flat_map}
 use Prim.Native.Nat.{ℕ, zero, suc, ◌+◌, ◌-◌, ◌*◌, ◌≤◌}
@@ -13,9 +15,6 @@ use Rattle.refusal.specs.declared.Refusal.TheVariants.{Room}
 use Rattle.entities.specs.Limits.{most_modes}
 use Rattle.fields.specs.Decimal.{digits, decimal}
 use Rattle.fields.specs.Fields.{tabbed}
-use Rattle.tree.specs.declared.TreeChecked.TheVariants.{Accepted}
-use Rattle.tree.specs.declared.TreeWritten.{TreeWritten}
-use Rattle.tree.specs.declared.TreeWritten.TheVariants.{Written, Unwritten}
 use Rattle.tree.specs.Check.{tree_checked}
 use Rattle.tree.specs.Writing.{written_as, tree_written}
 use Rattle.tree.specs.Laying.{modes_in, table_of}
@@ -55,7 +54,7 @@ strings_never modes table =
     omega (arith, text_long modes table, text_short modes few))
 
 -- An accepted tree's strings are printed, and so are those of a run's tree.
-accepted_strings : (modes : ℕ) (table : List ℕ) → tree_checked most_modes modes table ≡ Accepted
+accepted_strings : (modes : ℕ) (table : List ℕ) → tree_checked most_modes modes table ≡ Ok tt
     → table_strings most_modes modes table ≡ strings_text modes table
 unfolding table_strings strings_written tree_written written_as written_printed
 accepted_strings modes table accepted =
@@ -76,11 +75,11 @@ first_byte (suc modes) table e =
     omega (arith, rw e2 at e)
 
 -- Where the text of 5 is printed, writing ended with it.
-five_written : (modes : ℕ) (table : List ℕ) (written : TreeWritten) → written_printed written (strings_text modes table) ≡ refusal_text Room
+five_written : (modes : ℕ) (table : List ℕ) (written : Result ℕ Refusal) → written_printed written (strings_text modes table) ≡ refusal_text Room
     → number_written written ≡ 5
 unfolding number_written written_printed refusal_text line_of tabbed
-five_written modes table (Written count) e = absurd (first_byte modes table (ap (λ text. get_or text 0 0) e))
-five_written modes table (Unwritten refusal) e = refusal_five refusal e
+five_written modes table (Ok count) e = absurd (first_byte modes table (ap (λ text. get_or text 0 0) e))
+five_written modes table (Err refusal) e = refusal_five refusal e
 
 table_never : (modes : ℕ) (table : List ℕ) → table_strings most_modes modes table ≡ refusal_text Room → ⊥
 unfolding table_strings

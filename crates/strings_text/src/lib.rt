@@ -1,25 +1,14 @@
 // The answers of `strings` to the text of a tree or of terms, from bytes to bytes.
 #![tactic(auto)]
 
-ghost use Rattle.std.specs.Prelude.{◌≡◌, ◌*◌, length};
 ghost use Rattle.entities.specs.Limits.{most_modes};
 ghost use Rattle.terms_text.specs.Jobs.{request};
 ghost use Rattle.text.specs.Running.{program_rooms};
 ghost use Rattle.text.specs.code.Printing.{Puts};
-ghost use Rattle.strings_text.specs.Printing.{
-  strings_room,
-  table_strings,
-  hatt_strings_text,
-  tree_strings_text,
-  PrintsStrings,
-};
+ghost use Rattle.strings_text.specs.Printing.{table_strings, hatt_strings_text, tree_strings_text, PrintsStrings};
 
-use nodes_text::Nodes;
-use ran_tree::Ended;
-use refusal::Refusal;
 use terms::rules::Rule;
 use text::output;
-use tree::TreeWritten;
 use tree_text::trees;
 
 // What is printed: so many bytes of these.
@@ -30,24 +19,22 @@ pub struct Printed {
 }
 
 // A tree's strings printed over the front; how many bytes that is.
-fn put_strings(out: &mut [u8], modes: usize, tree: &[u16]) -> usize
-    requires { length out.old ≡ strings_room }
+fn put_strings(out: &mut [u8; 133522], modes: usize, tree: &[u16]) -> usize
     ensures { Puts (table_strings most_modes modes tree.now) out.old out.new result }
 {
     match strings::write_strings(modes, tree, out) {
-        TreeWritten::Unwritten(refusal) => output::put_refusal(out, refusal),
-        TreeWritten::Written(count) => count,
+        Err(refusal) => output::put_refusal(out, refusal),
+        Ok(count) => count,
     }
 }
 
 // The answer to terms printed over the front, in lent room for the tree's table.
-fn print_hatt(rule: Rule, input: &[u8], table: &mut [u16], out: &mut [u8]) -> usize
-    requires { (length table.old ≡ 3 * most_modes) × (length out.old ≡ strings_room) }
+fn print_hatt(rule: Rule, input: &[u8], table: &mut [u16; 768], out: &mut [u8; 133522]) -> usize
     ensures { Puts (hatt_strings_text program_rooms (request rule input.now)) out.old out.new result }
 {
     match ran_tree::run_tree(rule, input, table) {
-        Ended::Refused(refusal) => output::put_refusal(out, refusal),
-        Ended::Tree(modes) => {
+        Err(refusal) => output::put_refusal(out, refusal),
+        Ok(modes) => {
             let end = 3 * modes;
             put_strings(out, modes, &table[..end])
         }
@@ -55,13 +42,17 @@ fn print_hatt(rule: Rule, input: &[u8], table: &mut [u16], out: &mut [u8]) -> us
 }
 
 // The answer to a tree's text printed over the front, in lent room for its rows and its table.
-fn print_tree(tree: &[u8], rows: &mut [u16], table: &mut [u16], out: &mut [u8]) -> usize
-    requires { (length rows.old ≡ 4 * most_modes) × (length table.old ≡ 3 * most_modes) × (length out.old ≡ strings_room) }
+fn print_tree(
+    tree: &[u8],
+    rows: &mut [u16; 1024],
+    table: &mut [u16; 768],
+    out: &mut [u8; 133522],
+) -> usize
     ensures { Puts (tree_strings_text most_modes tree.now) out.old out.new result }
 {
     match trees::read_tree(tree, rows, table) {
-        Nodes::Malformed(line) => output::put_refusal(out, Refusal::Malformed(line)),
-        Nodes::Are(modes) => {
+        Err(refusal) => output::put_refusal(out, refusal),
+        Ok(modes) => {
             let end = 3 * modes;
             put_strings(out, modes, &table[..end])
         }
@@ -75,10 +66,7 @@ pub fn hatt_strings_answer(rule: Rule, input: &[u8]) -> Printed
     let mut table = [0u16; 768];
     let mut bytes = [0u8; 133522];
     let count = print_hatt(rule, input, &mut table, &mut bytes);
-    Printed {
-        bytes: bytes,
-        count: count,
-    }
+    Printed { bytes, count }
 }
 
 // The strings of a tree's text.
@@ -89,8 +77,5 @@ pub fn tree_strings_answer(tree: &[u8]) -> Printed
     let mut table = [0u16; 768];
     let mut bytes = [0u8; 133522];
     let count = print_tree(tree, &mut rows, &mut table, &mut bytes);
-    Printed {
-        bytes: bytes,
-        count: count,
-    }
+    Printed { bytes, count }
 }

@@ -1,4 +1,5 @@
 -- A couple tallied row by row: what was counted in the rows passed, and what those ahead weigh, give what all weigh.
+use Rattle.std.specs.Prelude.{Some}
 use mathlib.Core.Path.{◌≡◌, refl, ap}
 use mathlib.Core.List.{List}
 use Prim.Native.Nat.{ℕ, ◌+◌, ◌-◌, ◌*◌, ◌/◌, ◌%◌, ◌<◌, ◌≤◌}
@@ -10,7 +11,6 @@ use Rattle.terms.specs.Weight.{weight_of}
 use Rattle.terms.proofs.RowSteps.{terms_start, length_terms}
 use Rattle.terms.proofs.Weighing.{weight_step, weight_end}
 use Rattle.tallying.specs.code.Tallies.{odds, OddsAre, RowTallied, Tallied, Looked}
-use Rattle.tallying.specs.declared.tally.Tally.TheVariants.{All}
 use Rattle.tallying.proofs.OddRows.{odds_step, odds_end}
 
 module _ (count : ℕ) (rows : List ℕ) (x y : ℕ) where
@@ -77,5 +77,5 @@ module _ (count : ℕ) (rows : List ℕ) (x y : ℕ) where
 
 -- A couple's tally and the odds of all rows give its weight with any z that both tables reach.
 pub looked_up : (terms : List (List ℕ)) (x y limit all bound room : ℕ) (table less : List ℕ) → OddsAre room terms table → length less ≡ room
-    → Tallied terms x y limit less (All all bound) → Looked room (λ triple. weight_of triple terms) x y all table less
+    → Tallied terms x y limit less (Some (record { all = all; apart = bound })) → Looked room (λ triple. weight_of triple terms) x y all table less
 looked_up terms x y limit all bound room table less counted whole tallied z h = omega (arith, tallied.1 z (omega arith), counted z h)

@@ -6,7 +6,7 @@ ghost use Rattle.terms.specs.code.Held.{Held};
 ghost use Rattle.tallying.specs.code.Tallies.{OddsAre};
 
 use crate::raising;
-use terms::{row, slices};
+use terms::row;
 
 // For each number of the table, in how many of the first `count` rows it is odd.
 pub fn count_odds(rows: &[u16], count: usize, table: &mut [u16])
@@ -14,10 +14,8 @@ pub fn count_odds(rows: &[u16], count: usize, table: &mut [u16])
     requires count_le_most_terms { count ≤ most_terms }
     ensures { OddsAre (length table.new) (terms_of row_width count rows.now) table.new }
 {
-    slices::fill(table, 0);
-    let mut place = 0;
-    while place < count {
+    table.fill(0);
+    for place in 0..count {
         raising::raise(row::term_at(rows, row::WIDTH, place), table);
-        place += 1;
     }
 }

@@ -7,16 +7,17 @@ ghost use Rattle.tallying.specs.code.Tallies.{AllBelow};
 ghost use Rattle.tallying.specs.code.Pairs.{beside, PairTurned, RowWeighed, Lifted, PairsWeighed};
 
 use crate::raising;
-use terms::{row, slices, weight};
+use terms::{row, weight};
 
 // The other leaf of a leaf's mode.
 fn partner(number: u16) -> u16
     ensures { (number % 2 ≡ 0 → result ≡ number + 1) × (number % 2 ≡ 1 → result + 1 ≡ number) }
 {
     if number % 2 == 0 {
-        return number + 1;
+        number + 1
+    } else {
+        number - 1
     }
-    number - 1
 }
 
 // One number more of the term, in which z is odd or not: the weight of its mode's leaves with z changes where their other leaf was odd just as z is.
@@ -26,18 +27,15 @@ fn turn_pair(term: &[u16], at: usize, odd: usize, table: &mut [u16])
     ensures { PairTurned odd term.now at table.old table.new }
 {
     let number = term[at];
-    let mode = entities::wide(number) / 2;
-    if table.len() <= mode {
+    let mode = usize::from(number) / 2;
+    if table.len() <= mode || weight::odd_in(&term[..at], partner(number)) != odd {
         return;
     }
-    if weight::odd_in(&term[0..at], partner(number)) != odd {
-        return;
-    }
-    if weight::odd_in(&term[0..at], number) == odd {
+    if weight::odd_in(&term[..at], number) == odd {
         table[mode] += 1;
-        return;
+    } else {
+        table[mode] -= 1;
     }
-    table[mode] -= 1;
 }
 
 // The same; where those before are all below both leaves of the mode, its weight goes up if z is not odd, and else stays.
@@ -47,15 +45,13 @@ fn turn_next(term: &[u16], at: usize, bound: usize, odd: usize, table: &mut [u16
     ensures { PairTurned odd term.now at table.old table.new }
 {
     let number = term[at];
-    let mode = entities::wide(number) / 2;
+    let mode = usize::from(number) / 2;
     if table.len() <= mode {
         return;
     }
     if 2 * mode < bound {
         turn_pair(term, at, odd, table);
-        return;
-    }
-    if odd == 0 {
+    } else if odd == 0 {
         table[mode] += 1;
     }
 }
@@ -67,11 +63,9 @@ fn weigh_row(term: &[u16], z: u16, table: &mut [u16]) -> usize
 {
     let odd = weight::odd_in(term, z);
     let mut bound: usize = 0;
-    let mut at = 0;
-    while at < term.len() {
+    for at in 0..term.len() {
         turn_next(term, at, bound, odd, table);
         bound = raising::bound_on(bound, term[at]);
-        at += 1;
     }
     odd
 }
@@ -81,10 +75,8 @@ fn lift(table: &mut [u16], up: usize, down: usize)
     requires { (k : ℕ) → k < length table.old → (down ≤ get_or table.old k 0 + up) × (get_or table.old k 0 + up < 65536) }
     ensures { Lifted up down table.old table.new }
 {
-    let mut at = 0;
-    while at < table.len() {
-        table[at] = (entities::wide(table[at]) + up - down) as u16;
-        at += 1;
+    for number in table.iter_mut() {
+        *number = (usize::from(*number) + up - down) as u16;
     }
 }
 
@@ -95,12 +87,10 @@ pub fn weigh_pairs(rows: &[u16], count: usize, z: u16, table: &mut [u16])
     ensures { PairsWeighed (length table.new) (terms_of row_width count rows.now) z table.new }
 {
     // as much as may be taken off: a row in which z is odd takes 1 off where it weighs nothing
-    slices::fill(table, count as u16);
+    table.fill(count as u16);
     let mut odd: usize = 0;
-    let mut place = 0;
-    while place < count {
+    for place in 0..count {
         odd += weigh_row(row::term_at(rows, row::WIDTH, place), z, table);
-        place += 1;
     }
     lift(table, odd, count);
 }

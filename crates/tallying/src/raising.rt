@@ -1,5 +1,5 @@
 // A table of numbers raised by one row: at each number that is odd in it.
-ghost use Rattle.std.specs.Prelude.{◌≡◌, ℕ, ◌+◌, ◌%◌, ◌≤◌, ◌<◌, length, get_or, take};
+ghost use Rattle.std.specs.Prelude.{ℕ, ◌+◌, ◌%◌, ◌≤◌, ◌<◌, length, get_or, take};
 ghost use Rattle.lists.specs.Counting.{occurrences};
 ghost use Rattle.tallying.specs.code.Tallies.{AllBelow, Turned, Raised};
 
@@ -9,11 +9,7 @@ use terms::weight;
 pub fn bound_on(bound: usize, number: u16) -> usize
     ensures { (bound ≤ result) × (number < result) }
 {
-    let next = entities::wide(number) + 1;
-    if bound < next {
-        return next;
-    }
-    bound
+    bound.max(usize::from(number) + 1)
 }
 
 // One number more of the term: its entry goes up where it was even in those before, and down again where it was odd. Where those before are all below it, that needs no count.
@@ -23,7 +19,7 @@ fn turn(term: &[u16], at: usize, bound: usize, table: &mut [u16])
     ensures { Turned term.now at table.old table.new }
 {
     let number = term[at];
-    let place = entities::wide(number);
+    let place = usize::from(number);
     if table.len() <= place {
         return;
     }
@@ -31,7 +27,7 @@ fn turn(term: &[u16], at: usize, bound: usize, table: &mut [u16])
         table[place] += 1;
         return;
     }
-    let odd = weight::odd_in(&term[0..at], number) as u16;
+    let odd = weight::odd_in(&term[..at], number) as u16;
     table[place] = table[place] - odd + (1 - odd);
 }
 
@@ -41,10 +37,8 @@ pub fn raise(term: &[u16], table: &mut [u16])
     ensures { Raised term.now table.old table.new }
 {
     let mut bound: usize = 0;
-    let mut at = 0;
-    while at < term.len() {
+    for at in 0..term.len() {
         turn(term, at, bound, table);
         bound = bound_on(bound, term[at]);
-        at += 1;
     }
 }

@@ -6,13 +6,13 @@ ghost use Rattle.terms.specs.code.Held.{Held};
 ghost use Rattle.tallying.specs.code.Tallies.{RowTallied, Tallied};
 
 use crate::raising;
-use terms::{row, slices, weight};
+use terms::{row, weight};
 
-// Every triple of the couple weighs at least the limit; or the number of rows in which one of the two is odd, or both are, and of those in which only one is.
+// In how many rows one of the two is odd, or both are, and in how many only one is.
 #[derive(Clone, Copy)]
-pub enum Tally {
-    Heavy,
-    All(usize, usize),
+pub struct Tally {
+    pub all: usize,
+    pub apart: usize,
 }
 
 // How many of x and y are odd in the term; the table goes up as many times at each number that is odd in it.
@@ -32,7 +32,7 @@ fn tally_row(term: &[u16], x: u16, y: u16, less: &mut [u16]) -> usize
     odd
 }
 
-// With z the couple weighs `all` and the rows in which z is odd, less z's entry; left once the rows in which only one of the two is odd reach the limit, since those weigh 1 whatever z is.
+// With z the couple weighs `all` of the tally and the rows in which z is odd, less z's entry; none once the rows in which only one of the two is odd reach the limit, since those weigh 1 whatever z is.
 pub fn tally_couple(
     rows: &[u16],
     count: usize,
@@ -40,23 +40,24 @@ pub fn tally_couple(
     y: u16,
     limit: usize,
     less: &mut [u16],
-) -> Tally
+) -> Option<Tally>
     requires held { Held row_width count rows.now }
     requires count_le_most_terms { count ≤ most_terms }
     ensures { Tallied (terms_of row_width count rows.now) x y limit less.new result }
 {
-    slices::fill(less, 0);
+    less.fill(0);
     let mut all: usize = 0;
     let mut apart: usize = 0;
-    let mut place = 0;
-    while place < count {
+    for place in 0..count {
         let odd = tally_row(row::term_at(rows, row::WIDTH, place), x, y, less);
         all += (odd + 1) / 2;
         apart += odd % 2;
         if limit <= apart {
-            return Tally::Heavy;
+            return None;
         }
-        place += 1;
     }
-    Tally::All(all, apart)
+    Some(Tally {
+        all: all,
+        apart: apart,
+    })
 }

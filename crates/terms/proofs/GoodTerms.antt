@@ -1,4 +1,5 @@
 -- Terms that the check accepted are good.
+use Rattle.std.specs.Prelude.{Ok}
 use mathlib.Core.Path.{◌≡◌, refl, sym}
 use mathlib.Core.Bool.{Bool, true, false, ◌&&◌, and-eq-true_iff}
 use mathlib.Core.List.{List, []}
@@ -11,7 +12,6 @@ use lib.Seq.{length-take-le}
 use Rattle.lists.specs.Members.{every}
 use Rattle.lists.specs.Ranges.{ascends}
 use Rattle.lists.proofs.Every.{every_at, every_cons, every_uncons, every_leading}
-use Rattle.terms.specs.declared.checking.Checked.TheVariants.{Good}
 use Rattle.terms.specs.Rows.{rows_of, term, terms_of}
 use Rattle.terms.specs.code.Held.{Given}
 use Rattle.terms.specs.Good.{good_indices, good_row, good_term, good_rows, checked}
@@ -111,7 +111,7 @@ module _ (modes : ℕ) (numbers : List ℕ) (count : ℕ) where
         good = good_terms (2 * modes) count numbers (omega arith) good;
       }
 
-  pub accepted : checked modes numbers ≡ Good count → Accepted modes numbers count
+  pub accepted : checked modes numbers ≡ Ok count → Accepted modes numbers count
   unfolding checked
   accepted e =
       go (eqb (length numbers % 8) 0) refl (leb (length numbers / 8) 2048) refl

@@ -5,7 +5,7 @@ use Prim.Native.Nat.{ℕ, zero, suc, ◌+◌, ◌%◌, ◌≤◌, ◌<◌}
 use native.Mathlib.Omega.{arith}
 use lib.Dec.{eqb}
 use Rattle.terms.specs.declared.letters.Letter.{Letter}
-use Rattle.terms.specs.declared.letters.Letter.TheVariants.{None, X, Y, Z}
+use Rattle.terms.specs.declared.letters.Letter.TheVariants.{Nothing, X, Y, Z}
 use Rattle.terms.specs.Letters.{letter_of, counted_letter, not_none, EightCases}
 
 -- From the three remainders.
@@ -33,11 +33,11 @@ of_two P even odd (suc zero) h = odd
 of_two P even odd (suc (suc number)) h = absurd (omega arith)
 
 -- Where all three are alike there is none.
-pub none_alike : (xs ys zs : ℕ) → xs % 2 ≡ zs % 2 → ys % 2 ≡ zs % 2 → counted_letter xs ys zs ≡ None
+pub none_alike : (xs ys zs : ℕ) → xs % 2 ≡ zs % 2 → ys % 2 ≡ zs % 2 → counted_letter xs ys zs ≡ Nothing
 unfolding letter_of
 none_alike xs ys zs ex ey =
     by_remainders xs ys zs (zs % 2) (zs % 2) (zs % 2) ex ey refl
-    ∙ of_two (λ a. letter_of (eqb a 1) (eqb a 1) (eqb a 1) ≡ None) refl refl (zs % 2) (omega arith)
+    ∙ of_two (λ a. letter_of (eqb a 1) (eqb a 1) (eqb a 1) ≡ Nothing) refl refl (zs % 2) (omega arith)
 
 -- A fact of three remainders that holds in all eight cases.
 module _ (P : ℕ → ℕ → ℕ → Type 0) (p000 : P 0 0 0) (p001 : P 0 0 1) (p010 : P 0 1 0) (p011 : P 0 1 1) (p100 : P 1 0 0) (p101 : P 1 0 1) (p110 : P 1 1 0) (p111 : P 1 1 1) where
@@ -69,7 +69,7 @@ not_none_apart xs ys zs =
 
 -- A letter weighs at most 1.
 pub not_none_at_most : (letter : Letter) → not_none letter ≤ 1
-not_none_at_most None = omega arith
+not_none_at_most Nothing = omega arith
 not_none_at_most X = omega arith
 not_none_at_most Y = omega arith
 not_none_at_most Z = omega arith

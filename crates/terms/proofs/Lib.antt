@@ -8,4 +8,5 @@ pub mod CountedRows
 pub mod LetterLaws
 pub mod Weighing
 pub mod WeightBound
+pub mod GoodModes
 pub mod GoodTerms

@@ -1,38 +1,29 @@
 // The check of given terms: refusals 2, 3 and 4 of document 01.
-ghost use Rattle.std.specs.Prelude.{◌≡◌, ◌*◌, ◌≤◌, length};
+ghost use Rattle.std.specs.Prelude.{◌≡◌, ◌*◌, ◌≤◌, length, OnOk};
 ghost use Rattle.refusal.specs.Numbers.{Tells};
-ghost use Rattle.entities.specs.Limits.{row_width};
-ghost use Rattle.terms.specs.Good.{good_indices, good_row, good_rows, check_numbers, checked};
+ghost use Rattle.entities.specs.Limits.{most_modes, row_width};
+ghost use Rattle.terms.specs.Good.{ModesSaid, good_indices, good_row, good_rows, check_numbers, checked};
 
-use crate::{row, slices};
+use crate::row;
 use refusal::Refusal;
 
-#[derive(Clone, Copy)]
-pub enum Checked {
-    // So many rows, all of them good.
-    Good(usize),
-    Refused(Refusal),
+// The modes are 1 to 256, or refusal 1.
+pub fn check_modes(modes: usize) -> Result<(), Refusal>
+    ensures said { ModesSaid most_modes modes result }
+    ensures between { OnOk result ((1 ≤ modes) × (modes ≤ most_modes)) }
+{
+    if modes < 1 || 256 < modes {
+        return Err(Refusal::Modes);
+    }
+    Ok(())
 }
 
 // The indices are below twice the modes and never descend.
 fn good_indices(modes: usize, indices: &[u16]) -> bool
     ensures { result ≡ good_indices (2 * modes) indices.now }
 {
-    let mut low: u16 = 0;
-    let mut at = 0;
-    while at < indices.len() {
-        let index = indices[at];
-        if index < low {
-            return false;
-        }
-        // an index below 2n has a half below n; twice the modes may not fit
-        if modes <= entities::wide(index) / 2 {
-            return false;
-        }
-        low = index;
-        at += 1;
-    }
-    true
+    // an index below 2n has a half below n; twice the modes may not fit
+    indices.is_sorted() && indices.iter().all(|index| usize::from(*index) / 2 < modes)
 }
 
 // A length 1 to 7, that many good indices, then zeros.
@@ -40,18 +31,12 @@ fn good_row(modes: usize, numbers: &[u16]) -> bool
     requires { length numbers.now ≡ row_width }
     ensures { result ≡ good_row (2 * modes) numbers.now }
 {
-    let count = entities::wide(numbers[0]);
-    if count < 1 {
+    let count = usize::from(numbers[0]);
+    if count < 1 || 7 < count {
         return false;
     }
-    if 7 < count {
-        return false;
-    }
-    if !good_indices(modes, row::term_of(numbers)) {
-        return false;
-    }
-    let end = count + 1;
-    slices::all_are(&numbers[end..], 0)
+    good_indices(modes, row::term_of(numbers))
+        && numbers[count + 1..].iter().all(|number| *number == 0)
 }
 
 // How many rows are good before the first bad one.
@@ -59,30 +44,28 @@ fn good_rows(modes: usize, terms: &[u16], count: usize) -> usize
     requires { row_width * count ≤ length terms.now }
     ensures { result ≡ good_rows (2 * modes) count terms.now }
 {
-    let mut place = 0;
-    while place < count {
+    for place in 0..count {
         if !good_row(modes, row::row_at(terms, row::WIDTH, place)) {
             return place;
         }
-        place += 1;
     }
-    place
+    count
 }
 
 // The terms are rows of eight, at most 2048, all good; or the first of these that fails.
-pub fn check_terms(modes: usize, terms: &[u16]) -> Checked
+pub fn check_terms(modes: usize, terms: &[u16]) -> Result<usize, Refusal>
     ensures { Tells check_numbers (checked modes terms.now) result }
 {
     if terms.len() % 8 != 0 {
-        return Checked::Refused(Refusal::TermNumbers);
+        return Err(Refusal::TermNumbers);
     }
     let count = terms.len() / 8;
     if 2048 < count {
-        return Checked::Refused(Refusal::TooManyTerms);
+        return Err(Refusal::TooManyTerms);
     }
     let good = good_rows(modes, terms, count);
     if good < count {
-        return Checked::Refused(Refusal::BadRow(good));
+        return Err(Refusal::BadRow(good));
     }
-    Checked::Good(count)
+    Ok(count)
 }

@@ -27,10 +27,8 @@ pub fn put_each_once(terms: &[u16], count: usize, rows: &mut [u16])
     ensures spread { Spread count terms.now rows.new }
     ensures rows_unchanged { drop (work_width * count) rows.new ≡ drop (work_width * count) rows.old }
 {
-    let mut place = 0;
-    while place < count {
+    for place in 0..count {
         put_once(terms, place, rows);
-        place += 1;
     }
 }
 

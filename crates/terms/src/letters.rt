@@ -4,7 +4,7 @@ ghost use Rattle.terms.specs.Letters.{counted_letter, letter_byte, not_none};
 
 #[derive(Clone, Copy)]
 pub enum Letter {
-    None,
+    Nothing,
     X,
     Y,
     Z,
@@ -22,16 +22,17 @@ pub fn counted_letter(xs: usize, ys: usize, zs: usize) -> Letter
         3 => Letter::X,
         5 => Letter::Y,
         6 => Letter::Z,
-        _ => Letter::None,
+        _ => Letter::Nothing,
     }
 }
 
 // A letter's byte, and where there is none this one.
+// No conversion: the byte for no letter is the caller's.
 pub fn byte(letter: Letter, none: u8) -> u8
     ensures { result ≡ letter_byte none letter }
 {
     match letter {
-        Letter::None => none,
+        Letter::Nothing => none,
         Letter::X => b'X',
         Letter::Y => b'Y',
         Letter::Z => b'Z',
@@ -39,13 +40,12 @@ pub fn byte(letter: Letter, none: u8) -> u8
 }
 
 // What a letter weighs: 1, and 0 where there is none.
+// No conversion: the weight of a letter, a word of the definitions.
 pub fn not_none(letter: Letter) -> usize
     ensures { (result ≡ not_none letter) × (result ≤ 1) }
 {
     match letter {
-        Letter::None => 0,
-        Letter::X => 1,
-        Letter::Y => 1,
-        Letter::Z => 1,
+        Letter::Nothing => 0,
+        Letter::X | Letter::Y | Letter::Z => 1,
     }
 }

@@ -3,8 +3,6 @@ ghost use Rattle.std.specs.Prelude.{◌≡◌, ◌+◌, ◌*◌, ◌≤◌, ◌<
 ghost use Rattle.lists.specs.Written.{written_at};
 ghost use Rattle.terms.specs.Rows.{term};
 
-use crate::slices;
-
 // The numbers of an input row, and of a work row, which has its count behind them.
 pub const WIDTH: usize = 8;
 
@@ -16,17 +14,16 @@ pub fn row_at(rows: &[u16], width: usize, place: usize) -> &[u16]
     ensures { result.now ≡ take width (drop (width * place) rows.now) }
 {
     let from = width * place;
-    let end = from + width;
-    &rows[from..end]
+    &rows[from..from + width]
 }
 
 // The term of a row: its indices, without the length before them and what stands after.
+#[tactic(auto, unfolding(crate::specs::Rows::term))]
 pub fn term_of(row: &[u16]) -> &[u16]
     requires { get_or row.now 0 0 < length row.now }
     ensures { result.now ≡ term row.now }
 {
-    let end = entities::wide(row[0]) + 1;
-    &row[1..end]
+    &row[1..=usize::from(row[0])]
 }
 
 // The term of the row at this place.
@@ -38,11 +35,11 @@ pub fn term_at(rows: &[u16], width: usize, place: usize) -> &[u16]
 }
 
 // The numbers of a row written over those of the row at this place, from its first on.
+#[tactic(auto, unfolding(lists::specs::Written::written_at))]
 pub fn put_row(rows: &mut [u16], width: usize, place: usize, row: &[u16])
     requires { width * place + length row.now ≤ length rows.old }
     ensures { rows.new ≡ written_at (width * place) row.now rows.old }
 {
     let from = width * place;
-    let end = from + row.len();
-    slices::copy(row, &mut rows[from..end]);
+    rows[from..from + row.len()].copy_from_slice(row);
 }

@@ -1,8 +1,10 @@
 // The rules of reduction: which rows it drops.
 ghost use Rattle.std.specs.Prelude.{◌≡◌};
-ghost use Rattle.terms.specs.Rules.{rule_number, rule_of};
+ghost use Rattle.terms.specs.Rules.{rule_number, RuleSaid};
 
-#[derive(Clone, Copy)]
+use refusal::Refusal;
+
+#[derive(Clone, Copy, PartialEq, Eq)]
 pub enum Rule {
     // A row left with only the parent is dropped.
     Published,
@@ -11,21 +13,28 @@ pub enum Rule {
 }
 
 // A rule's number, the published one's being 0.
-pub fn number(rule: Rule) -> usize
-    ensures { result ≡ rule_number rule }
-{
-    match rule {
-        Rule::Published => 0,
-        Rule::Keep => 1,
+impl From<Rule> for usize {
+    ghost from_gives = { λ rule number. number ≡ rule_number rule };
+
+    fn from(rule: Rule) -> usize {
+        match rule {
+            Rule::Published => 0,
+            Rule::Keep => 1,
+        }
     }
 }
 
-// The rule of a number that has one.
-pub fn rule_of(number: usize) -> Rule
-    ensures { result ≡ rule_of number }
-{
-    if number == 0 {
-        return Rule::Published;
+// The rule of a number, or refusal 20 where it has none.
+impl TryFrom<usize> for Rule {
+    type Error = Refusal;
+
+    ghost try_from_gives = { RuleSaid };
+
+    fn try_from(number: usize) -> Result<Rule, Refusal> {
+        match number {
+            0 => Ok(Rule::Published),
+            1 => Ok(Rule::Keep),
+            _ => Err(Refusal::Rule),
+        }
     }
-    Rule::Keep
 }

@@ -1,6 +1,6 @@
 // The letter that a triple gives a term, and its weight in all rows.
 ghost use Rattle.std.specs.Prelude.{◌≡◌, ◌%◌, ◌≤◌};
-ghost use Rattle.lists.specs.Counting.{same as one_if_same, occurrences};
+ghost use Rattle.lists.specs.Counting.{occurrences};
 ghost use Rattle.terms.specs.Rows.{terms_of};
 ghost use Rattle.terms.specs.code.Held.{Held};
 ghost use Rattle.terms.specs.Weight.{term_letter, weight_of};
@@ -9,13 +9,6 @@ use crate::letters::Letter;
 use crate::{letters, row};
 use entities::Triple;
 
-// 1 where the two numbers are the same, else 0.
-fn same(number: u16, other: u16) -> usize
-    ensures { (result ≡ one_if_same number other) × (result ≤ 1) }
-{
-    if number == other { 1 } else { 0 }
-}
-
 // The letter that the triple gives the term.
 pub fn qubit_term_weight(term: &[u16], triple: Triple) -> Letter
     ensures { result ≡ term_letter triple term.now }
@@ -23,13 +16,10 @@ pub fn qubit_term_weight(term: &[u16], triple: Triple) -> Letter
     let mut xs: usize = 0;
     let mut ys: usize = 0;
     let mut zs: usize = 0;
-    let mut at = 0;
-    while at < term.len() {
-        let index = term[at];
-        xs += same(index, triple.x);
-        ys += same(index, triple.y);
-        zs += same(index, triple.z);
-        at += 1;
+    for index in term {
+        xs += usize::from(*index == triple.x);
+        ys += usize::from(*index == triple.y);
+        zs += usize::from(*index == triple.z);
     }
     letters::counted_letter(xs, ys, zs)
 }
@@ -40,10 +30,8 @@ pub fn weight(rows: &[u16], width: usize, count: usize, triple: Triple) -> usize
     ensures { (result ≡ weight_of triple (terms_of width count rows.now)) × (result ≤ count) }
 {
     let mut sum: usize = 0;
-    let mut place = 0;
-    while place < count {
+    for place in 0..count {
         sum += letters::not_none(qubit_term_weight(row::term_at(rows, width, place), triple));
-        place += 1;
     }
     sum
 }
@@ -53,10 +41,8 @@ pub fn odd_in(term: &[u16], number: u16) -> usize
     ensures { (result ≡ occurrences number term.now % 2) × (result ≤ 1) }
 {
     let mut odd: usize = 0;
-    let mut at = 0;
-    while at < term.len() {
-        odd = (odd + same(term[at], number)) % 2;
-        at += 1;
+    for index in term {
+        odd = (odd + usize::from(*index == number)) % 2;
     }
     odd
 }

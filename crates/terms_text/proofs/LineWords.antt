@@ -1,4 +1,5 @@
 -- What a line of the input says, told by its word and the numbers behind it.
+use Rattle.std.specs.Prelude.{None, Some}
 use mathlib.Core.Path.{◌≡◌, refl, ap, ◌∙◌, sym}
 use mathlib.Core.Bool.{Bool, true, false, ◌&&◌, true≢false}
 use mathlib.Core.List.{List, [], ◌∷◌, map}
@@ -17,7 +18,6 @@ use Rattle.fields.specs.code.Reading.{fields_good, numbers_good, opens, fields_b
 use Rattle.fields.proofs.Tabbed.{no_tab}
 use Rattle.fields.proofs.NumbersTabbed.{value_at}
 use Rattle.fields.proofs.Openings.{opening, opened_fields, opens_with, two_fields}
-use Rattle.terms_text.specs.declared.Modes.TheVariants.{Are, Broken}
 use Rattle.terms_text.specs.Input.{modes_line, term_line, term_row}
 use Rattle.terms_text.specs.code.Reading.{modes_said, term_opening, IndicesRead, TermRead}
 
@@ -46,12 +46,12 @@ module _ (line : List ℕ) where
       go true e = rw (opened_modes e, alike_self (spelt "modes"), eqb-suc-suc (length (fields_behind modes_opening line)) 1)
       go false e = not_so (modes_line (fields line)) (λ f. true≢false (sym (modes_opens f) ∙ e))
 
-  pub modes_broken : says_numbers modes_opening 1 line ≡ false → modes_said line ≡ Broken
+  pub modes_broken : says_numbers modes_opening 1 line ≡ false → modes_said line ≡ None
   unfolding modes_said
   modes_broken e = rw (modes_says ∙ e)
 
   pub modes_told : (found : List ℕ) → says_numbers modes_opening 1 line ≡ true → found ≡ map value (fields_behind modes_opening line)
-      → modes_said line ≡ Are (get_or found 0 0)
+      → modes_said line ≡ Some (get_or found 0 0)
   unfolding modes_said
   modes_told found e f =
       rw (modes_says ∙ e, opened_modes (modes_opens (modes_says ∙ e)), f, value_at (fields_behind modes_opening line) 0)

@@ -1,6 +1,8 @@
 -- Lines read as terms one after the other: those passed and those ahead give the answer.
+use Rattle.std.specs.Prelude.{Ok, Err}
+use Rattle.refusal.specs.declared.Refusal.TheVariants.{Malformed}
 use mathlib.Core.Path.{◌≡◌, refl, ap, ◌∙◌, sym}
-use mathlib.Core.Bool.{Bool, true, false, ◌&&◌, and-false, true≢false}
+use mathlib.Core.Bool.{Bool, true, false, ◌&&◌, and-false}
 use mathlib.Core.List.{List, [], ◌∷◌, ◌++◌, map, flat_map, append_assoc, append-nil}
 use Prim.Native.Nat.{ℕ, suc, ◌+◌, ◌-◌, ◌*◌, ◌<◌, ◌≤◌}
 use native.Mathlib.Omega.{arith}
@@ -16,10 +18,9 @@ use Rattle.lists.proofs.Parts.{drop_replicate}
 use Rattle.lists.proofs.Written.{length_written, put_written, front_written}
 use Rattle.fields.specs.Texts.{spelt}
 use Rattle.fields.specs.Decimal.{is_number, value}
-use Rattle.fields.specs.Lines.{lines, kept_of, first_line}
+use Rattle.fields.specs.Lines.{lines, kept_of}
 use Rattle.fields.specs.Fields.{fields}
 use Rattle.fields.specs.code.Reading.{says_numbers, LineRead}
-use Rattle.fields.proofs.LineSteps.{lines_none, lines_next, kept_none, kept_more}
 use Rattle.terms_text.specs.Input.{term_line, well_formed, formed_from, term_row}
 use Rattle.terms_text.specs.code.Reading.{term_opening, all_terms, IndicesRead, TermRead, TermPut, TermsRead}
 
@@ -66,84 +67,78 @@ term_put line place k before part r size t =
     }
 
 -- So many lines are passed, all of them terms, and their rows stand in front.
-pub record Passing (most : ℕ) (text numbers : List ℕ) (at count : ℕ) : Type 0 where
-  pub within : at ≤ length text
+pub record Passing (most : ℕ) (texts : List (List ℕ)) (numbers : List ℕ) (ahead : List (List ℕ)) (count : ℕ) : Type 0 where
   pub few : count ≤ most
   pub size : length numbers ≡ 8 * most
-  pub formed : formed_from most 1 (lines text) ≡ count + formed_from most (suc count) (lines (drop at text))
-  pub many : length (lines text) ≡ count + length (lines (drop at text))
-  pub kept : length (kept_of text) ≡ at + length (kept_of (drop at text))
-  pub rows : flat_map term_row (lines text) ≡ take (8 * count) numbers ++ flat_map term_row (lines (drop at text))
+  pub formed : formed_from most 1 texts ≡ count + formed_from most (suc count) ahead
+  pub many : length texts ≡ count + length ahead
+  pub rows : flat_map term_row texts ≡ take (8 * count) numbers ++ flat_map term_row ahead
 
-pub passing_starts : (most : ℕ) (text numbers : List ℕ) → length numbers ≡ 8 * most → Passing most text numbers 0 0
-passing_starts most text numbers e =
-    record { within = omega arith; few = omega arith; size = e; formed = omega arith; many = omega arith; kept = omega arith; rows = refl }
+pub passing_starts : (most : ℕ) (texts : List (List ℕ)) (numbers : List ℕ) → length numbers ≡ 8 * most → Passing most texts numbers texts 0
+passing_starts most texts numbers e =
+    record { few = omega arith; size = e; formed = omega arith; many = omega arith; rows = refl }
 
-module _ (most : ℕ) (text numbers : List ℕ) (at count end : ℕ) (p : Passing most text numbers at count) (is_end : end ≡ at + length (first_line (drop at text))) where
-  -- No line is left: what stands behind the last LF tells whether that was all.
-  pub passing_ends : end ≡ at → TermsRead most text numbers (record { count = count; all = eqb at (length text) })
-  unfolding formed_from all_terms flat_map
+-- No line is left: what stands behind the last LF tells whether that was all.
+module _ (most : ℕ) (text numbers : List ℕ) (count : ℕ) (p : Passing most (lines text) numbers [] count) where
+  all_formed : formed_from most 1 (lines text) ≡ count
+  unfolding formed_from
+  all_formed = omega (arith, p.formed)
+
+  whole_told : all_terms most text ≡ eqb (length (kept_of text)) (length text)
+  unfolding all_terms
+  whole_told =
+      let m : length (lines text) ≡ count = omega (arith, p.many) in
+      rw (all_formed, m, eq-eqb count count refl)
+
+  pub passing_cut : length (kept_of text) < length text → TermsRead most text numbers (Err (Malformed (count + 1)))
+  passing_cut h = (whole_told ∙ ne_eqb (length (kept_of text)) (length text) (λ e. omega arith), rw all_formed)
+
+  pub passing_ends : length (kept_of text) ≡ length text → TermsRead most text numbers (Ok count)
+  unfolding flat_map
   passing_ends e =
-      let none = lines_none text at end is_end e in
-      let f : formed_from most 1 (lines text) ≡ count = p.formed ∙ rw none (omega arith) in
-      let m : length (lines text) ≡ count = p.many ∙ rw none (omega arith) in
-      let k : length (kept_of text) ≡ at = p.kept ∙ rw (kept_none text at end is_end e) (omega arith) in
       record {
-        formed = sym f;
+        whole = whole_told ∙ eq-eqb (length (kept_of text)) (length text) e;
+        formed = sym all_formed;
         few = p.few;
-        whole = rw (f, m, k, eq-eqb count count refl);
-        rows = λ h. sym (p.rows ∙ rw none (append-nil (take (8 * count) numbers)));
+        rows = sym (p.rows ∙ append-nil (take (8 * count) numbers));
       }
 
-  module _ (more : end ≡ at → ⊥) where
-    abbrev line : List ℕ
-    line = take (end - at) (drop at text)
+module _ (most : ℕ) (text numbers line : List ℕ) (rest : List (List ℕ)) (count : ℕ) (p : Passing most (lines text) numbers (line ∷ rest) count) where
+  -- A line that is no term, or one too many.
+  pub passing_stops : (after : List ℕ) → well_formed most (suc count) line ≡ false → TermsRead most text after (Err (Malformed (count + 1)))
+  unfolding formed_from all_terms
+  passing_stops after bad =
+      let f : formed_from most 1 (lines text) ≡ count = p.formed ∙ rw bad (omega arith) in
+      (rw (f, p.many, ne_eqb count (count + suc (length rest)) (λ e. omega arith)), rw f)
 
-    next : lines (drop at text) ≡ line ∷ lines (drop end text)
-    next = lines_next text at end is_end more
+  pub too_many : most ≤ count → well_formed most (suc count) line ≡ false
+  unfolding well_formed
+  too_many h = rw (ne_eqb (suc count) 0 (λ e. omega arith), lt-leb (suc count) most (omega arith))
 
-    -- A line that is no term, or one too many.
-    pub passing_stops : (after : List ℕ) → well_formed most (suc count) line ≡ false → TermsRead most text after (record { count = count; all = false })
-    unfolding formed_from all_terms
-    passing_stops after bad =
-        let f : formed_from most 1 (lines text) ≡ count = p.formed ∙ rw (next, bad) (omega arith) in
-        let m : length (lines text) ≡ count + suc (length (lines (drop end text))) = p.many ∙ rw next in
-        record {
-          formed = sym f;
-          few = p.few;
-          whole = rw (f, m, ne_eqb count (count + suc (length (lines (drop end text)))) (λ e. omega arith));
-          rows = λ h. absurd (true≢false (sym h));
-        }
+  pub no_term : term_line (fields line) ≡ false → well_formed most (suc count) line ≡ false
+  unfolding well_formed
+  no_term e = rw (ne_eqb (suc count) 0 (λ f. omega arith), e) (and-false (leb (suc count) most))
 
-    pub too_many : most ≤ count → well_formed most (suc count) line ≡ false
-    unfolding well_formed
-    too_many h = rw (ne_eqb (suc count) 0 (λ e. omega arith), lt-leb (suc count) most (omega arith))
+  a_term : count < most → term_line (fields line) ≡ true → well_formed most (suc count) line ≡ true
+  unfolding well_formed
+  a_term h e = rw (ne_eqb (suc count) 0 (λ f. omega arith), e, le-leb (suc count) most h)
 
-    pub no_term : term_line (fields line) ≡ false → well_formed most (suc count) line ≡ false
-    unfolding well_formed
-    no_term e = rw (ne_eqb (suc count) 0 (λ f. omega arith), e) (and-false (leb (suc count) most))
-
-    a_term : count < most → term_line (fields line) ≡ true → well_formed most (suc count) line ≡ true
-    unfolding well_formed
-    a_term h e = rw (ne_eqb (suc count) 0 (λ f. omega arith), e, le-leb (suc count) most h)
-
-    pub passing_goes : (after : List ℕ) → end ≤ length text → count < most → (r : Bool) → r ≡ true → TermPut line (8 * count) numbers after r → Passing most text after end (count + 1)
-    unfolding formed_from flat_map
-    passing_goes after within h r yes_all put =
-        let good = sym put.good ∙ yes_all in
-        let row = put.row yes_all in
-        let eight = row_of_eight line good in
-        let room : 8 * count + length (term_row line) ≤ length numbers = omega (arith, p.size) in
-        let n : suc count ≡ count + 1 = omega arith in
-        let place : 8 * (count + 1) ≡ 8 * count + length (term_row line) = omega arith in
-        let front : take (8 * (count + 1)) after ≡ take (8 * count) numbers ++ term_row line =
-        rw (row, place) (front_written (8 * count) (term_row line) numbers room) in
-        record {
-          within = within;
-          few = omega arith;
-          size = ap length row ∙ length_written (8 * count) (term_row line) numbers room ∙ p.size;
-          formed = p.formed ∙ rw (next, a_term h good, n) (omega arith);
-          many = p.many ∙ rw next (omega arith);
-          kept = p.kept ∙ kept_more text at end is_end more;
-          rows = p.rows ∙ rw (next, front) (sym (append_assoc (take (8 * count) numbers) (term_row line) (flat_map term_row (lines (drop end text)))));
-        }
+  pub passing_goes : (after : List ℕ) → count < most → (r : Bool) → r ≡ true → TermPut line (8 * count) numbers after r
+      → Passing most (lines text) after rest (count + 1)
+  unfolding formed_from flat_map
+  passing_goes after h r yes_all put =
+      let good = sym put.good ∙ yes_all in
+      let row = put.row yes_all in
+      let eight = row_of_eight line good in
+      let room : 8 * count + length (term_row line) ≤ length numbers = omega (arith, p.size) in
+      let n : suc count ≡ count + 1 = omega arith in
+      let place : 8 * (count + 1) ≡ 8 * count + length (term_row line) = omega arith in
+      let front : take (8 * (count + 1)) after ≡ take (8 * count) numbers ++ term_row line =
+      rw (row, place) (front_written (8 * count) (term_row line) numbers room) in
+      record {
+        few = omega arith;
+        size = ap length row ∙ length_written (8 * count) (term_row line) numbers room ∙ p.size;
+        formed = p.formed ∙ rw (a_term h good, n) (omega arith);
+        many = p.many ∙ omega arith;
+        rows = p.rows ∙ rw front (sym (append_assoc (take (8 * count) numbers) (term_row line) (flat_map term_row rest)));
+      }

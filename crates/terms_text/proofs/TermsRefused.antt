@@ -1,4 +1,5 @@
 -- Terms are refused by 2, 3 or 4 and nothing else.
+use Rattle.std.specs.Prelude.{Err, Ok, Result}
 use mathlib.Core.Path.{◌≡◌}
 use mathlib.Core.Bool.{Bool, true, false, cond, not}
 use mathlib.Core.List.{List}
@@ -11,23 +12,22 @@ use Rattle.refusal.specs.declared.Refusal.TheVariants.{TermNumbers, TooManyTerms
 use Rattle.refusal.specs.Numbers.{number_of}
 use Rattle.entities.specs.Limits.{most_terms, row_width}
 use Rattle.terms.specs.Good.{good_rows, checked}
-use Rattle.terms.specs.declared.checking.Checked.TheVariants.{Good, Refused}
 
 module _ (modes : ℕ) (numbers : List ℕ) where
   abbrev count : ℕ
   count = length numbers / row_width
 
-  pub terms_refusal : (why : Refusal) → checked modes numbers ≡ Refused why → number_of why ≤ 4
+  pub terms_refusal : (why : Refusal) → checked modes numbers ≡ Err why → number_of why ≤ 4
   unfolding checked
   terms_refusal why = go (eqb (length numbers % row_width) 0) (leb count most_terms) (ltb (good_rows (2 * modes) count numbers) count)
     where
-      by : (refusal : Refusal) → number_of refusal ≤ 4 → Refused refusal ≡ Refused why → number_of why ≤ 4
+      by : (refusal : Refusal) → number_of refusal ≤ 4 → ◌≡◌ {A = Result ℕ Refusal} (Err refusal) (Err why) → number_of why ≤ 4
       by refusal few e = let same : refusal ≡ why = cc in rw (← same) few
 
       go : (a b c : Bool)
-          → cond (not a) (Refused TermNumbers)
-          (cond (not b) (Refused TooManyTerms) (cond c (Refused (BadRow (good_rows (2 * modes) count numbers))) (Good count)))
-          ≡ Refused why
+          → cond (not a) (Err TermNumbers)
+          (cond (not b) (Err TooManyTerms) (cond c (Err (BadRow (good_rows (2 * modes) count numbers))) (Ok count)))
+          ≡ Err why
           → number_of why ≤ 4
       go false b c e = by TermNumbers (omega arith) e
       go true false c e = by TooManyTerms (omega arith) e

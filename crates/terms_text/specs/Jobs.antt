@@ -1,12 +1,10 @@
 -- What a text asks for: 18 is "before any other number", and then "the order is by number", 1 of the modes and 2, 3 and 4 of the terms.
-use Rattle.std.specs.Prelude.{cond, not, List, ℕ}
+use Rattle.std.specs.Prelude.{cond, not, List, ℕ, Err, Ok, Result}
 use Rattle.refusal.specs.declared.Refusal.{Refusal}
 use Rattle.refusal.specs.declared.Refusal.TheVariants.{Modes, Malformed}
 use Rattle.terms.specs.declared.rules.Rule.{Rule}
 use Rattle.terms.specs.Job.{Job, job_of}
 use Rattle.terms.specs.Good.{modes_good, checked}
-use Rattle.terms.specs.declared.checking.Checked.{Checked}
-use Rattle.terms.specs.declared.checking.Checked.TheVariants.{Good, Refused as BadTerms}
 use Rattle.terms_text.specs.Input.{Said, given, malformed, said}
 
 -- What a command is asked for: the rule that it names, and the text of its terms.
@@ -23,12 +21,12 @@ pub data JobSaid : Type 0 where
   no_job : Refusal → JobSaid
 
 -- How many terms there are, or why they are no job's.
-unfoldable pub counted : ℕ → ℕ → List ℕ → Checked
-counted most modes numbers = cond (not (modes_good most modes)) (BadTerms Modes) (checked modes numbers)
+unfoldable pub counted : ℕ → ℕ → List ℕ → Result ℕ Refusal
+counted most modes numbers = cond (not (modes_good most modes)) (Err Modes) (checked modes numbers)
 
-unfoldable pub job_with : ℕ → Rule → List ℕ → Checked → JobSaid
-job_with modes rule numbers (Good count) = a_job (job_of modes rule count numbers)
-job_with modes rule numbers (BadTerms refusal) = no_job refusal
+unfoldable pub job_with : ℕ → Rule → List ℕ → Result ℕ Refusal → JobSaid
+job_with modes rule numbers (Ok count) = a_job (job_of modes rule count numbers)
+job_with modes rule numbers (Err refusal) = no_job refusal
 
 unfoldable pub job_by : ℕ → Rule → Said → JobSaid
 job_by most rule (given modes numbers) = job_with modes rule numbers (counted most modes numbers)

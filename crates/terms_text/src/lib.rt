@@ -7,40 +7,23 @@ ghost use Rattle.terms_text.specs.Input.{said};
 ghost use Rattle.terms_text.specs.code.Reading.{modes_said, IndicesRead, TermRead, TermPut, TermsRead, Reads};
 
 use fields::{lines, numbers};
-use terms::slices;
+use refusal::Refusal;
 
 pub mod jobs;
 
-// What a text says: modes and so many terms, or the line at which it is malformed.
+// What a text says: its modes, and how many terms.
 #[derive(Clone, Copy)]
-pub enum Said {
-    Given(usize, usize),
-    Malformed(usize),
-}
-
-// What the first line says.
-#[derive(Clone, Copy)]
-enum Modes {
-    Are(u16),
-    Broken,
-}
-
-// How many lines say a term before the first that doesn't, and whether they are all there is.
-#[derive(Clone, Copy)]
-struct Terms {
-    count: usize,
-    all: bool,
+pub struct Given {
+    pub modes: usize,
+    pub count: usize,
 }
 
 // The modes that a line, LF included, says.
-fn read_modes(line: &[u8]) -> Modes
+fn read_modes(line: &[u8]) -> Option<u16>
     ensures { result ≡ modes_said line.now }
 {
-    let mut found = [0u16; 1];
-    if !numbers::read_line(line, b"modes\t", &mut found) {
-        return Modes::Broken;
-    }
-    Modes::Are(found[0])
+    let [modes] = numbers::line_numbers::<1>(line, b"modes\t")?;
+    Some(modes)
 }
 
 // A row's count of indices, and zeros behind it.
@@ -48,11 +31,12 @@ fn begin_row(row: &mut [u16], count: usize)
     requires { (count ≤ 7) × (length row.old ≡ row_width) }
     ensures { row.new ≡ count ∷ replicate 7 0 }
 {
-    slices::fill(row, 0);
+    row.fill(0);
     row[0] = count as u16;
 }
 
 // A line's so many indices read into a row: their count, the indices, and zeros.
+// A yes or no: what is read stands in the lent room, and an Option would hold nothing.
 fn read_indices(line: &[u8], count: usize, row: &mut [u16]) -> bool
     requires { (count ≤ 7) × (length row.old ≡ row_width) }
     ensures { IndicesRead line.now count row.new result }
@@ -63,6 +47,7 @@ fn read_indices(line: &[u8], count: usize, row: &mut [u16]) -> bool
 }
 
 // The row of the term that a line, LF included, says.
+// A yes or no: what is read stands in the lent room, and an Option would hold nothing.
 fn read_term(line: &[u8], row: &mut [u16]) -> bool
     requires { length row.old ≡ row_width }
     ensures { TermRead line.now row.new result }
@@ -83,6 +68,7 @@ fn read_term(line: &[u8], row: &mut [u16]) -> bool
 }
 
 // The row of a line put behind so many rows.
+// A yes or no: what is read stands in the lent room, and an Option would hold nothing.
 fn put_term(line: &[u8], numbers: &mut [u16], count: usize) -> bool
     requires { row_width * count + row_width ≤ length numbers.old }
     ensures { TermPut line.now (row_width * count) numbers.old numbers.new result }
@@ -92,51 +78,36 @@ fn put_term(line: &[u8], numbers: &mut [u16], count: usize) -> bool
     read_term(line, &mut numbers[from..end])
 }
 
-// The rows of the lines behind the first one, at most 2048.
-fn read_terms(text: &[u8], numbers: &mut [u16]) -> Terms
-    requires { length numbers.old ≡ row_width * most_terms }
+// Puts the rows of the lines behind the first one over the front; how many they are, at most 2048, or the line that is no term.
+fn read_terms(text: &[u8], numbers: &mut [u16; 16384]) -> Result<usize, Refusal>
     ensures { TermsRead most_terms text.now numbers.new result }
 {
-    let mut at = 0;
     let mut count = 0;
-    loop {
-        let end = lines::line_end(text, at);
-        if end == at {
-            // bytes behind the last LF are a line without one
-            return Terms {
-                count: count,
-                all: at == text.len(),
-            };
-        }
+    for line in lines::lines_of(text) {
         if count == 2048 {
-            return Terms {
-                count: count,
-                all: false,
-            };
+            return Err(Refusal::Malformed(count + 1));
         }
-        if !put_term(&text[at..end], numbers, count) {
-            return Terms {
-                count: count,
-                all: false,
-            };
+        if !put_term(line, numbers, count) {
+            return Err(Refusal::Malformed(count + 1));
         }
-        at = end;
         count += 1;
     }
+    // bytes behind the last LF are a line without one
+    if lines::kept_bytes(text) < text.len() {
+        return Err(Refusal::Malformed(count + 1));
+    }
+    Ok(count)
 }
 
 // What a text says, its terms' rows put over the front of the numbers.
-pub fn read_input(text: &[u8], numbers: &mut [u16]) -> Said
-    requires { length numbers.old ≡ row_width * most_terms }
+pub fn read_input(text: &[u8], numbers: &mut [u16; 16384]) -> Result<Given, Refusal>
     ensures { Reads most_terms (said most_terms text.now) numbers.new result }
 {
     let start = lines::line_end(text, 0);
-    let Modes::Are(modes) = read_modes(&text[..start]) else {
-        return Said::Malformed(0);
-    };
-    let terms = read_terms(&text[start..], numbers);
-    if !terms.all {
-        return Said::Malformed(terms.count + 1);
-    }
-    Said::Given(modes as usize, terms.count)
+    let modes = read_modes(&text[..start]).ok_or(Refusal::Malformed(0))?;
+    let count = read_terms(&text[start..], numbers)?;
+    Ok(Given {
+        modes: usize::from(modes),
+        count,
+    })
 }

@@ -5,18 +5,12 @@ ghost use Rattle.std.specs.Prelude.{◌≤◌};
 ghost use Rattle.entities.specs.Limits.{most_terms};
 ghost use Rattle.terms.specs.code.Held.{Given, Worked};
 
-use best::BestFound;
 use entities::Triple;
 use journal::resuming;
-use journal::resuming::{Answer, Numbers};
-use newick::reading::NewickRead;
 use newick::{reading, writing};
-use terms::checking::Checked;
+use refusal::Refusal;
 use terms::rules::Rule;
-use terms::{checking, counted, row, rules, weight};
-use topphatt::Assigned;
-use tree::{TreeChecked, TreeWritten};
-use tree_weight::TreeWeighed;
+use terms::{checking, counted, row, weight};
 
 // The terms put as work rows over the lent rows, each standing for itself; the triple weighed in them, and they reduced to its parent by the rule of this number. The refusal of the terms follows, the weight, and how many terms were dropped.
 #[unsafe(no_mangle)]
@@ -32,19 +26,23 @@ pub extern "C" fn test_merge(
     answer: &mut [u64],
 ) {
     match checking::check_terms(modes, terms) {
-        Checked::Good(count) => {
-            let triple = Triple { x: x, y: y, z: z };
+        Ok(count) => {
+            let triple = Triple { x, y, z };
             put_merge(
                 terms,
                 count,
                 rows,
-                rules::rule_of(rule),
+                if rule == 0 {
+                    Rule::Published
+                } else {
+                    Rule::Keep
+                },
                 triple,
                 parent,
                 answer,
             )
         }
-        Checked::Refused(refusal) => put(answer, refusal::number(refusal) as u64, 0, 0),
+        Err(refusal) => put_three(answer, [refusal::number(refusal) as u64, 0, 0]),
     }
 }
 
@@ -82,7 +80,7 @@ fn merge_rows(
 {
     let weighed = weight::weight(rows, row::WORK_WIDTH, count, triple);
     let dropped = reduction::reduce_hamiltonian(rows, count, rule, parent, triple);
-    put(answer, 0, weighed as u64, dropped as u64);
+    put_three(answer, [0, weighed as u64, dropped as u64]);
 }
 
 // The call `resume` as it is; its six numbers follow: refusal, place, weight, trials, kept and new bytes.
@@ -98,22 +96,17 @@ pub extern "C" fn test_resume(
     answer: &mut [u64],
     drops: &mut [u16],
 ) {
-    match resuming::resume(modes, rule, terms, read, work, rows, journal, drops) {
-        Answer::Done(numbers) => put_six(answer, 0, 0, numbers),
-        Answer::Refused(refusal) => {
-            put_six(
-                answer,
-                refusal::number(refusal) as u64,
-                refusal::place(refusal) as u64,
-                Numbers {
-                    weight: 0,
-                    trials: 0,
-                    kept: 0,
-                    new: 0,
-                },
-            )
-        }
-    }
+    put(
+        answer,
+        resuming::resume(modes, rule, terms, read, work, rows, journal, drops).map(|numbers| {
+            [
+                numbers.weight,
+                numbers.trials,
+                numbers.kept as u64,
+                numbers.new as u64,
+            ]
+        }),
+    );
 }
 
 // The call `assign` as it is; its refusal's number and place follow, and the weight.
@@ -128,66 +121,31 @@ pub extern "C" fn test_assign(
     table: &mut [u16],
     answer: &mut [u64],
 ) {
-    match topphatt::assign(modes, rule, tree, heuristic, terms, work, table) {
-        Assigned::Weight(weight) => put(answer, 0, 0, weight),
-        Assigned::Unassigned(refusal) => {
-            put(
-                answer,
-                refusal::number(refusal) as u64,
-                refusal::place(refusal) as u64,
-                0,
-            )
-        }
-    }
+    let said = topphatt::assign(modes, rule, tree, heuristic, terms, work, table);
+    put(answer, said.map(|weight| [weight]));
 }
 
 // What the check of a tree answers: its refusal's number and place, and a zero; nothing where there is no room.
 #[unsafe(no_mangle)]
 pub extern "C" fn test_check_tree(modes: usize, tree: &[u16], answer: &mut [u64]) {
-    match tree::check_tree(modes, tree) {
-        TreeChecked::Accepted => put(answer, 0, 0, 0),
-        TreeChecked::Refused(refusal) => {
-            put(
-                answer,
-                refusal::number(refusal) as u64,
-                refusal::place(refusal) as u64,
-                0,
-            )
-        }
-    }
+    put(answer, tree::check_tree(modes, tree).map(|_| [0]));
 }
 
 // What the tree weight answers: its refusal's number and place, and the weight; nothing where there is no room.
 #[unsafe(no_mangle)]
 pub extern "C" fn test_tree_weight(modes: usize, tree: &[u16], terms: &[u16], answer: &mut [u64]) {
-    match tree_weight::tree_weight(modes, tree, terms) {
-        TreeWeighed::Weight(weight) => put(answer, 0, 0, weight),
-        TreeWeighed::Unweighed(refusal) => {
-            put(
-                answer,
-                refusal::number(refusal) as u64,
-                refusal::place(refusal) as u64,
-                0,
-            )
-        }
-    }
+    let said = tree_weight::tree_weight(modes, tree, terms);
+    put(answer, said.map(|weight| [weight]));
 }
 
 // The call `best` as it is; its refusal's number and place follow, the least weight and how many sequences reach it.
 #[unsafe(no_mangle)]
 pub extern "C" fn test_best(modes: usize, terms: &[u16], sequence: &mut [u16], answer: &mut [u64]) {
-    match best::best(modes, terms, sequence) {
-        BestFound::Found(weight, reached) => put_four(answer, 0, 0, weight, reached as u64),
-        BestFound::Unfound(refusal) => {
-            put_four(
-                answer,
-                refusal::number(refusal) as u64,
-                refusal::place(refusal) as u64,
-                0,
-                0,
-            )
-        }
-    }
+    let said = best::best(modes, terms, sequence);
+    put(
+        answer,
+        said.map(|least| [least.weight, least.reached as u64]),
+    );
 }
 
 // The call `write_newick` as it is; its refusal's number and place follow, and the bytes written.
@@ -198,7 +156,8 @@ pub extern "C" fn test_write_newick(
     text: &mut [u8],
     answer: &mut [u64],
 ) {
-    put_written(answer, writing::write_newick(modes, tree, text));
+    let said = writing::write_newick(modes, tree, text);
+    put(answer, said.map(|count| [count as u64]));
 }
 
 // The call `write_strings`, likewise.
@@ -209,71 +168,38 @@ pub extern "C" fn test_write_strings(
     text: &mut [u8],
     answer: &mut [u64],
 ) {
-    put_written(answer, strings::write_strings(modes, tree, text));
+    let said = strings::write_strings(modes, tree, text);
+    put(answer, said.map(|count| [count as u64]));
 }
 
 // The call `read_newick` as it is; its refusal's number and place follow, and the modes read.
 #[unsafe(no_mangle)]
 pub extern "C" fn test_read_newick(text: &[u8], table: &mut [u16], answer: &mut [u64]) {
-    match reading::read_newick(text, table) {
-        NewickRead::Read(modes) => put(answer, 0, 0, modes as u64),
-        NewickRead::Unread(refusal) => {
-            put(
-                answer,
-                refusal::number(refusal) as u64,
-                refusal::place(refusal) as u64,
-                0,
-            )
-        }
-    }
+    let said = reading::read_newick(text, table);
+    put(answer, said.map(|modes| [modes as u64]));
 }
 
-// What writing a tree answers.
-fn put_written(answer: &mut [u64], written: TreeWritten) {
-    match written {
-        TreeWritten::Written(count) => put(answer, 0, 0, count as u64),
-        TreeWritten::Unwritten(refusal) => {
-            put(
-                answer,
-                refusal::number(refusal) as u64,
-                refusal::place(refusal) as u64,
-                0,
-            )
+// What a call says: its refusal's number and place, and the other numbers, which are zeros where it is refused; nothing where there is no room.
+fn put<const N: usize>(answer: &mut [u64], said: Result<[u64; N], Refusal>) {
+    if answer.len() < 2 || answer.len() - 2 != N {
+        return;
+    }
+    match said {
+        Ok(numbers) => {
+            answer[..2].fill(0);
+            answer[2..].copy_from_slice(&numbers);
+        }
+        Err(refusal) => {
+            answer.fill(0);
+            answer[0] = refusal::number(refusal) as u64;
+            answer[1] = refusal::place(refusal) as u64;
         }
     }
 }
 
 // Three numbers, where there is room for them.
-fn put(answer: &mut [u64], first: u64, second: u64, third: u64) {
-    if answer.len() != 3 {
-        return;
+fn put_three(answer: &mut [u64], numbers: [u64; 3]) {
+    if answer.len() == 3 {
+        answer.copy_from_slice(&numbers);
     }
-    answer[0] = first;
-    answer[1] = second;
-    answer[2] = third;
-}
-
-// Four numbers, where there is room for them.
-fn put_four(answer: &mut [u64], first: u64, second: u64, third: u64, fourth: u64) {
-    if answer.len() != 4 {
-        return;
-    }
-    answer[0] = first;
-    answer[1] = second;
-    answer[2] = third;
-    answer[3] = fourth;
-}
-
-// Six numbers, where there is room for them.
-fn put_six(answer: &mut [u64], refusal: u64, place: u64, numbers: Numbers) {
-    if answer.len() != 6 {
-        return;
-    }
-    put(&mut answer[..3], refusal, place, numbers.weight);
-    put(
-        &mut answer[3..],
-        numbers.trials,
-        numbers.kept as u64,
-        numbers.new as u64,
-    );
 }

@@ -1,16 +1,14 @@
 -- Parts written one behind the other as the lines that are printed.
 use mathlib.Core.Path.{◌≡◌, refl, ap, ◌∙◌, sym}
 use mathlib.Core.List.{List, [], ◌∷◌, ◌++◌, map, flat_map, append_assoc, append-nil}
-use Prim.Native.Nat.{ℕ, ◌+◌, ◌-◌, ◌*◌, ◌/◌, ◌<◌, ◌≤◌}
+use Prim.Native.Nat.{ℕ, suc, ◌+◌, ◌*◌, ◌/◌, ◌<◌, ◌≤◌}
 use native.Mathlib.Omega.{arith}
 use borrow.Author.Tests.{eq-eqb, ne_eqb}
-use lib.ListN.{length, get_or, take, drop, replicate, length-replicate, take-append-drop}
-use lib.Seq.{drop-append-le, length-take-le}
+use lib.ListN.{length, get_or, take, drop, replicate, length-replicate, take-append-drop, length-append}
+use lib.Seq.{drop-append-le, length-take-le, take_at, drop_at}
 use Rattle.lists.specs.Written.{written_at}
 use Rattle.lists.proofs.Written.{length_written}
-use Rattle.lists.proofs.Behind.{Wrote, then_wrote}
-use Rattle.lists.proofs.PieceByPiece.{Pieces, pieces_start, pieces_go, pieces_end}
-use Rattle.lists.proofs.Joined.{flatMap_joined}
+use Rattle.lists.proofs.Behind.{Wrote, wrote_none, then_wrote}
 use Rattle.refusal.specs.declared.Refusal.{Refusal}
 use Rattle.refusal.specs.Numbers.{number_of, place_of}
 use Rattle.entities.specs.Codes.{absent}
@@ -18,7 +16,6 @@ use Rattle.fields.specs.Texts.{spelt}
 use Rattle.fields.specs.Decimal.{decimal}
 use Rattle.fields.specs.Fields.{tabbed}
 use Rattle.terms.specs.Rows.{rows_of}
-use Rattle.terms.proofs.RowSteps.{rows_more}
 use Rattle.text.specs.code.Printing.{Puts}
 use Rattle.text.specs.Output.{line_of, code_text, node_line, node_lines, refusal_text, done_text, PrintsIn}
 
@@ -93,32 +90,47 @@ pub done_parts : (weight trials : ℕ) (rows : List ℕ)
 unfolding done_text
 done_parts weight trials rows = values_joined (spelt "weight") (decimal weight) (spelt "trials") (decimal trials) (node_lines rows)
 
--- The lines of so many rows are written.
-abbrev pub PuttingRows : ℕ → ℕ → List ℕ → List ℕ → List ℕ → ℕ → ℕ → Type 0
-PuttingRows start count rows before after at done = Pieces (λ n. flat_map node_line (rows_of 4 n rows)) 29 start count before after at done
+-- The lines of a row and of those behind it.
+node_lines_more : (row rest : List ℕ) → length row ≡ 4 → node_lines (row ++ rest) ≡ node_line row ++ node_lines rest
+unfolding node_lines rows_of flat_map
+node_lines_more row rest size =
+    let count : length (row ++ rest) / 4 ≡ suc (length rest / 4) = omega (arith, length-append row rest) in
+    rw (count, take_at row rest 4 size, drop_at row rest 4 size)
 
-module _ (start : ℕ) (rows before : List ℕ) (room : start + 29 * (length rows / 4) ≤ length before) where
-  pub rows_start : PuttingRows start (length rows / 4) rows before before start 0
-  unfolding rows_of flat_map
-  rows_start = pieces_start (λ n. flat_map node_line (rows_of 4 n rows)) 29 start (length rows / 4) before room refl
+-- The lines of the rows passed are written, and those of the rows ahead are the others.
+pub record PuttingRows (start : ℕ) (rows before after : List ℕ) (at : ℕ) (ahead : List ℕ) : Type 0 where
+  pub done : List ℕ
+  pub wrote : Wrote start done before after at
+  pub all : done ++ node_lines ahead ≡ node_lines rows
+  pub near : at + 29 * (length ahead / 4) ≤ start + 29 * (length rows / 4)
+  pub size : length after ≡ length before
 
-  module _ (after : List ℕ) (at done : ℕ) (p : PuttingRows start (length rows / 4) rows before after at done) where
-    pub rows_go : (next : List ℕ) (end : ℕ) → done < length rows / 4
-        → Wrote at (node_line (take (4 * done + 4 - 4 * done) (drop (4 * done) rows))) after next end → end ≤ at + 29 → length next ≡ length after
-        → PuttingRows start (length rows / 4) rows before next end (done + 1)
-    unfolding flat_map
-    rows_go next end h w near same =
-        let row = take 4 (drop (4 * done) rows) in
-        let more : flat_map node_line (rows_of 4 (done + 1) rows) ≡ flat_map node_line (rows_of 4 done rows) ++ node_line row =
-        ap (flat_map node_line) (rows_more 4 done rows) ∙ flatMap_joined node_line (rows_of 4 done rows) (row ∷ [])
-        ∙ ap (λ l. flat_map node_line (rows_of 4 done rows) ++ l) (append-nil (node_line row)) in
-        let width : 4 * done + 4 - 4 * done ≡ 4 = omega arith in
-        pieces_go (λ n. flat_map node_line (rows_of 4 n rows)) 29 start (length rows / 4) before room after at done p next (node_line row) end h more
-        (rw width at w) near same
+module _ (start : ℕ) (rows before : List ℕ) where
+  pub rows_start : PuttingRows start rows before before start rows
+  rows_start = record { done = []; wrote = wrote_none start before; all = refl; near = omega arith; size = refl }
 
-    pub rows_end : length rows / 4 ≤ done → Wrote start (node_lines rows) before after at
-    unfolding node_lines
-    rows_end h = pieces_end (λ n. flat_map node_line (rows_of 4 n rows)) 29 start (length rows / 4) before room after at done p h
+  module _ (after : List ℕ) (at : ℕ) where
+    pub rows_go : (row rest : List ℕ) → PuttingRows start rows before after at (row ++ rest) → length row ≡ 4
+        → start + 29 * (length rows / 4) ≤ length before → (next : List ℕ) (end : ℕ)
+        → Wrote at (node_line row) after next end → end ≤ at + 29 → length next ≡ length after
+        → PuttingRows start rows before next end rest
+    rows_go row rest p size room next end w near same =
+        let more : length (row ++ rest) / 4 ≡ suc (length rest / 4) = omega (arith, length-append row rest) in
+        let lines : p.done ++ (node_line row ++ node_lines rest) ≡ node_lines rows = rw (← node_lines_more row rest size) p.all in
+        record {
+          done = p.done ++ node_line row;
+          wrote = then_wrote p.wrote w (omega (arith, p.near));
+          all = append_assoc p.done (node_line row) (node_lines rest) ∙ lines;
+          near = omega (arith, p.near);
+          size = same ∙ p.size;
+        }
+
+    pub rows_end : (ahead : List ℕ) → PuttingRows start rows before after at ahead → length ahead < 4 → Wrote start (node_lines rows) before after at
+    unfolding node_lines rows_of flat_map
+    rows_end ahead p h =
+        let none : length ahead / 4 ≡ 0 = omega arith in
+        let all : node_lines rows ≡ p.done = sym p.all ∙ rw none (append-nil p.done) in
+        rw all p.wrote
 
 -- A row's line, part by part.
 module _ (row before : List ℕ) (at : ℕ) (size : length row ≡ 4) (room : at + 29 ≤ length before) where

@@ -1,4 +1,5 @@
 -- The programs' own rooms suffice for whatever a text and a journal say, so 5 is never printed of a run.
+use Rattle.std.specs.Prelude.{Err, Ok, Result}
 use mathlib.Core.Path.{◌≡◌, refl, ap, ◌∙◌, sym}
 use mathlib.Core.Bool.{Bool, true, false, cond, not}
 use mathlib.Core.List.{List, [], ◌∷◌}
@@ -19,8 +20,6 @@ use Rattle.fields.specs.Fields.{fields, tabbed}
 use Rattle.fields.proofs.Digits.{by_size, digits_one, digits_more, some_digits}
 use Rattle.fields.proofs.Tabbed.{no_tab}
 use Rattle.fields.proofs.NumbersTabbed.{decimal_no_tab, fields_line}
-use Rattle.terms.specs.declared.checking.Checked.{Checked}
-use Rattle.terms.specs.declared.checking.Checked.TheVariants.{Good, Refused}
 use Rattle.terms.specs.Good.{modes_good, checked}
 use Rattle.terms.specs.Rules.{rule_number, rule_good, rule_of}
 use Rattle.terms.specs.Job.{Job, job_of}
@@ -70,7 +69,7 @@ five_ended (done ending) e = absurd (omega (arith, ap (λ text. get_or text 0 0)
 five_ended (refuses refusal) e = refusal_five refusal e
 
 module _ (modes rule : ℕ) (numbers read : List ℕ) where
-  abbrev number_with : Checked → ℕ
+  abbrev number_with : Result ℕ Refusal → ℕ
   number_with found = number_in (with_terms program_rooms.run modes (rule_of rule) numbers read found)
 
   -- The journal's lines have numbers of their own, 6 to 12.
@@ -80,15 +79,15 @@ module _ (modes rule : ℕ) (numbers read : List ℕ) where
   journal_never job (refused made why) e h = omega (arith, h, (journal_refusal job read made why e).1.from)
 
   -- Terms that are refused have other numbers, and with room for all the journal decides.
-  terms_never : modes ≤ most_modes → (found : Checked) → checked modes numbers ≡ found → number_with found ≡ 5 → ⊥
+  terms_never : modes ≤ most_modes → (found : Result ℕ Refusal) → checked modes numbers ≡ found → number_with found ≡ 5 → ⊥
   unfolding number_in with_terms
-  terms_never few (Good count) e h =
+  terms_never few (Ok count) e h =
       let job = job_of modes (rule_of rule) count numbers in
       let short = (accepted modes numbers count e).at_most in
       let fits = rooms_fit program_rooms.run modes count (omega (arith, short)) (omega arith) (omega arith) (omega arith) in
       let decides = ap number_in (with_room program_rooms.run modes (rule_of rule) numbers read count fits) in
       journal_never job (obeyed job read) refl (sym decides ∙ h)
-  terms_never few (Refused why) e h = omega (arith, h, terms_refusal modes numbers why e)
+  terms_never few (Err why) e h = omega (arith, h, terms_refusal modes numbers why e)
 
   run_never : number_in (resumed program_rooms.run modes rule numbers read) ≡ 5 → ⊥
   unfolding number_in resumed modes_good

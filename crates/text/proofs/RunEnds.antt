@@ -1,33 +1,28 @@
 -- The journal's answer, and what it left in what was lent, tell what a run comes to; and so it is printed.
+use Rattle.std.specs.Prelude.{Err, Ok, Result}
 use mathlib.Core.Path.{◌≡◌, refl, ap, ◌∙◌, sym}
-use mathlib.Core.List.{List, ◌++◌}
+use mathlib.Core.List.{List}
 use Prim.Native.Nat.{ℕ, ◌+◌, ◌*◌, ◌≤◌}
 use native.Mathlib.Omega.{arith}
-use lib.ListN.{length, take, drop, length-append, take-append-drop}
-use lib.Seq.{length-take-le}
+use lib.ListN.{length, take, drop, length-append}
 use Rattle.lists.specs.Written.{written_at}
 use Rattle.lists.proofs.Written.{part_written}
 use Rattle.refusal.specs.declared.Refusal.{Refusal}
 use Rattle.entities.specs.Limits.{most_modes}
 use Rattle.journal.specs.Resuming.{Outcome, done, refuses, resumed}
 use Rattle.journal.specs.declared.resuming.Numbers.{Numbers}
-use Rattle.journal.specs.declared.resuming.Answer.{Answer}
-use Rattle.journal.specs.declared.resuming.Answer.TheVariants.{Done as Answered, Refused as Unanswered}
 use Rattle.journal.specs.Promises.{rooms_of, returned, lent_then, Answers, Lent as CallLent}
 use Rattle.journal.proofs.RowsFit.{rows_fit}
 use Rattle.text.specs.declared.running.Run.{Run}
-use Rattle.text.specs.declared.running.Ran.{Ran}
-use Rattle.text.specs.declared.running.Ran.TheVariants.{Done, Refused}
-use Rattle.text.specs.code.Runs.{Lent, lent, RanDone, RanRefused, Runs, drops_then}
+use Rattle.text.specs.code.Runs.{Lent, lent, RanDone, RanRefused, drops_then}
 use Rattle.text.specs.Running.{program_rooms}
 use Rattle.text.specs.Output.{done_text, printed}
-use Rattle.text.proofs.PrintedLines.{front_over}
 
 -- What a call is lent for rows and journal.
 abbrev pub written_of : CallLent → Lent
 written_of given = lent given.rows given.journal
 
-module _ (modes rule : ℕ) (numbers read : List ℕ) (given after : CallLent) (r : Answer) (rooms : rooms_of most_modes given ≡ program_rooms.run)
+module _ (modes rule : ℕ) (numbers read : List ℕ) (given after : CallLent) (r : Result Numbers Refusal) (rooms : rooms_of most_modes given ≡ program_rooms.run)
     (answers : Answers (λ lent. resumed (rooms_of most_modes lent) modes rule numbers read) given after r) where
   abbrev meant : Outcome
   meant = resumed program_rooms.run modes rule numbers read
@@ -38,7 +33,7 @@ module _ (modes rule : ℕ) (numbers read : List ℕ) (given after : CallLent) (
   same_left : after ≡ lent_then meant given
   same_left = rw (← rooms) answers.leaves
 
-  refused_as : (means : Outcome) (refusal : Refusal) → Unanswered refusal ≡ returned means → after ≡ lent_then means given
+  refused_as : (means : Outcome) (refusal : Refusal) → Err refusal ≡ returned means → after ≡ lent_then means given
       → RanRefused means (written_of given) (written_of after) refusal
   unfolding returned lent_then
   refused_as (done end) refusal e f = let z : ◌≡◌ {A = ℕ} 0 1 = cc in absurd (omega arith)
@@ -54,7 +49,7 @@ module _ (modes rule : ℕ) (numbers read : List ℕ) (given after : CallLent) (
   drops_left = drops_as meant same_left
 
   -- The call refused.
-  pub refused_runs : (refusal : Refusal) → r ≡ Unanswered refusal → RanRefused meant (written_of given) (written_of after) refusal
+  pub refused_runs : (refusal : Refusal) → r ≡ Err refusal → RanRefused meant (written_of given) (written_of after) refusal
   refused_runs refusal e = refused_as meant refusal (sym e ∙ same_answer) same_left
 
   -- The call ran to the end; its new lines have room, as a slice keeps its length.
@@ -62,7 +57,7 @@ module _ (modes rule : ℕ) (numbers read : List ℕ) (given after : CallLent) (
     abbrev as_run : Run
     as_run = record { modes = modes; weight = found.weight; trials = found.trials; new = found.new }
 
-    done_as : (means : Outcome) → meant ≡ means → Answered found ≡ returned means → after ≡ lent_then means given
+    done_as : (means : Outcome) → meant ≡ means → Ok found ≡ returned means → after ≡ lent_then means given
         → RanDone most_modes means (written_of given) (written_of after) as_run
     unfolding returned lent_then written_at
     done_as (refuses refusal) m e f = let z : ◌≡◌ {A = ℕ} 0 1 = cc in absurd (omega arith)
@@ -84,49 +79,19 @@ module _ (modes rule : ℕ) (numbers read : List ℕ) (given after : CallLent) (
           journal = journal;
         }
 
-    pub done_runs : r ≡ Answered found → RanDone most_modes meant (written_of given) (written_of after) as_run
+    pub done_runs : r ≡ Ok found → RanDone most_modes meant (written_of given) (written_of after) as_run
     done_runs e = done_as meant refl (sym e ∙ same_answer) same_left
 
--- Lent the front of a list for its new lines, a run writes over all of it.
-pub runs_over : (most : ℕ) (means : Outcome) (rows rows_after out part : List ℕ) (room : ℕ) (r : Ran) → room ≤ length out
-    → Runs most means (lent rows (take room out)) (lent rows_after part) r → Runs most means (lent rows out) (lent rows_after (part ++ drop room out)) r
-runs_over most means rows rows_after out part room (Done run) h known =
-    let size = length-take-le room out h in
-    record {
-      ending = known.ending;
-      is = known.is;
-      weight = known.weight;
-      trials = known.trials;
-      few = known.few;
-      exact = known.exact;
-      steps = known.steps;
-      rows = known.rows;
-      new = known.new;
-      fits = omega (arith, known.fits, size);
-      journal =
-          ap (λ l. l ++ drop room out) known.journal
-          ∙ front_over known.ending.new out room (omega (arith, known.fits, known.new, size)) h;
-    }
-runs_over most means rows rows_after out part room (Refused refusal) h known =
-    record {
-      is = known.is;
-      leaves = ap (λ l. lent l.rows (l.journal ++ drop room out)) known.leaves ∙ ap (lent rows) (take-append-drop room out);
-    }
+module _ {most : ℕ} {means : Outcome} {before after : Lent} {run : Run} (known : RanDone most means before after run) where
+  -- The run's new lines stand in front.
+  pub new_stand : take run.new after.journal ≡ known.ending.new
+  new_stand = rw (known.journal, known.new) (part_written 0 known.ending.new before.journal (omega (arith, known.new, known.fits)))
 
--- What is known of a run, case by case.
-module _ (most : ℕ) (means : Outcome) (before after : Lent) (r : Ran) (runs : Runs most means before after r) where
-  pub run_refused : (refusal : Refusal) → r ≡ Refused refusal → RanRefused means before after refusal
-  run_refused refusal e = rw e at runs
+  module _ (room : 4 * most ≤ length before.rows) where
+    -- The run's rows stand in front.
+    pub rows_stand : take (4 * run.modes) after.rows ≡ known.ending.rows
+    rows_stand = rw (known.rows, ← known.exact) (part_written 0 known.ending.rows before.rows (omega (arith, known.exact, known.few)))
 
-  pub run_done : (run : Run) → r ≡ Done run → RanDone most means before after run
-  run_done run e = rw e at runs
-
-module _ {most : ℕ} {means : Outcome} {before after : Lent} {run : Run} (known : RanDone most means before after run)
-    (room : 4 * most ≤ length before.rows) where
-  -- The run's rows stand in front.
-  pub rows_stand : take (4 * run.modes) after.rows ≡ known.ending.rows
-  rows_stand = rw (known.rows, ← known.exact) (part_written 0 known.ending.rows before.rows (omega (arith, known.exact, known.few)))
-
-  pub done_prints : done_text run.weight run.trials (take (4 * run.modes) after.rows) ≡ printed means
-  unfolding printed
-  done_prints = rw (known.is, known.weight, known.trials, rows_stand)
+    pub done_prints : done_text run.weight run.trials (take (4 * run.modes) after.rows) ≡ printed means
+    unfolding printed
+    done_prints = rw (known.is, known.weight, known.trials, rows_stand)

@@ -1,14 +1,11 @@
 // A run resumed from a journal as it is printed: `hatt`'s lines of it, or its new lines alone.
-ghost use Rattle.std.specs.Prelude.{◌≡◌, ◌+◌, ◌*◌, length};
-ghost use Rattle.entities.specs.Limits.{most_modes};
 ghost use Rattle.terms_text.specs.Jobs.{request};
-ghost use Rattle.text.specs.Running.{program_rooms, printed_room, ran};
+ghost use Rattle.text.specs.Running.{program_rooms};
 ghost use Rattle.text.specs.Output.{resume_text, continue_text, Prints};
-ghost use Rattle.text.specs.code.Runs.{lent, Runs};
 ghost use Rattle.text.specs.code.Printing.{Puts};
 
-use crate::running::Ran;
 use crate::{Printed, output, running};
+use fields::parts;
 use terms::rules::Rule;
 
 // The lines of a resumed run printed over the front, in lent room for its rows and its new lines; how many bytes that is.
@@ -16,16 +13,15 @@ fn print_resumed(
     rule: Rule,
     input: &[u8],
     read: &[u8],
-    rows: &mut [u16],
-    journal: &mut [u8],
-    out: &mut [u8],
+    rows: &mut [u16; 1024],
+    journal: &mut [u8; 5392],
+    out: &mut [u8; 16384],
 ) -> usize
-    requires { (length rows.old ≡ 4 * most_modes) × (length journal.old ≡ 16 + 21 * most_modes) × (length out.old ≡ printed_room) }
     ensures { Puts (resume_text program_rooms (request rule input.now) read.now) out.old out.new result }
 {
     match running::run_text(rule, input, read, rows, journal) {
-        Ran::Refused(refusal) => output::put_refusal(out, refusal),
-        Ran::Done(run) => {
+        Err(refusal) => output::put_refusal(out, refusal),
+        Ok(run) => {
             let end = 4 * run.modes;
             output::put_done(out, run.weight, run.trials, &rows[..end])
         }
@@ -40,29 +36,23 @@ pub fn resume_answer(rule: Rule, input: &[u8], read: &[u8]) -> Printed
     let mut journal = [0u8; 5392];
     let mut bytes = [0u8; 16384];
     let count = print_resumed(rule, input, read, &mut rows, &mut journal, &mut bytes);
-    Printed {
-        bytes: bytes,
-        count: count,
-    }
+    Printed { bytes, count }
 }
 
-// A text's run with the front of what is to be printed lent for its new lines.
-fn run_front(rule: Rule, input: &[u8], read: &[u8], rows: &mut [u16], out: &mut [u8]) -> Ran
-    requires { (length rows.old ≡ 4 * most_modes) × (length out.old ≡ printed_room) }
-    ensures { Runs most_modes (ran program_rooms (request rule input.now) read.now)
-        (lent rows.old out.old) (lent rows.new out.new) result }
-{
-    running::run_text(rule, input, read, rows, &mut out[..5392])
-}
-
-// The new lines of a resumed run printed over the front, in lent room for its rows; how many bytes that is.
-fn print_new(rule: Rule, input: &[u8], read: &[u8], rows: &mut [u16], out: &mut [u8]) -> usize
-    requires { (length rows.old ≡ 4 * most_modes) × (length out.old ≡ printed_room) }
+// The new lines of a resumed run printed over the front, in lent room for its rows and those lines; how many bytes that is.
+fn print_new(
+    rule: Rule,
+    input: &[u8],
+    read: &[u8],
+    rows: &mut [u16; 1024],
+    journal: &mut [u8; 5392],
+    out: &mut [u8; 16384],
+) -> usize
     ensures { Puts (continue_text program_rooms (request rule input.now) read.now) out.old out.new result }
 {
-    match run_front(rule, input, read, rows, out) {
-        Ran::Refused(refusal) => output::put_refusal(out, refusal),
-        Ran::Done(run) => run.new,
+    match running::run_text(rule, input, read, rows, journal) {
+        Err(refusal) => output::put_refusal(out, refusal),
+        Ok(run) => parts::put_bytes(out, 0, &journal[..run.new]),
     }
 }
 
@@ -71,10 +61,8 @@ pub fn continue_answer(rule: Rule, input: &[u8], read: &[u8]) -> Printed
     ensures { Prints (continue_text program_rooms (request rule input.now) read.now) result }
 {
     let mut rows = [0u16; 1024];
+    let mut journal = [0u8; 5392];
     let mut bytes = [0u8; 16384];
-    let count = print_new(rule, input, read, &mut rows, &mut bytes);
-    Printed {
-        bytes: bytes,
-        count: count,
-    }
+    let count = print_new(rule, input, read, &mut rows, &mut journal, &mut bytes);
+    Printed { bytes, count }
 }

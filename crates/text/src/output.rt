@@ -40,14 +40,9 @@ pub fn put_nodes(out: &mut [u8], start: usize, rows: &[u16]) -> usize
     ensures value { (result ≡ start + length (node_lines rows.now)) × (result ≤ start + 29 * (length rows.now / 4)) }
     ensures out_after { out.new ≡ written_at start (node_lines rows.now) out.old }
 {
-    let count = rows.len() / 4;
     let mut at = start;
-    let mut done = 0;
-    while done < count {
-        let from = 4 * done;
-        let end = from + 4;
-        at = put_node(out, at, &rows[from..end]);
-        done += 1;
+    for row in rows.chunks_exact(4) {
+        at = put_node(out, at, row);
     }
     at
 }

@@ -1,5 +1,6 @@
 -- The answer of an assignment is itself an accepted tree: its nodes hang together as in the given tree, each leaf stands once, and the leaves
 -- of a pair became the leaves of the pair's mode, so that they still end the z-chains from one node's X and Y children.
+use Rattle.std.specs.Prelude.{Ok}
 use mathlib.Core.Path.{◌≡◌, refl, ap, ◌∙◌, sym}
 use mathlib.Core.Bool.{Bool, true, false, cond, ◌||◌}
 use mathlib.Core.List.{List}
@@ -13,7 +14,6 @@ use Rattle.lists.proofs.Leading.{leading_all}
 use Rattle.lists.proofs.Sums.{same_none}
 use Rattle.lists.proofs.Replaced.{occurrences_map, place_of_member}
 use Rattle.entities.specs.Codes.{absent}
-use Rattle.tree.specs.declared.TreeChecked.TheVariants.{Accepted}
 use Rattle.tree.specs.Table.{child, place_of_code, parent_of, climb}
 use Rattle.tree.specs.OneTree.{root_of}
 use Rattle.tree.specs.Pairs.{chain_end}
@@ -95,7 +95,7 @@ module _ (modes : ℕ) (table assigned : List ℕ) (all : AllAssigned modes tabl
       let has : mode_of modes table assigned all fits given ≡ mode = ap (λ j. get_or assigned j modes) pair ∙ e in
       omega (arith, leaf_relabelled modes table assigned all fits given low high)
 
-  module _ (most : ℕ) (accepted : tree_checked most modes table ≡ Accepted) where
+  module _ (most : ℕ) (accepted : tree_checked most modes table ≡ Ok tt) where
     same_climb : (steps node : ℕ) → node < modes → climb answer steps node ≡ climb table steps node
     unfolding climb
     same_climb zero node h = refl
@@ -180,7 +180,7 @@ module _ (modes : ℕ) (table assigned : List ℕ) (all : AllAssigned modes tabl
           },
         )
 
-    pub answer_accepted : tree_checked most modes (answer_table modes assigned table) ≡ Accepted
+    pub answer_accepted : tree_checked most modes (answer_table modes assigned table) ≡ Ok tt
     unfolding answer codes_good
     answer_accepted =
         let parts = accepted_parts most modes table accepted in

@@ -1,4 +1,5 @@
 -- The answer of an assignment is a finished tree: it is accepted, and its root is the given tree's.
+use Rattle.std.specs.Prelude.{Ok}
 use mathlib.Core.Path.{◌≡◌, ◌∙◌}
 use mathlib.Core.List.{List}
 use mathlib.Core.Logic.{⊎_elim}
@@ -9,7 +10,6 @@ use Rattle.lists.specs.Counting.{occurrences}
 use Rattle.lists.proofs.Tests.{same_or_not}
 use Rattle.lists.proofs.Occurring.{occurs_at}
 use Rattle.entities.specs.Codes.{absent}
-use Rattle.tree.specs.declared.TreeChecked.TheVariants.{Accepted}
 use Rattle.tree.specs.Table.{place_of_code}
 use Rattle.tree.specs.OneTree.{root_of}
 use Rattle.tree.specs.Check.{tree_checked}
@@ -22,7 +22,7 @@ use Rattle.topphatt.proofs.AssignDone.{assign_done}
 use Rattle.topphatt.proofs.OutcomeRight.{outcome_right}
 
 -- Another root of the answer would stand in the given tree, and so in the answer.
-same_root : (most modes : ℕ) (table answer : List ℕ) → tree_checked most modes table ≡ Accepted → tree_checked most modes answer ≡ Accepted
+same_root : (most modes : ℕ) (table answer : List ℕ) → tree_checked most modes table ≡ Ok tt → tree_checked most modes answer ≡ Ok tt
     → SameShape modes table answer → root_of modes answer ≡ root_of modes table
 same_root most modes table answer given accepted shape =
     let root = root_of modes answer in

@@ -1,4 +1,5 @@
 -- The answer where every pair has a mode: each node and the absent child stay where they are, and each leaf stands once.
+use Rattle.std.specs.Prelude.{Ok}
 use mathlib.Core.Path.{◌≡◌, refl, ap, ◌∙◌, sym}
 use mathlib.Core.Bool.{Bool, true, false}
 use mathlib.Core.List.{List, map}
@@ -14,7 +15,6 @@ use Rattle.lists.proofs.Sums.{same_one, same_none}
 use Rattle.lists.proofs.Replaced.{occurrences_map}
 use Rattle.lists.proofs.Occurring.{occurs_twice}
 use Rattle.entities.specs.Codes.{child_code, absent}
-use Rattle.tree.specs.declared.TreeChecked.TheVariants.{Accepted}
 use Rattle.tree.specs.Table.{place_of_code}
 use Rattle.tree.specs.Check.{tree_checked}
 use Rattle.tree.proofs.Standing.{place_within, stands_there}
@@ -150,7 +150,7 @@ module _ (modes : ℕ) (table assigned : List ℕ) (all : AllAssigned modes tabl
   unfolding answer_table relabelled
   node_counts node h = occurrences_map (relabelled modes assigned) node node table (λ given m. node_same node given h)
 
-  module _ (most : ℕ) (accepted : tree_checked most modes table ≡ Accepted) where
+  module _ (most : ℕ) (accepted : tree_checked most modes table ≡ Ok tt) where
     pub answer_shape : SameShape modes table (answer_table modes assigned table)
     unfolding pair_of parity_of
     answer_shape =

@@ -1,4 +1,5 @@
 -- Each return is one case of the answer.
+use Rattle.std.specs.Prelude.{Err, Ok, Result}
 use mathlib.Core.Path.{◌≡◌, ap, ◌∙◌}
 use mathlib.Core.List.{List}
 use Prim.Native.Nat.{ℕ, ◌*◌, ◌<◌, ◌≤◌}
@@ -9,8 +10,6 @@ use Rattle.lists.proofs.Written.{written_front}
 use Rattle.refusal.specs.declared.Refusal.{Refusal}
 use Rattle.refusal.specs.declared.Refusal.TheVariants.{Room}
 use Rattle.terms.proofs.RowSteps.{length_terms}
-use Rattle.topphatt.specs.declared.Assigned.{Assigned}
-use Rattle.topphatt.specs.declared.Assigned.TheVariants.{Weight, Unassigned}
 use Rattle.topphatt.specs.Rounds.{Task}
 use Rattle.topphatt.specs.computed.Rounding.{ended}
 use Rattle.topphatt.specs.Answer.{Outcome, refused, answer_table, Asked, task_of, Rooms, done_by, with_room}
@@ -33,16 +32,16 @@ module _ (rooms : Rooms) (call : Asked) (count : ℕ) where
       rw (length_terms 8 count call.numbers, le-leb (9 * count) rooms.work h, le-leb (3 * call.modes) rooms.table k)
 
 module _ (meant : Lent → Outcome) (before : Lent) where
-  assigns : (after : Lent) (r : Assigned) → r ≡ returned (meant before) → after ≡ lent_then (meant before) before → Assigns meant before after r
+  assigns : (after : Lent) (r : Result ℕ Refusal) → r ≡ returned (meant before) → after ≡ lent_then (meant before) before → Assigns meant before after r
   assigns after r e l = record { answer = e; numbers = ap numbers_of e; leaves = l }
 
   -- A refusal leaves what is lent as it is.
-  pub refused_so : (refusal : Refusal) → meant before ≡ refused refusal → Assigns meant before before (Unassigned refusal)
+  pub refused_so : (refusal : Refusal) → meant before ≡ refused refusal → Assigns meant before before (Err refusal)
   unfolding returned lent_then
-  refused_so refusal e = assigns before (Unassigned refusal) (rw e) (rw e)
+  refused_so refusal e = assigns before (Err refusal) (rw e) (rw e)
 
   -- What is promised of one meaning is promised of any that says the same here.
-  pub assigns_so : (other : Lent → Outcome) (after : Lent) (r : Assigned) → meant before ≡ other before
+  pub assigns_so : (other : Lent → Outcome) (after : Lent) (r : Result ℕ Refusal) → meant before ≡ other before
       → Assigns meant before after r → Assigns other before after r
   assigns_so other after r e a = record {
     answer = a.answer ∙ ap returned e;
@@ -54,10 +53,10 @@ module _ (meant : Lent → Outcome) (before : Lent) where
 pub done_so : (task : Task) (count : ℕ) (work worked table now_work now_table : List ℕ) (r : ℕ) → length task.job.terms ≡ count
     → r ≡ (ended task).weight → drop (9 * count) worked ≡ drop (9 * count) work → now_work ≡ written_at 0 (replicate (9 * count) 0) worked
     → now_table ≡ written_at 0 (answer_table task.job.modes (ended task).assigned task.table) table
-    → Assigns (λ given. done_by task) (lent work table) (lent now_work now_table) (Weight r)
+    → Assigns (λ given. done_by task) (lent work table) (lent now_work now_table) (Ok r)
 unfolding done_by returned lent_then
 done_so task count work worked table now_work now_table r counted weighed rest cleared written =
     let zeros : List ℕ = replicate (9 * count) 0 in
     let front : drop (length zeros) worked ≡ drop (length zeros) work = rw (length-replicate {A = ℕ} (9 * count) 0) rest in
-    assigns (λ given. done_by task) (lent work table) (lent now_work now_table) (Weight r) (ap Weight weighed)
+    assigns (λ given. done_by task) (lent work table) (lent now_work now_table) (Ok r) (ap Ok weighed)
     (rw counted (λ i. record { work = (cleared ∙ written_front zeros worked work front) i; table = written i }))

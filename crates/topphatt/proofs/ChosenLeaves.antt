@@ -1,4 +1,5 @@
 -- The node of a round's choice is complete after the round: fixing a slot fixes it, and unfixes no other.
+use Rattle.std.specs.Prelude.{Ok}
 use mathlib.Core.Path.{◌≡◌, refl, ap, ◌∙◌, sym}
 use mathlib.Core.Bool.{Bool, true, false, cond, true≢false}
 use mathlib.Core.List.{List, Memᴰ}
@@ -8,7 +9,6 @@ use native.Mathlib.Omega.{arith}
 use lib.ListN.{length, get_or, set, length-set}
 use lib.Seq.{get_or-set_same, get_or-set_other}
 use Rattle.lists.proofs.Tests.{not_so}
-use Rattle.tree.specs.declared.TreeChecked.TheVariants.{Accepted}
 use Rattle.tree.specs.Table.{child}
 use Rattle.tree.specs.Check.{tree_checked}
 use Rattle.tree.proofs.EachHosts.{each_hosts, pair_children}
@@ -111,7 +111,7 @@ module _ (modes : ℕ) (table assigned : List ℕ) (whole : length assigned ≡ 
         fixed_fixes modes table node 2 z second longer good_z2,
       )
 
-module _ (most modes : ℕ) (table : List ℕ) (accepted : tree_checked most modes table ≡ Accepted)
+module _ (most modes : ℕ) (table : List ℕ) (accepted : tree_checked most modes table ≡ Ok tt)
     (heuristic : ℕ) (assigned : List ℕ) (fair : Fair modes assigned)
     (choice : Choice) (member : Memᴰ choice (candidates modes table heuristic assigned)) where
   free_half : (code mode : ℕ) → Memᴰ mode (unassigned modes assigned) → leaf_of (slot_of modes assigned code) mode / 2 < modes

@@ -1,8 +1,8 @@
 -- A call that is done has computed what document 01 describes.
+use Rattle.std.specs.Prelude.{Ok}
 use mathlib.Core.Path.{◌≡◌, refl}
 use Prim.Native.Nat.{ℕ}
 use Rattle.tree.specs.Check.{tree_checked}
-use Rattle.tree.specs.declared.TreeChecked.TheVariants.{Accepted}
 use Rattle.slots.proofs.AcceptedFits.{accepted_fits}
 use Rattle.topphatt.specs.Rounds.{Task}
 use Rattle.topphatt.specs.computed.Rounding.{ended}
@@ -14,7 +14,7 @@ use Rattle.topphatt.proofs.RoundsWent.{ended_went}
 use Rattle.topphatt.proofs.AnswerShape.{answer_shape}
 use Rattle.topphatt.proofs.AnswerAccepted.{answer_accepted}
 
-module _ (most : ℕ) (task : Task) (accepted : tree_checked most task.job.modes task.table ≡ Accepted) where
+module _ (most : ℕ) (task : Task) (accepted : tree_checked most task.job.modes task.table ≡ Ok tt) where
   ended_right : AnswerRight most task (ended task).weight (answer_table task.job.modes (ended task).assigned task.table)
   ended_right =
       let all = all_assigned most task accepted in

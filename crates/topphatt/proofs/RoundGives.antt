@@ -1,4 +1,5 @@
 -- On an accepted tree each choice of a round gives modes to pairs that had none: the pair under X and Y one, the pair of a Z leaf another.
+use Rattle.std.specs.Prelude.{Ok}
 use mathlib.Core.Path.{◌≡◌, refl, ap, ◌∙◌, sym}
 use mathlib.Core.Bool.{Bool, true, false}
 use mathlib.Core.List.{List, Memᴰ}
@@ -10,7 +11,6 @@ use lib.Seq.{get_or-set_same, get_or-set_other}
 use Rattle.lists.specs.Counting.{occurrences}
 use Rattle.lists.proofs.Occurring.{none_occurs}
 use Rattle.entities.specs.declared.Triple.{Triple}
-use Rattle.tree.specs.declared.TreeChecked.TheVariants.{Accepted}
 use Rattle.tree.specs.Table.{child}
 use Rattle.tree.specs.Check.{tree_checked}
 use Rattle.slots.specs.Slots.{pair_of, slot_of, slot, unfixed, leaf_of}
@@ -139,7 +139,7 @@ module _ (modes : ℕ) (table : List ℕ) (node : ℕ) where
       pair_gives triple x_is m =
           rw (x_is, x_sets, y_stays triple.y) (z_gives triple.z m (unfixed (slot modes table paired node 2)) refl)
 
-module _ (most modes : ℕ) (table : List ℕ) (accepted : tree_checked most modes table ≡ Accepted)
+module _ (most modes : ℕ) (table : List ℕ) (accepted : tree_checked most modes table ≡ Ok tt)
     (heuristic : ℕ) (assigned : List ℕ) (fair : Fair modes assigned) where
   -- Of an active node's X and Y slots both are unfixed or neither is.
   pub slots_together : (node : ℕ) → Memᴰ node (active modes table heuristic assigned)

@@ -1,12 +1,7 @@
 -- One round more, and where the rounds end.
-use mathlib.Core.Path.{◌≡◌, refl, ap, fun_ext}
-use mathlib.Core.Bool.{true, false}
-use mathlib.Core.List.{List}
-use Prim.Native.Nat.{ℕ, suc, ◌+◌, ◌-◌, ◌*◌, ◌<◌, ◌≤◌}
+use Rattle.std.proofs.Common.{◌≡◌, refl, ap, true, false, List, ℕ, suc, ◌+◌, ◌-◌, ◌*◌, ◌<◌, ◌≤◌, arith, eqb, length, replicate}
+use mathlib.Core.Path.{fun_ext}
 use native.Mathlib.Nat.{sub-zero}
-use native.Mathlib.Omega.{arith}
-use lib.Dec.{eqb}
-use lib.ListN.{length, replicate}
 use Rattle.lists.specs.Least.{best_of}
 use Rattle.terms.specs.declared.rules.Rule.{Rule}
 use Rattle.terms.specs.Rows.{terms_of}
@@ -16,19 +11,18 @@ use Rattle.reduction.proofs.AsTold.{live_weight}
 use Rattle.choice.specs.Choices.{unassigned}
 use Rattle.choice.specs.Choice.{Choice, candidates}
 use Rattle.choice.specs.computed.Choosing.{better, chosen}
-use Rattle.topphatt.specs.declared.rounds.Progress.{Progress}
 use Rattle.topphatt.specs.Rounds.{Rounds, Task, before, fixed_by, after}
 use Rattle.topphatt.specs.computed.Rounding.{choice_in, next, rounds, ended}
 use Rattle.topphatt.specs.code.Going.{task_with, state_of}
 
-pub stepped : (task : Task) (rows assigned : List ℕ) (progress : Progress) (now_rows now_assigned : List ℕ) (r : Progress) (choice : Choice)
-    → choice ≡ choice_in task (state_of rows assigned progress)
+pub stepped : (task : Task) (count : ℕ) (rows assigned : List ℕ) (weight : ℕ) (now_rows now_assigned : List ℕ) (r : ℕ) (choice : Choice)
+    → choice ≡ choice_in task (state_of count rows assigned weight)
     → now_assigned ≡ fixed_by task.job.modes task.table choice assigned
-    → terms_of 9 r.count now_rows ≡ reduction task.job.rule choice.triple (2 * task.job.modes + 1 + choice.node) (terms_of 9 progress.count rows)
-    → r.weight ≡ progress.weight + weight_of choice.triple (terms_of 9 progress.count rows)
-    → state_of now_rows now_assigned r ≡ next task (state_of rows assigned progress)
+    → terms_of 9 count now_rows ≡ reduction task.job.rule choice.triple (2 * task.job.modes + 1 + choice.node) (terms_of 9 count rows)
+    → r ≡ weight_of choice.triple (terms_of 9 count rows)
+    → state_of count now_rows now_assigned (weight + r) ≡ next task (state_of count rows assigned weight)
 unfolding state_of next after
-stepped task rows assigned progress now_rows now_assigned r choice right fixing reducing weighing =
+stepped task count rows assigned weight now_rows now_assigned r choice right fixing reducing weighing =
     rw (← right, fixing, reducing, weighing)
 
 module _ (task : Task) where
@@ -48,14 +42,14 @@ module _ (task : Task) where
     rounds_end h = let none : task.job.modes - at ≡ 0 = omega arith in rw none
 
 pub rounds_start : (modes : ℕ) (rule : Rule) (table : List ℕ) (heuristic count : ℕ) (rows assigned : List ℕ) → assigned ≡ replicate modes modes
-    → rounds (task_with modes rule table heuristic (terms_of 9 count rows)) (modes - 0) (state_of rows assigned (record { round = 0; count = count; weight = 0 }))
+    → rounds (task_with modes rule table heuristic (terms_of 9 count rows)) (modes - 0) (state_of count rows assigned 0)
     ≡ ended (task_with modes rule table heuristic (terms_of 9 count rows))
 unfolding ended before state_of
 rounds_start modes rule table heuristic count rows assigned e = rw (sub-zero, e)
 
-pub state_assigned : (rows assigned : List ℕ) (progress : Progress) → (state_of rows assigned progress).assigned ≡ assigned
+pub state_assigned : (count : ℕ) (rows assigned : List ℕ) (weight : ℕ) → (state_of count rows assigned weight).assigned ≡ assigned
 unfolding state_of
-state_assigned rows assigned progress = refl
+state_assigned count rows assigned weight = refl
 
 -- A choice among the rows that are there is the choice among all: a row that is gone weighs nothing.
 pub chosen_live : (modes : ℕ) (table : List ℕ) (heuristic : ℕ) (assigned : List ℕ) (rows : List (List ℕ))

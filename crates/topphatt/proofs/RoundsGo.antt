@@ -1,4 +1,5 @@
 -- On an accepted tree every round with a mode unassigned has a choice and gives modes to pairs; so after all rounds every pair has one.
+use Rattle.std.specs.Prelude.{Ok}
 use mathlib.Core.Path.{◌≡◌, refl}
 use mathlib.Core.Bool.{Bool, true, false}
 use mathlib.Core.List.{List}
@@ -10,7 +11,6 @@ use lib.ListN.{length, get_or}
 use Rattle.lists.specs.Counting.{occurrences}
 use Rattle.lists.proofs.Occurring.{occurs_at}
 use Rattle.lists.proofs.Pigeonholes.{counted_with}
-use Rattle.tree.specs.declared.TreeChecked.TheVariants.{Accepted}
 use Rattle.tree.specs.Table.{child}
 use Rattle.tree.specs.Check.{tree_checked}
 use Rattle.slots.specs.Slots.{pair_of, slot, unfixed}
@@ -56,7 +56,7 @@ every_pair modes table assigned fair none =
         let w = edge_without modes table assigned node edge q in
         absurd (omega (arith, w.none, inside (pair_of modes (child table node edge)) (pair_below modes assigned (child table node edge) w.low w.high)))
 
-module _ (most : ℕ) (task : Task) (accepted : tree_checked most task.job.modes task.table ≡ Accepted) where
+module _ (most : ℕ) (task : Task) (accepted : tree_checked most task.job.modes task.table ≡ Ok tt) where
   abbrev modes : ℕ
   modes = task.job.modes
 

@@ -1,4 +1,5 @@
 -- The computed rounds are those that document 01 tells, and its words leave no room: from one state they come to one end.
+use Rattle.std.specs.Prelude.{Ok}
 use mathlib.Core.Path.{◌≡◌, refl, ◌∙◌, sym}
 use mathlib.Core.Bool.{Bool, true, false}
 use Prim.Native.Nat.{ℕ, zero, suc, ◌<◌, ◌≤◌}
@@ -7,7 +8,6 @@ use borrow.Author.Tests.{eqb-true, eqb-false}
 use lib.Dec.{eqb}
 use lib.ListN.{length}
 use Rattle.lists.specs.Counting.{occurrences}
-use Rattle.tree.specs.declared.TreeChecked.TheVariants.{Accepted}
 use Rattle.tree.specs.Check.{tree_checked}
 use Rattle.choice.specs.Choices.{unassigned}
 use Rattle.choice.proofs.ChosenOne.{chosen_one}
@@ -25,7 +25,7 @@ one_end task state one other (one_more h c goes w) (one_more k d also v) =
     one_end task (after task c state) one other w
     (rw (chosen_one task.job.modes task.table task.heuristic state.assigned state.rows d c also.right goes.right) at v)
 
-module _ (most : ℕ) (task : Task) (accepted : tree_checked most task.job.modes task.table ≡ Accepted) where
+module _ (most : ℕ) (task : Task) (accepted : tree_checked most task.job.modes task.table ≡ Ok tt) where
   abbrev modes : ℕ
   modes = task.job.modes
 

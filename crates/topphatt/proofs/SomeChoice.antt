@@ -1,5 +1,6 @@
 -- While a mode is unassigned a round has a choice: some node remains, and an active node has choices. Where its X, Y and Z are all unfixed
 -- two pairs have no mode, so two modes are unassigned.
+use Rattle.std.specs.Prelude.{Ok}
 use mathlib.Core.Path.{◌≡◌, refl, ◌∙◌, sym}
 use mathlib.Core.Bool.{Bool, true, false, not}
 use mathlib.Core.List.Memᴰ
@@ -15,7 +16,6 @@ use Rattle.lists.proofs.Membership.{kept, joined}
 use Rattle.lists.specs.Ordered.{Ascending}
 use Rattle.lists.proofs.Ordered.{counted_ascends, kept_ascends}
 use Rattle.lists.proofs.Narrowing.{some_member, member_of_some}
-use Rattle.tree.specs.declared.TreeChecked.TheVariants.{Accepted}
 use Rattle.tree.specs.Table.{child}
 use Rattle.tree.specs.Pairs.{chain_end}
 use Rattle.tree.specs.Check.{tree_checked}
@@ -69,7 +69,7 @@ module _ (modes : ℕ) where
   unfolding unassigned
   free_ascends assigned = kept_ascends ◌<◌ _ _ (counted_ascends 0 modes)
 
-module _ (most modes : ℕ) (table : List ℕ) (accepted : tree_checked most modes table ≡ Accepted) where
+module _ (most modes : ℕ) (table : List ℕ) (accepted : tree_checked most modes table ≡ Ok tt) where
   -- Z is no leaf of the pair under X and Y.
   pub z_apart : (node k : ℕ) (assigned : List ℕ) → node < modes → PairHere modes table assigned node k → Without modes assigned (child table node 2)
       → pair_of modes (child table node 2) ≡ k → ⊥

@@ -1,5 +1,5 @@
 -- "The answer is the table and the sum of chosen weights"; "assign continues 17, 2, 3, 4, 5"; 20 is "checked after 1".
-use Rattle.std.specs.Prelude.{cond, not, ◌&&◌, List, map, ℕ, ◌*◌, leb, length}
+use Rattle.std.specs.Prelude.{cond, not, ◌&&◌, List, map, ℕ, ◌*◌, leb, length, Err, Ok, Result}
 use Rattle.refusal.specs.declared.Refusal.{Refusal}
 use Rattle.refusal.specs.declared.Refusal.TheVariants.{Modes, Room, Heuristic, Rule as NoRule}
 use Rattle.entities.specs.Codes.{child_code}
@@ -7,11 +7,7 @@ use Rattle.entities.specs.Limits.{work_width}
 use Rattle.terms.specs.Rules.{rule_good, rule_of}
 use Rattle.terms.specs.Job.{job_of}
 use Rattle.terms.specs.Good.{modes_good, checked}
-use Rattle.terms.specs.declared.checking.Checked.{Checked}
-use Rattle.terms.specs.declared.checking.Checked.TheVariants.{Good, Refused as BadTerms}
 use Rattle.tree.specs.Check.{tree_checked}
-use Rattle.tree.specs.declared.TreeChecked.{TreeChecked}
-use Rattle.tree.specs.declared.TreeChecked.TheVariants.{Accepted, Refused as BadTree}
 use Rattle.slots.specs.Slots.{slot_of, stands_as}
 use Rattle.topphatt.specs.Rounds.{Task}
 use Rattle.topphatt.specs.computed.Rounding.{ended}
@@ -58,15 +54,15 @@ with_room rooms task =
     cond (not (leb (work_width * length task.job.terms) rooms.work && leb (3 * task.job.modes) rooms.table)) (refused Room) (done_by task)
 
 -- 2, 3, 4 of the terms.
-unfoldable pub with_terms : Rooms → Asked → Checked → Outcome
-with_terms rooms call (Good count) = with_room rooms (task_of call count)
-with_terms rooms call (BadTerms refusal) = refused refusal
+unfoldable pub with_terms : Rooms → Asked → Result ℕ Refusal → Outcome
+with_terms rooms call (Ok count) = with_room rooms (task_of call count)
+with_terms rooms call (Err refusal) = refused refusal
 
 -- 13 to 16 of the tree, then 17: "heuristic not 0, 1, 2".
-unfoldable pub with_tree : Rooms → Asked → TreeChecked → Outcome
-with_tree rooms call Accepted =
+unfoldable pub with_tree : Rooms → Asked → Result (Unit {0}) Refusal → Outcome
+with_tree rooms call (Ok tt) =
     cond (not (leb call.heuristic 2)) (refused Heuristic) (with_terms rooms call (checked call.modes call.numbers))
-with_tree rooms call (BadTree refusal) = refused refusal
+with_tree rooms call (Err refusal) = refused refusal
 
 -- The meaning of `assign`: 1, then 20, then the rest.
 unfoldable pub outcome : Rooms → Asked → Outcome

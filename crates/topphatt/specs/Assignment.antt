@@ -1,10 +1,9 @@
 -- What a reader may believe of the rounds and of the answer, on an accepted tree.
-use Rattle.std.specs.Prelude.{◌≡◌, true, false, not, List, ℕ, ◌*◌, ◌<◌, ◌≤◌, length, get_or}
+use Rattle.std.specs.Prelude.{◌≡◌, true, false, not, List, ℕ, ◌*◌, ◌<◌, ◌≤◌, length, get_or, Ok}
 use Rattle.lists.specs.Counting.{occurrences}
 use Rattle.lists.specs.Members.{keep}
 use Rattle.entities.specs.Codes.{absent}
 use Rattle.tree.specs.Check.{tree_checked}
-use Rattle.tree.specs.declared.TreeChecked.TheVariants.{Accepted}
 use Rattle.slots.specs.Slots.{slot, unfixed}
 use Rattle.slots.specs.Nodes.{complete, remaining}
 use Rattle.choice.specs.Choices.{unassigned}
@@ -71,7 +70,7 @@ pub record AnswerRight (most : ℕ) (task : Task) (weight : ℕ) (answer : List 
   pub answer_is : answer ≡ answer_table task.job.modes end.assigned task.table
   pub all : AllAssigned task.job.modes task.table end.assigned
   pub shape : SameShape task.job.modes task.table answer
-  pub accepted : tree_checked most task.job.modes answer ≡ Accepted
+  pub accepted : tree_checked most task.job.modes answer ≡ Ok tt
 
 -- Demand 2 of every call that is done, by either rule: its rounds are those that document 01 tells, each with the choice that it describes.
 abbrev pub EveryAssignment : Type 0

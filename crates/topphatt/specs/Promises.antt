@@ -1,21 +1,20 @@
 -- What `assign` promises: the number it returns, and every number of work and table after the call.
-use Rattle.std.specs.Prelude.{◌≡◌, List, [], ◌∷◌, ℕ, ◌*◌, length, replicate}
+use Rattle.refusal.specs.declared.Refusal.{Refusal}
+use Rattle.std.specs.Prelude.{◌≡◌, List, [], ◌∷◌, ℕ, ◌*◌, length, replicate, Err, Ok, Result}
 use Rattle.lists.specs.Written.{written_at}
 use Rattle.refusal.specs.Numbers.{refused_numbers, done_numbers}
 use Rattle.entities.specs.Limits.{work_width}
-use Rattle.topphatt.specs.declared.Assigned.{Assigned}
-use Rattle.topphatt.specs.declared.Assigned.TheVariants.{Weight, Unassigned}
 use Rattle.topphatt.specs.Answer.{Outcome, done, refused, Rooms}
 
 -- "The answer is … the sum of chosen weights"; a refusal "its number and a place, zeros elsewhere": refusal, place, weight.
-unfoldable pub numbers_of : Assigned → List ℕ
-numbers_of (Weight weight) = done_numbers (weight ∷ [])
-numbers_of (Unassigned refusal) = refused_numbers 1 refusal
+unfoldable pub numbers_of : Result ℕ Refusal → List ℕ
+numbers_of (Ok weight) = done_numbers (weight ∷ [])
+numbers_of (Err refusal) = refused_numbers 1 refusal
 
 -- What the call returns.
-unfoldable pub returned : Outcome → Assigned
-returned (done count weight table) = Weight weight
-returned (refused refusal) = Unassigned refusal
+unfoldable pub returned : Outcome → Result ℕ Refusal
+returned (done count weight table) = Ok weight
+returned (refused refusal) = Err refusal
 
 -- What is lent to a call: every number of work and table.
 pub record Lent : Type 0 where
@@ -38,7 +37,7 @@ lent_then (done count weight codes) given = record {
 lent_then (refused refusal) given = given
 
 -- The answer of the meaning and its numbers, and every number of what was lent after the call.
-pub record Assigns (meant : Lent → Outcome) (before after : Lent) (r : Assigned) : Type 0 where
+pub record Assigns (meant : Lent → Outcome) (before after : Lent) (r : Result ℕ Refusal) : Type 0 where
   pub answer : r ≡ returned (meant before)
   pub numbers : numbers_of r ≡ numbers_of (returned (meant before))
   pub leaves : after ≡ lent_then (meant before) before

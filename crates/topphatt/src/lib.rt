@@ -9,36 +9,30 @@ ghost use Rattle.terms.specs.Rows.{terms_of};
 ghost use Rattle.terms.specs.code.Held.{Given, Worked};
 ghost use Rattle.terms.specs.Good.{checked};
 ghost use Rattle.tree.specs.Check.{tree_checked};
+ghost use Rattle.slots.specs.Heuristics.{heuristic_number};
 ghost use Rattle.slots.specs.Slots.{slot_of, stands_as};
 ghost use Rattle.slots.specs.code.Promises.{Distances};
 ghost use Rattle.topphatt.specs.computed.Rounding.{ended};
+ghost use Rattle.terms.specs.Rules.{rule_number};
 ghost use Rattle.topphatt.specs.Answer.{answer_table, asked, task_of, done_by, with_room, with_terms, with_tree, outcome};
 ghost use Rattle.topphatt.specs.Promises.{lent, rooms_of, Assigns};
 ghost use Rattle.topphatt.specs.code.Going.{task_with, Tabled};
 
 use entities::codes;
 use refusal::Refusal;
+use slots::heuristics::Heuristic;
 use slots::nodes;
-use terms::checking::Checked;
 use terms::rules::Rule;
-use terms::{checking, counted, row, rules, slices};
-use tree::TreeChecked;
+use terms::{checking, counted, row, slices};
 
 mod rounds;
-
-// What an assignment says: the sum of chosen weights, or why it is refused.
-#[derive(Clone, Copy)]
-pub enum Assigned {
-    Weight(u64),
-    Unassigned(Refusal),
-}
 
 // The code of the slot that stands where the given tree has this code.
 fn answer_code(modes: usize, assigned: &[u16], given: u16) -> u16
     requires { (modes ≤ most_modes) × (length assigned.now ≡ modes) }
     ensures { result ≡ child_code modes (2 * modes) (stands_as modes (slot_of modes assigned.now given)) }
 {
-    let slot = slots::slot_of(modes, assigned, entities::wide(given));
+    let slot = slots::slot_of(modes, assigned, usize::from(given));
     codes::code(modes, (2 * modes) as u16, slot)
 }
 
@@ -47,10 +41,8 @@ fn write_table(modes: usize, tree: &[u16], assigned: &[u16], table: &mut [u16])
     requires { (modes ≤ most_modes) × (length assigned.now ≡ modes) × (length tree.now ≤ length table.old) }
     ensures { table.new ≡ written_at 0 (answer_table modes assigned.now tree.now) table.old }
 {
-    let mut at = 0;
-    while at < tree.len() {
-        table[at] = answer_code(modes, assigned, tree[at]);
-        at += 1;
+    for (at, given) in tree.iter().enumerate() {
+        table[at] = answer_code(modes, assigned, *given);
     }
 }
 
@@ -60,7 +52,7 @@ fn assign_pairs<'a>(
     rule: Rule,
     tree: &'a [u16],
     distances: &'a [usize],
-    heuristic: usize,
+    heuristic: Heuristic,
     rows: &mut [u16],
     count: usize,
     assigned: &mut [u16],
@@ -69,7 +61,7 @@ fn assign_pairs<'a>(
     requires le_modes { (1 ≤ modes) × (modes ≤ most_modes) × (count ≤ most_terms) × (length tree.now ≡ 3 * modes) × (assigned.old ≡ replicate modes modes) × (3 * modes ≤ length table.old) }
     requires distances { Distances modes tree.now distances.now }
     requires worked { Worked count rows.old }
-    ensures { Tabled modes count tree.now (ended (task_with modes rule tree.now heuristic (terms_of work_width count rows.old))) rows.old table.old rows.new table.new result }
+    ensures { Tabled modes count tree.now (ended (task_with modes rule tree.now (heuristic_number heuristic) (terms_of work_width count rows.old))) rows.old table.old rows.new table.new result }
 {
     let weight = rounds::topphatt(
         modes, rule, tree, distances, heuristic, rows, count, assigned,
@@ -83,14 +75,14 @@ fn assign_rows(
     modes: usize,
     rule: Rule,
     tree: &[u16],
-    heuristic: usize,
+    heuristic: Heuristic,
     rows: &mut [u16],
     count: usize,
     table: &mut [u16],
 ) -> usize
     requires le_modes { (1 ≤ modes) × (modes ≤ most_modes) × (count ≤ most_terms) × (length tree.now ≡ 3 * modes) × (3 * modes ≤ length table.old) }
     requires worked { Worked count rows.old }
-    ensures { Tabled modes count tree.now (ended (task_with modes rule tree.now heuristic (terms_of work_width count rows.old))) rows.old table.old rows.new table.new result }
+    ensures { Tabled modes count tree.now (ended (task_with modes rule tree.now (heuristic_number heuristic) (terms_of work_width count rows.old))) rows.old table.old rows.new table.new result }
 {
     let mut distances = [0usize; 256];
     nodes::fill_distances(modes, tree, &mut distances);
@@ -113,98 +105,79 @@ fn assign_in(
     modes: usize,
     rule: Rule,
     tree: &[u16],
-    heuristic: usize,
+    heuristic: Heuristic,
     terms: &[u16],
     count: usize,
     work: &mut [u16],
     table: &mut [u16],
-) -> Assigned
+) -> Result<u64, Refusal>
     requires le_modes { (1 ≤ modes) × (modes ≤ most_modes) × (count ≤ most_terms) × (length tree.now ≡ 3 * modes) }
     requires given { Given count terms.now }
     requires count_in_bounds { (work_width * count ≤ length work.old) × (3 * modes ≤ length table.old) }
-    ensures { Assigns (λ given. done_by (task_with modes rule tree.now heuristic (terms_of row_width count terms.now))) (lent work.old table.old) (lent work.new table.new) result }
+    ensures { Assigns (λ given. done_by (task_with modes rule tree.now (heuristic_number heuristic) (terms_of row_width count terms.now))) (lent work.old table.old) (lent work.new table.new) result }
 {
     counted::put_each_once(terms, count, work);
     let weight = assign_rows(modes, rule, tree, heuristic, work, count, table);
     slices::clear_front(work, row::WORK_WIDTH * count);
-    Assigned::Weight(weight as u64)
+    Ok(weight as u64)
 }
 
 // The answer where all is good but perhaps the rooms.
 fn assign_good(
     modes: usize,
-    rule: usize,
+    rule: Rule,
     tree: &[u16],
-    heuristic: usize,
+    heuristic: Heuristic,
     terms: &[u16],
     count: usize,
     work: &mut [u16],
     table: &mut [u16],
-) -> Assigned
+) -> Result<u64, Refusal>
     requires le_modes { (1 ≤ modes) × (modes ≤ most_modes) × (count ≤ most_terms) × (length tree.now ≡ 3 * modes) }
     requires given { Given count terms.now }
-    ensures { Assigns (λ given. with_room (rooms_of most_modes given) (task_of (asked modes rule tree.now heuristic terms.now) count)) (lent work.old table.old) (lent work.new table.new) result }
+    ensures { Assigns (λ given. with_room (rooms_of most_modes given) (task_of (asked modes (rule_number rule) tree.now (heuristic_number heuristic) terms.now) count)) (lent work.old table.old) (lent work.new table.new) result }
 {
     if work.len() < row::WORK_WIDTH * count {
-        return Assigned::Unassigned(Refusal::Room);
+        return Err(Refusal::Room);
     }
     if table.len() < 3 * modes {
-        return Assigned::Unassigned(Refusal::Room);
+        return Err(Refusal::Room);
     }
-    assign_in(
-        modes,
-        rules::rule_of(rule),
-        tree,
-        heuristic,
-        terms,
-        count,
-        work,
-        table,
-    )
+    assign_in(modes, rule, tree, heuristic, terms, count, work, table)
 }
 
 // The answer where the tree and the heuristic are good.
 fn assign_accepted(
     modes: usize,
-    rule: usize,
+    rule: Rule,
     tree: &[u16],
-    heuristic: usize,
+    heuristic: Heuristic,
     terms: &[u16],
     work: &mut [u16],
     table: &mut [u16],
-) -> Assigned
+) -> Result<u64, Refusal>
     requires { (1 ≤ modes) × (modes ≤ most_modes) × (length tree.now ≡ 3 * modes) }
-    ensures { Assigns (λ given. with_terms (rooms_of most_modes given) (asked modes rule tree.now heuristic terms.now) (checked modes terms.now)) (lent work.old table.old) (lent work.new table.new) result }
+    ensures { Assigns (λ given. with_terms (rooms_of most_modes given) (asked modes (rule_number rule) tree.now (heuristic_number heuristic) terms.now) (checked modes terms.now)) (lent work.old table.old) (lent work.new table.new) result }
 {
-    match checking::check_terms(modes, terms) {
-        Checked::Refused(refusal) => Assigned::Unassigned(refusal),
-        Checked::Good(count) => assign_good(
-            modes, rule, tree, heuristic, terms, count, work, table,
-        ),
-    }
+    let count = checking::check_terms(modes, terms)?;
+    assign_good(modes, rule, tree, heuristic, terms, count, work, table)
 }
 
 // The answer where the modes and the rule are good.
 fn assign_ruled(
     modes: usize,
-    rule: usize,
+    rule: Rule,
     tree: &[u16],
     heuristic: usize,
     terms: &[u16],
     work: &mut [u16],
     table: &mut [u16],
-) -> Assigned
-    ensures { Assigns (λ given. with_tree (rooms_of most_modes given) (asked modes rule tree.now heuristic terms.now) (tree_checked most_modes modes tree.now)) (lent work.old table.old) (lent work.new table.new) result }
+) -> Result<u64, Refusal>
+    ensures { Assigns (λ given. with_tree (rooms_of most_modes given) (asked modes (rule_number rule) tree.now heuristic terms.now) (tree_checked most_modes modes tree.now)) (lent work.old table.old) (lent work.new table.new) result }
 {
-    match tree::check_tree(modes, tree) {
-        TreeChecked::Refused(refusal) => Assigned::Unassigned(refusal),
-        TreeChecked::Accepted => {
-            if 2 < heuristic {
-                return Assigned::Unassigned(Refusal::Heuristic);
-            }
-            assign_accepted(modes, rule, tree, heuristic, terms, work, table)
-        }
-    }
+    tree::check_tree(modes, tree)?;
+    let heuristic = Heuristic::try_from(heuristic)?;
+    assign_accepted(modes, rule, tree, heuristic, terms, work, table)
 }
 
 // The leaves of an accepted tree assigned to modes at the least weight, by this rule; or why the call is refused.
@@ -216,17 +189,10 @@ pub fn assign(
     terms: &[u16],
     work: &mut [u16],
     table: &mut [u16],
-) -> Assigned
+) -> Result<u64, Refusal>
     ensures { Assigns (λ given. outcome (rooms_of most_modes given) (asked modes rule tree.now heuristic terms.now)) (lent work.old table.old) (lent work.new table.new) result }
 {
-    if modes < 1 {
-        return Assigned::Unassigned(Refusal::Modes);
-    }
-    if 256 < modes {
-        return Assigned::Unassigned(Refusal::Modes);
-    }
-    if 1 < rule {
-        return Assigned::Unassigned(Refusal::Rule);
-    }
+    checking::check_modes(modes)?;
+    let rule = Rule::try_from(rule)?;
     assign_ruled(modes, rule, tree, heuristic, terms, work, table)
 }

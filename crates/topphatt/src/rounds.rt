@@ -4,6 +4,7 @@ ghost use Rattle.entities.specs.Limits.{most_modes, most_terms, row_width, work_
 ghost use Rattle.terms.specs.Rows.{terms_of};
 ghost use Rattle.terms.specs.code.Held.{Held, Worked};
 ghost use Rattle.terms.specs.Weight.{weight_of};
+ghost use Rattle.slots.specs.Heuristics.{heuristic_number};
 ghost use Rattle.slots.specs.code.Promises.{Distances};
 ghost use Rattle.choice.specs.Choices.{unassigned};
 ghost use Rattle.choice.specs.code.Seeking.{choice_of};
@@ -14,19 +15,11 @@ ghost use Rattle.topphatt.specs.code.Going.{task_with, Among, Chose, Fixed, Goin
 use choice::Selection;
 use entities::parents;
 use reduction::live_rows;
+use slots::heuristics::Heuristic;
 use slots::nodes;
 use terms::rules::Rule;
 use terms::{row, weight};
 use tree::table;
-
-// What the rounds have come to, beside the pairs' modes and the rows: how many there were, how many rows there are, and the sum of
-// chosen weights.
-#[derive(Clone, Copy)]
-pub struct Progress {
-    pub round: usize,
-    pub count: usize,
-    pub weight: usize,
-}
 
 // A leaf that isn't fixed yet is fixed as this number: its pair gets the number's mode.
 fn fix(modes: usize, tree: &[u16], node: usize, edge: usize, number: u16, assigned: &mut [u16])
@@ -46,7 +39,7 @@ fn fix_all(modes: usize, tree: &[u16], selection: Selection, assigned: &mut [u16
     requires { (modes ≤ most_modes) × (length assigned.old ≡ modes) × (length tree.now ≡ 3 * modes) × (selection.min_parent < modes) }
     ensures { Fixed modes tree.now (choice_of selection) assigned.old assigned.new }
 {
-    let node = entities::wide(selection.min_parent);
+    let node = usize::from(selection.min_parent);
     fix(modes, tree, node, 0, selection.leaf_indices.x, assigned);
     fix(modes, tree, node, 1, selection.leaf_indices.y, assigned);
     fix(modes, tree, node, 2, selection.leaf_indices.z, assigned);
@@ -57,13 +50,13 @@ fn choose<'a>(
     modes: usize,
     tree: &'a [u16],
     distances: &'a [usize],
-    heuristic: usize,
+    heuristic: Heuristic,
     rows: &'a [u16],
     count: usize,
     assigned: &'a [u16],
 ) -> Selection
     requires { Among most_modes modes tree.now distances.now rows.now count assigned.now }
-    ensures { Chose modes tree.now heuristic rows.now count assigned.now result }
+    ensures { Chose modes tree.now (heuristic_number heuristic) rows.now count assigned.now result }
 {
     let mut free = [0u16; 256];
     let unassigned = choice::fill_unassigned(modes, assigned, &mut free);
@@ -93,33 +86,28 @@ fn chosen_weight(rows: &[u16], count: usize, selection: Selection) -> usize
     selection.min_weight
 }
 
-// One round; its choice is sought in the rows that are there, gathered once.
+// One round; its choice is sought in the rows that are there, gathered once. The weight of the choice.
 fn round<'a>(
     modes: usize,
     rule: Rule,
     tree: &'a [u16],
     distances: &'a [usize],
-    heuristic: usize,
+    heuristic: Heuristic,
     rows: &mut [u16],
+    count: usize,
     assigned: &mut [u16],
-    progress: Progress,
-) -> Progress
-    requires going { Going most_modes modes tree.now distances.now rows.old assigned.old progress }
-    requires round_lt_modes { progress.round < modes }
-    ensures { RoundMade most_modes modes rule tree.now distances.now heuristic rows.old assigned.old progress rows.new assigned.new result }
+) -> usize
+    requires { Going most_modes modes tree.now distances.now rows.old count assigned.old }
+    ensures { RoundMade most_modes modes rule tree.now distances.now (heuristic_number heuristic) rows.old count assigned.old rows.new assigned.new result }
 {
     let mut live = [0u16; 16384];
-    let kept = live_rows::put_live(rows, progress.count, &mut live);
+    let kept = live_rows::put_live(rows, count, &mut live);
     let selection = choose(modes, tree, distances, heuristic, &live, kept, assigned);
     let weight = chosen_weight(&live, kept, selection);
     fix_all(modes, tree, selection, assigned);
-    let parent = parents::parent_number(modes, entities::wide(selection.min_parent));
-    reduction::reduce_hamiltonian(rows, progress.count, rule, parent, selection.leaf_indices);
-    Progress {
-        round: progress.round + 1,
-        count: progress.count,
-        weight: progress.weight + weight,
-    }
+    let parent = parents::parent_number(modes, usize::from(selection.min_parent));
+    reduction::reduce_hamiltonian(rows, count, rule, parent, selection.leaf_indices);
+    weight
 }
 
 // All rounds; the sum of chosen weights.
@@ -128,7 +116,7 @@ pub fn topphatt<'a>(
     rule: Rule,
     tree: &'a [u16],
     distances: &'a [usize],
-    heuristic: usize,
+    heuristic: Heuristic,
     rows: &mut [u16],
     count: usize,
     assigned: &mut [u16],
@@ -136,20 +124,16 @@ pub fn topphatt<'a>(
     requires le_modes { (1 ≤ modes) × (modes ≤ most_modes) × (count ≤ most_terms) × (length tree.now ≡ 3 * modes) × (assigned.old ≡ replicate modes modes) }
     requires distances { Distances modes tree.now distances.now }
     requires worked { Worked count rows.old }
-    ensures { Ended modes count (ended (task_with modes rule tree.now heuristic (terms_of work_width count rows.old))) rows.old rows.new assigned.new result }
+    ensures { Ended modes count (ended (task_with modes rule tree.now (heuristic_number heuristic) (terms_of work_width count rows.old))) rows.old rows.new assigned.new result }
 {
-    let mut progress = Progress {
-        round: 0,
-        count: count,
-        weight: 0,
-    };
-    while progress.round < modes {
+    let mut weight = 0;
+    for _ in 0..modes {
         if choice::all_assigned(modes, assigned) {
-            return progress.weight;
+            return weight;
         }
-        progress = round(
-            modes, rule, tree, distances, heuristic, rows, assigned, progress,
+        weight += round(
+            modes, rule, tree, distances, heuristic, rows, count, assigned,
         );
     }
-    progress.weight
+    weight
 }

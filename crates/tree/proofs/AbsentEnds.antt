@@ -1,5 +1,6 @@
 -- The absent child of an accepted tree ends the root's z-chain. Going up along Z edges from the end of a chain arrives where the chain began;
 -- every leaf ends the chain of some X or Y child, which is not the root; and a chain of more than n nodes would repeat one.
+use Rattle.std.specs.Prelude.{Ok}
 use mathlib.Core.Path.{◌≡◌, refl, ap, ◌∙◌, sym}
 use mathlib.Core.Bool.{Bool, true, false, cond, ◌||◌}
 use mathlib.Core.List.{List, [], ◌∷◌}
@@ -14,7 +15,6 @@ use Rattle.lists.proofs.Every.{every_cons}
 use Rattle.lists.proofs.Occurring.{occurs_at}
 use Rattle.lists.proofs.Pigeonholes.{at_most_holes}
 use Rattle.entities.specs.Codes.{absent}
-use Rattle.tree.specs.declared.TreeChecked.TheVariants.{Accepted}
 use Rattle.tree.specs.Table.{child, place_of_code}
 use Rattle.tree.specs.OneTree.{root_of}
 use Rattle.tree.specs.Pairs.{chain_end}
@@ -169,7 +169,7 @@ module _ (modes : ℕ) (table : List ℕ) (whole : length table ≡ 3 * modes) (
       sym (end_to_top (child table node edge) (child_begins node edge h k) modes) ∙ ap (chain_top table modes) e ∙ end_to_top root root_begins modes in
       omega (arith, says.top, occurs_at root table (3 * node + edge) absent (omega arith) same_top)
 
-module _ (most modes : ℕ) (table : List ℕ) (accepted : tree_checked most modes table ≡ Accepted) where
+module _ (most modes : ℕ) (table : List ℕ) (accepted : tree_checked most modes table ≡ Ok tt) where
   -- The root's chain ends in no node: n + 1 nodes would be met, and each is met once.
   no_node_ends : chain_end modes table modes (root_of modes table) < modes → ⊥
   unfolding met

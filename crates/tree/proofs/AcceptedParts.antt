@@ -1,4 +1,5 @@
 -- A table is accepted where every condition of the check holds, and only there.
+use Rattle.std.specs.Prelude.{Ok}
 use mathlib.Core.Path.{◌≡◌, refl}
 use mathlib.Core.Bool.{Bool, true, false, ◌&&◌, and-eq-true_iff}
 use mathlib.Core.List.{List}
@@ -8,7 +9,6 @@ use borrow.Author.Tests.{eq-eqb, le-leb, le-ltb, eqb-true, leb-true, ltb-false}
 use lib.Dec.{eqb, ltb, leb}
 use lib.ListN.{length}
 use Rattle.terms.specs.Good.{modes_good}
-use Rattle.tree.specs.declared.TreeChecked.TheVariants.{Accepted}
 use Rattle.tree.specs.OneTree.{one_tree}
 use Rattle.tree.specs.Pairs.{pairs_right}
 use Rattle.tree.specs.Check.{codes_good, tree_checked}
@@ -22,7 +22,7 @@ pub record AcceptedParts (most modes : ℕ) (table : List ℕ) : Type 0 where
   pub right : modes ≤ pairs_right modes table
 
 module _ (most modes : ℕ) (table : List ℕ) where
-  pub accepted_parts : tree_checked most modes table ≡ Accepted → AcceptedParts most modes table
+  pub accepted_parts : tree_checked most modes table ≡ Ok tt → AcceptedParts most modes table
   unfolding tree_checked modes_good
   accepted_parts e =
       go (leb 1 modes && leb modes most) refl (eqb (length table) (3 * modes)) refl
@@ -47,7 +47,7 @@ module _ (most modes : ℕ) (table : List ℕ) where
             right = ltb-false (pairs_right modes table) modes er;
           }
 
-  pub parts_accepted : AcceptedParts most modes table → tree_checked most modes table ≡ Accepted
+  pub parts_accepted : AcceptedParts most modes table → tree_checked most modes table ≡ Ok tt
   unfolding tree_checked modes_good
   parts_accepted p =
       rw (

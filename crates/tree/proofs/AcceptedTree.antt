@@ -1,5 +1,6 @@
 -- Acceptance as a reader states it: going down from the root meets every node, every leaf and the absent child exactly once,
 -- and for each k one node's X and Y z-chains end in leaves 2k and 2k+1.
+use Rattle.std.specs.Prelude.{Ok}
 use mathlib.Core.Path.{◌≡◌, refl, ◌∙◌, sym}
 use mathlib.Core.Bool.{Bool, true, false, and-eq-true_iff}
 use mathlib.Core.List.{List}
@@ -15,7 +16,6 @@ use Rattle.lists.proofs.Sums.{same_one, same_none}
 use Rattle.lists.proofs.Listed.{listed_at}
 use Rattle.lists.proofs.Ranges.{some_within, some_from, leading_from}
 use Rattle.entities.specs.Codes.{absent}
-use Rattle.tree.specs.declared.TreeChecked.TheVariants.{Accepted}
 use Rattle.tree.specs.Table.{nodes, child, climb}
 use Rattle.tree.specs.OneTree.{root_of}
 use Rattle.tree.specs.Pairs.{chain_end, pair_under, pair_right, pairs_right}
@@ -72,7 +72,7 @@ pairs_say modes table right k h =
     let both = (and-eq-true_iff (eqb (chain_end modes table modes (child table node 0)) (modes + 2 * k)) _).0 found.2 in
     (node, record { inside = omega (arith, found.1); even = eqb-true _ _ both.0; odd = eqb-true _ _ both.1 })
 
-module _ (most modes : ℕ) (table : List ℕ) (accepted : tree_checked most modes table ≡ Accepted) where
+module _ (most modes : ℕ) (table : List ℕ) (accepted : tree_checked most modes table ≡ Ok tt) where
   pub accepted_says : OneTreeSays modes table (root_of modes table)
   accepted_says =
       let parts = accepted_parts most modes table accepted in

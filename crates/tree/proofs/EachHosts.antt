@@ -1,5 +1,6 @@
 -- In an accepted tree each node has one pair: the z-chains from its X and Y children end in leaves 2k and 2k+1 for some k.
 -- For each k there is such a node, no two k have the same, and there are as many nodes as pairs.
+use Rattle.std.specs.Prelude.{Ok}
 use mathlib.Core.Path.{◌≡◌, refl, ap, ◌∙◌, sym}
 use mathlib.Core.Bool.{Bool, true, false, ◌||◌}
 use mathlib.Core.List.{List}
@@ -9,7 +10,6 @@ use borrow.Author.Tests.{eqb-true, ltb-true, ltb-false}
 use lib.Dec.{eqb, ltb}
 use Rattle.lists.proofs.Onto.{onto}
 use Rattle.entities.specs.Codes.{absent}
-use Rattle.tree.specs.declared.TreeChecked.TheVariants.{Accepted}
 use Rattle.tree.specs.Table.{child, place_of_code}
 use Rattle.tree.specs.OneTree.{root_of}
 use Rattle.tree.specs.Pairs.{chain_end}
@@ -24,7 +24,7 @@ use Rattle.tree.proofs.AbsentEnds.{chain_top, child_place, child_begins, end_to_
 unfoldable pub host : ℕ → List ℕ → ℕ → ℕ
 host modes table k = place_of_code table (chain_top table modes (modes + 2 * k)) / 3
 
-module _ (most modes : ℕ) (table : List ℕ) (accepted : tree_checked most modes table ≡ Accepted) where
+module _ (most modes : ℕ) (table : List ℕ) (accepted : tree_checked most modes table ≡ Ok tt) where
   host_is : (k node : ℕ) → PairUnder modes table k node → host modes table k ≡ node
   unfolding host
   host_is k node pair =

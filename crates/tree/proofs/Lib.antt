@@ -1,4 +1,5 @@
--- The laws of the tree table, of rows laid out as one, of its check, and of writing a tree.
+-- The laws of chains over ranges and tables, of the tree table, of rows laid out as one, of its check, and of writing a tree.
+pub mod Chains
 pub mod TableSteps
 pub mod LayingRows
 pub mod LaidTable

@@ -1,13 +1,12 @@
 -- "Accepted trees: one root, every node reached, each other node and each leaf exactly once, one absent child; and for each k, leaves 2k
 -- and 2k+1 end the z-chains from one node's X and Y children, 2k under X", as a reader goes down the tree.
-use Rattle.std.specs.Prelude.{◌≡◌, cond, List, [], ◌∷◌, ◌++◌, ℕ, zero, suc, ◌+◌, ◌*◌, ◌<◌, ◌≤◌, ltb, length}
+use Rattle.std.specs.Prelude.{◌≡◌, cond, List, [], ◌∷◌, ◌++◌, ℕ, zero, suc, ◌+◌, ◌*◌, ◌<◌, ◌≤◌, ltb, length, Ok}
 use Rattle.lists.specs.Counting.{occurrences}
 use Rattle.entities.specs.Codes.{absent}
 use Rattle.tree.specs.Table.{child}
 use Rattle.tree.specs.OneTree.{root_of}
 use Rattle.tree.specs.Pairs.{chain_end}
 use Rattle.tree.specs.Check.{tree_checked}
-use Rattle.tree.specs.declared.TreeChecked.TheVariants.{Accepted}
 
 -- The codes met going down from a code through at most so many nodes: the code, and where it is a node those under its three children.
 unfoldable pub under : ℕ → List ℕ → ℕ → ℕ → List ℕ
@@ -34,9 +33,9 @@ pub record IsTree (modes : ℕ) (table : List ℕ) (root : ℕ) : Type 0 where
 -- An accepted table is such a tree, and every table of 3n codes that is one is accepted.
 abbrev pub AcceptedIsTree : Type 0
 AcceptedIsTree =
-    (most modes : ℕ) (table : List ℕ) → tree_checked most modes table ≡ Accepted → IsTree modes table (root_of modes table)
+    (most modes : ℕ) (table : List ℕ) → tree_checked most modes table ≡ Ok tt → IsTree modes table (root_of modes table)
 
 abbrev pub TreeIsAccepted : Type 0
 TreeIsAccepted =
     (most modes : ℕ) (table : List ℕ) (root : ℕ) → modes ≤ most → 3 * modes ≤ absent → length table ≡ 3 * modes
-    → IsTree modes table root → tree_checked most modes table ≡ Accepted
+    → IsTree modes table root → tree_checked most modes table ≡ Ok tt

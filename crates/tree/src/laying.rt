@@ -4,7 +4,6 @@ ghost use Rattle.entities.specs.Codes.{absent};
 ghost use Rattle.tree.specs.Laying.{row_over, laid_over, modes_in, table_of};
 
 use entities::codes;
-use terms::slices;
 
 // A node's three children put in their place, where the table has it.
 fn lay_row(table: &mut [u16], label: usize, x: u16, y: u16, z: u16)
@@ -23,19 +22,9 @@ fn lay_row(table: &mut [u16], label: usize, x: u16, y: u16, z: u16)
 pub fn lay_rows(rows: &[u16], table: &mut [u16])
     ensures { table.new ≡ laid_over (replicate (length table.old) absent) rows.now }
 {
-    slices::fill(table, codes::ABSENT);
-    let count = rows.len() / 4;
-    let mut done = 0;
-    while done < count {
-        let at = 4 * done;
-        lay_row(
-            table,
-            entities::wide(rows[at]),
-            rows[at + 1],
-            rows[at + 2],
-            rows[at + 3],
-        );
-        done += 1;
+    table.fill(codes::ABSENT);
+    for row in rows.chunks_exact(4) {
+        lay_row(table, usize::from(row[0]), row[1], row[2], row[3]);
     }
 }
 

@@ -14,50 +14,28 @@ fn leaves_once(modes: usize, tree: &[u16]) -> bool
     requires { modes ≤ most_modes }
     ensures { result ≡ leaves_once modes tree.now }
 {
-    let end = 3 * modes;
-    let mut code = modes;
-    while code < end {
-        if table::count(tree, code) != 1 {
-            return false;
-        }
-        code += 1;
-    }
-    true
+    (modes..3 * modes).all(|leaf| table::count(tree, leaf) == 1)
 }
 
 // How often a node is to stand in the table: the root nowhere, any other once.
 fn times_due(node: usize, root: usize) -> usize
     ensures { result ≡ cond (eqb node root) 0 1 }
 {
-    if node == root { 0 } else { 1 }
+    usize::from(node != root)
 }
 
 // Each node but the root stands once, and the root nowhere.
 fn nodes_once(modes: usize, tree: &[u16], root: usize) -> bool
     ensures { result ≡ every (λ node. eqb (occurrences node tree.now) (cond (eqb node root) 0 1)) (nodes modes) }
 {
-    let mut node = 0;
-    while node < modes {
-        if table::count(tree, node) != times_due(node, root) {
-            return false;
-        }
-        node += 1;
-    }
-    true
+    (0..modes).all(|node| table::count(tree, node) == times_due(node, root))
 }
 
 // The way up from each node arrives at the root.
 fn all_reached(modes: usize, tree: &[u16], root: usize) -> bool
     ensures { result ≡ every (λ node. eqb (climbed tree.now modes node) root) (nodes modes) }
 {
-    let mut node = 0;
-    while node < modes {
-        if table::climb(tree, modes, node) != root {
-            return false;
-        }
-        node += 1;
-    }
-    true
+    (0..modes).all(|node| table::climb(tree, modes, node) == root)
 }
 
 // One root, every node reached, each other node and each leaf exactly once, one absent child.
@@ -65,15 +43,9 @@ pub fn one_tree(modes: usize, tree: &[u16]) -> bool
     requires { modes ≤ most_modes }
     ensures { result ≡ one_tree modes tree.now }
 {
-    if !leaves_once(modes, tree) {
-        return false;
-    }
-    if table::count(tree, codes::ABSENT as usize) != 1 {
+    if !leaves_once(modes, tree) || table::count(tree, codes::ABSENT as usize) != 1 {
         return false;
     }
     let root = table::climb(tree, modes, 0);
-    if !nodes_once(modes, tree, root) {
-        return false;
-    }
-    all_reached(modes, tree, root)
+    nodes_once(modes, tree, root) && all_reached(modes, tree, root)
 }

@@ -10,13 +10,11 @@ fn chain_end(modes: usize, tree: &[u16], code: usize) -> usize
     ensures { result ≡ chain_end modes tree.now modes code }
 {
     let mut at = code;
-    let mut left = modes;
-    while 0 < left {
+    for _ in 0..modes {
         if modes <= at {
             return at;
         }
         at = table::child(tree, at, 2);
-        left -= 1;
     }
     at
 }
@@ -27,10 +25,8 @@ fn pair_under(modes: usize, tree: &[u16], k: usize, node: usize) -> bool
     ensures { result ≡ pair_under modes tree.now k node }
 {
     let even = modes + 2 * k;
-    if chain_end(modes, tree, table::child(tree, node, 0)) != even {
-        return false;
-    }
-    chain_end(modes, tree, table::child(tree, node, 1)) == even + 1
+    chain_end(modes, tree, table::child(tree, node, 0)) == even
+        && chain_end(modes, tree, table::child(tree, node, 1)) == even + 1
 }
 
 // Pair k ends the z-chains from some node's X and Y children.
@@ -38,14 +34,7 @@ fn pair_right(modes: usize, tree: &[u16], k: usize) -> bool
     requires { (length tree.now ≡ 3 * modes) × (k < modes) }
     ensures { result ≡ pair_right modes tree.now k }
 {
-    let mut node = 0;
-    while node < modes {
-        if pair_under(modes, tree, k, node) {
-            return true;
-        }
-        node += 1;
-    }
-    false
+    (0..modes).any(|node| pair_under(modes, tree, k, node))
 }
 
 // How many pairs are right before the least k whose pair is wrong.
@@ -53,12 +42,7 @@ pub fn pairs_right(modes: usize, tree: &[u16]) -> usize
     requires { length tree.now ≡ 3 * modes }
     ensures { result ≡ pairs_right modes tree.now }
 {
-    let mut k = 0;
-    while k < modes {
-        if !pair_right(modes, tree, k) {
-            return k;
-        }
-        k += 1;
-    }
-    k
+    (0..modes)
+        .position(|k| !pair_right(modes, tree, k))
+        .unwrap_or(modes)
 }

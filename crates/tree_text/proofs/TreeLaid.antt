@@ -6,26 +6,9 @@ use native.Mathlib.Omega.{arith}
 use lib.ListN.{length, take}
 use lib.Seq.{length-take-le}
 use Rattle.tree.specs.Laying.{modes_in, table_of}
-use Rattle.nodes_text.specs.declared.Nodes.{Nodes}
-use Rattle.nodes_text.specs.declared.Nodes.TheVariants.{Are, Malformed}
-use Rattle.nodes_text.specs.TreeInput.{TreeSaid, malformed}
-use Rattle.nodes_text.specs.code.Reading.{NodesFound, Reads}
-use Rattle.tree_text.specs.code.Reading.{TreeRead, ReadsTree, RowsFit}
-
--- What is known of an answer, case by case.
-module _ (most : ℕ) (meant : TreeSaid) (rows : List ℕ) where
-  pub nodes_found : (r : Nodes) → Reads most meant rows r → (count : ℕ) → r ≡ Are count → NodesFound most meant rows count
-  nodes_found r reads count e = rw e at reads
-
-  pub nodes_malformed : (r : Nodes) → Reads most meant rows r → (line : ℕ) → r ≡ Malformed line → meant ≡ malformed line
-  nodes_malformed r reads line e = rw e at reads
-
-  module _ (table : List ℕ) where
-    pub tree_read : (r : Nodes) → ReadsTree most meant rows table r → (count : ℕ) → r ≡ Are count → TreeRead most meant rows table count
-    tree_read r reads count e = rw e at reads
-
-    pub tree_malformed : (r : Nodes) → ReadsTree most meant rows table r → (line : ℕ) → r ≡ Malformed line → meant ≡ malformed line
-    tree_malformed r reads line e = rw e at reads
+use Rattle.nodes_text.specs.TreeInput.{TreeSaid}
+use Rattle.nodes_text.specs.code.Reading.{NodesFound}
+use Rattle.tree_text.specs.code.Reading.{TreeRead, RowsFit}
 
 -- So many rows in front of a room for the most have as many modes.
 pub modes_front : (most count : ℕ) (rows : List ℕ) → count ≤ most → length rows ≡ 4 * most → modes_in (take (4 * count) rows) ≡ count

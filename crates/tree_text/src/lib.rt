@@ -21,10 +21,7 @@ pub fn check_answer(tree: &[u8]) -> Printed
     let found = checked::check_said(tree, &mut rows, &mut table);
     let mut bytes = [0u8; 16384];
     let count = checked::put_checked(&mut bytes, found);
-    Printed {
-        bytes: bytes,
-        count: count,
-    }
+    Printed { bytes, count }
 }
 
 // What `weigh` prints for a tree and terms.
@@ -36,8 +33,5 @@ pub fn weigh_answer(tree: &[u8], input: &[u8]) -> Printed
     let found = weighed::weigh_said(tree, input, &mut rows, &mut table);
     let mut bytes = [0u8; 16384];
     let count = weighed::put_weighed(&mut bytes, found);
-    Printed {
-        bytes: bytes,
-        count: count,
-    }
+    Printed { bytes, count }
 }

@@ -1,5 +1,6 @@
 -- "For an accepted tree: over every listed row and every node, 1 where the parities of the row's indices under X, Y, Z aren't all equal"; 02: rows that are the same operator count once.
-use Rattle.std.specs.Prelude.{◌≡◌, cond, ◌&&◌, List, [], ◌∷◌, map, ℕ, zero, suc, ◌+◌, ◌*◌, ◌%◌, ◌/◌, eqb, ltb, length}
+use Rattle.refusal.specs.declared.Refusal.{Refusal}
+use Rattle.std.specs.Prelude.{◌≡◌, cond, ◌&&◌, List, [], ◌∷◌, map, ℕ, zero, suc, ◌+◌, ◌*◌, ◌%◌, ◌/◌, eqb, ltb, length, Err, Ok, Result}
 use Rattle.lists.specs.Counting.{sum, occurrences}
 use Rattle.refusal.specs.Numbers.{refused_numbers, done_numbers}
 use Rattle.entities.specs.Limits.{row_width}
@@ -7,14 +8,8 @@ use Rattle.terms.specs.Rows.{terms_of}
 use Rattle.terms.specs.Good.{checked}
 use Rattle.terms.specs.Letters.{counted_letter, not_none}
 use Rattle.terms.specs.declared.letters.Letter.{Letter}
-use Rattle.terms.specs.declared.checking.Checked.{Checked}
-use Rattle.terms.specs.declared.checking.Checked.TheVariants.{Good, Refused as BadTerms}
-use Rattle.tree.specs.declared.TreeChecked.{TreeChecked}
-use Rattle.tree.specs.declared.TreeChecked.TheVariants.{Accepted, Refused}
 use Rattle.tree.specs.Table.{nodes, place_of_code}
 use Rattle.tree.specs.Check.{tree_checked}
-use Rattle.tree_weight.specs.declared.TreeWeighed.{TreeWeighed}
-use Rattle.tree_weight.specs.declared.TreeWeighed.TheVariants.{Weight, Unweighed}
 use Rattle.tree_weight.specs.Operators.{operators}
 
 -- The edge of a node under which a code stands, 0, 1 or 2, found by climbing; 3 where it stands under none.
@@ -59,20 +54,20 @@ unfoldable pub tree_weight : ℕ → List ℕ → List (List ℕ) → ℕ
 tree_weight modes table terms = sum (map (row_weight modes table) (operators (2 * modes) terms))
 
 -- The weight where the terms are good too: "Tree weight continues 2, 3, 4."
-unfoldable pub weighed_terms : ℕ → List ℕ → List ℕ → Checked → TreeWeighed
-weighed_terms modes table numbers (Good count) = Weight (tree_weight modes table (terms_of row_width count numbers))
-weighed_terms modes table numbers (BadTerms refusal) = Unweighed refusal
+unfoldable pub weighed_terms : ℕ → List ℕ → List ℕ → Result ℕ Refusal → Result ℕ Refusal
+weighed_terms modes table numbers (Ok count) = Ok (tree_weight modes table (terms_of row_width count numbers))
+weighed_terms modes table numbers (Err refusal) = Err refusal
 
 -- 1 and 13 to 16 of the tree.
-unfoldable pub weighed_tree : ℕ → List ℕ → List ℕ → TreeChecked → TreeWeighed
-weighed_tree modes table numbers Accepted = weighed_terms modes table numbers (checked modes numbers)
-weighed_tree modes table numbers (Refused refusal) = Unweighed refusal
+unfoldable pub weighed_tree : ℕ → List ℕ → List ℕ → Result (Unit {0}) Refusal → Result ℕ Refusal
+weighed_tree modes table numbers (Ok tt) = weighed_terms modes table numbers (checked modes numbers)
+weighed_tree modes table numbers (Err refusal) = Err refusal
 
 -- The meaning of `tree_weight`.
-unfoldable pub tree_weighed : ℕ → ℕ → List ℕ → List ℕ → TreeWeighed
+unfoldable pub tree_weighed : ℕ → ℕ → List ℕ → List ℕ → Result ℕ Refusal
 tree_weighed most modes table numbers = weighed_tree modes table numbers (tree_checked most modes table)
 
 -- The numbers of an answer: refusal, place, weight.
-unfoldable pub weight_numbers : TreeWeighed → List ℕ
-weight_numbers (Weight weight) = done_numbers (weight ∷ [])
-weight_numbers (Unweighed refusal) = refused_numbers 1 refusal
+unfoldable pub weight_numbers : Result ℕ Refusal → List ℕ
+weight_numbers (Ok weight) = done_numbers (weight ∷ [])
+weight_numbers (Err refusal) = refused_numbers 1 refusal

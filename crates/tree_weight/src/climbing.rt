@@ -10,10 +10,8 @@ pub fn fill_places(tree: &[u16], places: &mut [usize])
     requires { length tree.now ≤ length places.old }
     ensures { Places tree.now places.new }
 {
-    let mut code = 0;
-    while code < tree.len() {
+    for code in 0..tree.len() {
         places[code] = table::place_of(tree, code);
-        code += 1;
     }
 }
 
@@ -24,8 +22,7 @@ pub fn edge_under(tree: &[u16], places: &[usize], steps: usize, node: usize, cod
     ensures { result ≡ edge_under tree.now steps node code }
 {
     let mut at = code;
-    let mut left = steps;
-    while 0 < left {
+    for _ in 0..steps {
         let place = places[at];
         if tree.len() <= place {
             return 3;
@@ -34,7 +31,6 @@ pub fn edge_under(tree: &[u16], places: &[usize], steps: usize, node: usize, cod
         if at == node {
             return place % 3;
         }
-        left -= 1;
     }
     3
 }

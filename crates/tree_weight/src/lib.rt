@@ -10,20 +10,11 @@ ghost use Rattle.tree_weight.specs.code.Promises.{Places, GoodRows, RowsBelow, o
 ghost use Rattle.tree_weight.specs.Weight.{node_letter, row_weight, listed_weight, tree_weight, tree_weighed, weight_numbers};
 
 use refusal::Refusal;
-use terms::checking::Checked;
 use terms::letters::Letter;
 use terms::{checking, letters, row};
-use tree::{TreeChecked, table};
 
 pub mod climbing;
 mod operators;
-
-// What the tree weight says: the weight, or why it is refused.
-#[derive(Clone, Copy)]
-pub enum TreeWeighed {
-    Weight(u64),
-    Unweighed(Refusal),
-}
 
 // The letter of the term at the node: that of how many of its indices stand under X, Y and Z.
 fn node_letter(modes: usize, tree: &[u16], places: &[usize], term: &[u16], node: usize) -> Letter
@@ -35,19 +26,11 @@ fn node_letter(modes: usize, tree: &[u16], places: &[usize], term: &[u16], node:
     let mut xs: usize = 0;
     let mut ys: usize = 0;
     let mut zs: usize = 0;
-    let mut at = 0;
-    while at < term.len() {
-        let edge = climbing::edge_under(
-            tree,
-            places,
-            modes + 1,
-            node,
-            modes + entities::wide(term[at]),
-        );
-        xs += table::same(edge, 0);
-        ys += table::same(edge, 1);
-        zs += table::same(edge, 2);
-        at += 1;
+    for index in term {
+        let edge = climbing::edge_under(tree, places, modes + 1, node, modes + usize::from(*index));
+        xs += usize::from(edge == 0);
+        ys += usize::from(edge == 1);
+        zs += usize::from(edge == 2);
     }
     letters::counted_letter(xs, ys, zs)
 }
@@ -60,10 +43,8 @@ fn row_weight(modes: usize, tree: &[u16], places: &[usize], term: &[u16]) -> u64
     ensures { (result ≡ row_weight modes tree.now term.now) × (result ≤ modes) }
 {
     let mut sum: u64 = 0;
-    let mut node = 0;
-    while node < modes {
+    for node in 0..modes {
         sum += letters::not_none(node_letter(modes, tree, places, term, node)) as u64;
-        node += 1;
     }
     sum
 }
@@ -76,15 +57,13 @@ fn rows_weight(modes: usize, tree: &[u16], places: &[usize], terms: &[u16], coun
     ensures { result ≡ listed_weight modes tree.now (terms_of work_width count terms.now) }
 {
     let mut sum: u64 = 0;
-    let mut place = 0;
-    while place < count {
+    for place in 0..count {
         sum += row_weight(
             modes,
             tree,
             places,
             row::term_at(terms, row::WORK_WIDTH, place),
         );
-        place += 1;
     }
     sum
 }
@@ -120,14 +99,10 @@ fn accepted_weight(modes: usize, tree: &[u16], terms: &[u16], count: usize) -> u
 }
 
 // The tree weight of the terms, or why tree or terms are refused.
-pub fn tree_weight(modes: usize, tree: &[u16], terms: &[u16]) -> TreeWeighed
+pub fn tree_weight(modes: usize, tree: &[u16], terms: &[u16]) -> Result<u64, Refusal>
     ensures { Tells weight_numbers (tree_weighed most_modes modes tree.now terms.now) result }
 {
-    match tree::check_tree(modes, tree) {
-        TreeChecked::Refused(refusal) => TreeWeighed::Unweighed(refusal),
-        TreeChecked::Accepted => match checking::check_terms(modes, terms) {
-            Checked::Refused(refusal) => TreeWeighed::Unweighed(refusal),
-            Checked::Good(count) => TreeWeighed::Weight(accepted_weight(modes, tree, terms, count)),
-        },
-    }
+    tree::check_tree(modes, tree)?;
+    let count = checking::check_terms(modes, terms)?;
+    Ok(accepted_weight(modes, tree, terms, count))
 }

@@ -31,10 +31,8 @@ fn surviving_row(term: &[u16]) -> [u16; 9]
 {
     let mut row = [0u16; 9];
     let mut count: usize = 0;
-    let mut at = 0;
-    while at < term.len() {
-        count = put_index(&mut row, count, term[at]);
-        at += 1;
+    for index in term {
+        count = put_index(&mut row, count, *index);
     }
     // cancelled indices may still stand behind the term; a row of none is zeros
     if count == 0 {
@@ -50,11 +48,9 @@ fn put_surviving(terms: &[u16], count: usize, own: &mut [u16])
     requires count_in_bounds { work_width * count ≤ length own.old }
     ensures { SurvivingRows count terms.now own.new }
 {
-    let mut place = 0;
-    while place < count {
+    for place in 0..count {
         let row = surviving_row(row::term_at(terms, row::WIDTH, place));
         row::put_row(own, row::WORK_WIDTH, place, &row);
-        place += 1;
     }
 }
 

@@ -9,15 +9,15 @@ pub put_nodes-requires : goal.put_nodes-requires
 unfolding modes_in
 put_nodes-requires c = omega (arith, c.put_value-end.ensures.value.1, c.put_value-end.auto, c.requires)
 
-pub returns-in-Unassigned : goal.returns-in-Unassigned
+pub returns-in-Err : goal.returns-in-Err
 unfolding found_text
-returns-in-Unassigned c = rw c.in-Unassigned.is c.put_refusal.ensures
+returns-in-Err c = rw c.in-Err.is c.put_refusal.ensures
 
-pub returns-in-Weight : goal.returns-in-Weight
+pub returns-in-Ok : goal.returns-in-Ok
 unfolding found_text modes_in
-returns-in-Weight c =
+returns-in-Ok c =
     let value = c.put_value-end.ensures in
     let lines = c.put_nodes.ensures in
-    rw c.in-Weight.is
-    (found_wrote c.in-Weight.weight c.args.rows.now c.args.out.now (record { behind = value.value.0; written = value.out_after })
+    rw c.in-Ok.is
+    (found_wrote c.in-Ok.weight c.args.rows.now c.args.out.now (record { behind = value.value.0; written = value.out_after })
     (record { behind = lines.value.0; written = lines.out_after }) (omega (arith, value.value.1, c.requires)) (omega (arith, value.value.1, lines.value.1, c.requires)))

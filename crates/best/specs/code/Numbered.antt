@@ -5,7 +5,7 @@ use Rattle.lists.specs.Members.{keep}
 use Rattle.entities.specs.declared.Triple.{Triple}
 use Rattle.tree_weight.specs.code.Promises.{own_weight}
 use Rattle.finished.specs.Finished.{tree_of}
-use Rattle.best.specs.declared.search.Lead.{Lead}
+use Rattle.best.specs.declared.Least.{Least}
 use Rattle.best.specs.Sequences.{lawful_triples, sequence_count, sequences}
 use Rattle.best.specs.Call.{most_to_try, sequence_numbers}
 
@@ -45,7 +45,7 @@ unfoldable pub lead_reached : {A : Type 0} → (A → ℕ) → A → List A → 
 lead_reached measure none list k = length (keep (λ a. eqb (measure a) (measure (lead_first measure none list k))) (take k list))
 
 -- What is known after the first k sequences: the least weight, how many reach it, and the first of them at the front of the numbers.
-pub record Led (modes count : ℕ) (own : List ℕ) (k : ℕ) (lead : Lead) (numbers : List ℕ) : Type 0 where
+pub record Led (modes count : ℕ) (own : List ℕ) (k : ℕ) (lead : Least) (numbers : List ℕ) : Type 0 where
   pub weight_is : lead.weight ≡ weight_by modes count own (lead_first (weight_by modes count own) [] (sequences modes) k)
   pub reached_is : lead.reached ≡ lead_reached (weight_by modes count own) [] (sequences modes) k
   pub front_is : take (3 * modes) numbers ≡ sequence_numbers (lead_first (weight_by modes count own) [] (sequences modes) k)

@@ -1,6 +1,7 @@
 -- What the call answered is printed, the merges from the numbers that it left.
-use mathlib.Core.Path.{ap, ◌∙◌, sym}
+use mathlib.Core.Path.{◌≡◌, ap, ◌∙◌}
 use native.Mathlib.Omega.{arith}
+use lib.ListN.{length}
 use Rattle.terms_text.specs.Input.{given}
 use Rattle.best_text.specs.Printing.{best_as}
 use Rattle.best_text.proofs.BestPrinted.{refused_printed, modes_few, found_told}
@@ -10,17 +11,19 @@ pub put_found-requires : goal.put_found-requires
 put_found-requires c =
     let args = c.args in
     let call = c.best in
-    let few = modes_few 4 args.modes args.numbers.now args.sequence.now _ _ call.ensures _ _ c.in-Found.is in
-    (c.requires.1, few, omega (arith, few, call.auto, c.requires.0))
+    let few = modes_few 4 args.modes args.numbers.now args.sequence.now _ _ call.ensures _ c.in-Ok.is in
+    (few, omega (arith, few))
 
-pub returns-in-Unfound : goal.returns-in-Unfound
-returns-in-Unfound c =
+pub returns-in-Err : goal.returns-in-Err
+returns-in-Err c =
     let args = c.args in
-    let told = refused_printed 4 args.modes args.numbers.now args.sequence.now _ _ c.best.ensures _ c.in-Unfound.is in
-    rw (ap (λ room. best_as 4 room (given args.modes args.numbers.now)) (sym c.requires.0) ∙ told) c.put_refusal.ensures
+    let room : 12 ≡ length args.sequence.now = omega arith in
+    let told = refused_printed 4 args.modes args.numbers.now args.sequence.now _ _ c.best.ensures _ c.in-Err.is in
+    rw (ap (λ n. best_as 4 n (given args.modes args.numbers.now)) room ∙ told) c.put_refusal.ensures
 
-pub returns-in-Found : goal.returns-in-Found
-returns-in-Found c =
+pub returns-in-Ok : goal.returns-in-Ok
+returns-in-Ok c =
     let args = c.args in
-    let told = found_told 4 args.modes args.numbers.now args.sequence.now _ _ c.best.ensures _ _ c.in-Found.is in
-    rw (ap (λ room. best_as 4 room (given args.modes args.numbers.now)) (sym c.requires.0) ∙ told) c.put_found.ensures
+    let room : 12 ≡ length args.sequence.now = omega arith in
+    let told = found_told 4 args.modes args.numbers.now args.sequence.now _ _ c.best.ensures _ c.in-Ok.is in
+    rw (ap (λ n. best_as 4 n (given args.modes args.numbers.now)) room ∙ told) c.put_found.ensures

@@ -11,7 +11,7 @@ returns c =
     let first = c.put_value-first.ensures in
     let second = c.put_value-second.ensures in
     let third = c.put_merges.ensures in
-    let all = found_wrote args.weight args.reached (history_in args.sequence.now args.modes) args.out.now
+    let all = found_wrote args.least.weight args.least.reached (history_in args.sequence.now args.modes) args.out.now
     (record { behind = first.value.0; written = first.out_after }) (record { behind = second.value.0; written = second.out_after })
     (record { behind = third.value.0; written = third.out_after }) (omega (arith, first.value.1, second.value.1, c.requires.0)) in
-    wrote_puts all (omega (arith, first.value.1, second.value.1, third.value.1, c.requires.0, c.requires.1))
+    wrote_puts all (omega (arith, first.value.1, second.value.1, third.value.1, c.requires.0))

@@ -13,7 +13,7 @@ best_of_slots-requires c =
 pub returns : goal.returns
 returns c =
     let are = c.slots-at.ensures in
-    let node = c.wide.ensures.0 in
+    let node = c.from.ensures in
     let choices = numbered_at c.args.modes c.args.tree.now c.args.assigned.now _ _ are in
     rw (over_one c.args.modes c.args.tree.now c.args.assigned.now _ c.args.best c.args.node)
     (rw (← node, ← choices, ← c.requires.free_value) (rw (← node) at c.best_of_slots.ensures))

@@ -13,6 +13,6 @@ returns c rows weighed =
     let args = c.args in
     let even : c.leaf_of.result ≡ 2 * args.mode = omega (arith, c.leaf_of.ensures) in
     let odd : c.leaf_of-2.result ≡ 2 * args.mode + 1 = omega (arith, c.leaf_of-2.ensures) in
-    let looked = c.wide-weight.ensures.0 ∙ ap (λ k. get_or args.weights.now k 0) c.wide.ensures.0 ∙ weighed args.mode (omega arith) in
+    let looked = c.from-weight.ensures ∙ ap (λ k. get_or args.weights.now k 0) c.from.ensures ∙ weighed args.mode (omega arith) in
     rw (← c.leaf_of.ensures, ← c.leaf_of-2.ensures)
     (c.better_of.ensures rows (looked ∙ rw (even, odd)))

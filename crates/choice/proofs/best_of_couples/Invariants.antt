@@ -1,8 +1,6 @@
 -- The choices with the modes still to come give the answer.
-use mathlib.Core.List.{List, [], ◌∷◌, flat_map}
-use mathlib.Core.Path.{◌≡◌}
-use Prim.Native.Nat.{ℕ, ◌≤◌, ◌-◌}
-use lib.ListN.{length, drop}
+use Rattle.std.proofs.Common.{List, [], ◌∷◌, ◌≡◌, ℕ, drop}
+use mathlib.Core.List.{flat_map}
 use Rattle.entities.specs.declared.Triple.{Triple}
 use Rattle.tallying.specs.code.Pairs.{PairsWeighed}
 use Rattle.slots.specs.code.Numbers.{number_leaf}
@@ -14,10 +12,6 @@ use Rattle.choice.proofs.best_of_couples.Given as goal
 abbrev pub choices_of : ℕ → Triple → ℕ → List Triple
 choices_of modes slots mode = with_z (number_leaf modes slots.x mode) (number_leaf modes slots.y mode) (slots.z ∷ [])
 
-abbrev pub invariant-loop-at : goal.invariant-loop-at
-invariant-loop-at l = (l.at ≤ length l.free)
-    × ((rows : List (List ℕ)) → PairsWeighed l.modes rows l.slots.z l.weights
-    → sought rows l.node l.initial.best (flat_map (choices_of l.modes l.slots) l.free) ≡ sought rows l.node l.best (flat_map (choices_of l.modes l.slots) (drop l.at l.free)))
-
-abbrev pub decreases-loop-at : goal.decreases-loop-at
-decreases-loop-at l = length l.free - l.at
+abbrev pub invariant-loop-mode : goal.invariant-loop-mode
+invariant-loop-mode l = (rows : List (List ℕ)) → PairsWeighed l.modes rows l.slots.z l.weights
+    → sought rows l.node l.initial.best (flat_map (choices_of l.modes l.slots) l.free) ≡ sought rows l.node l.best (flat_map (choices_of l.modes l.slots) (drop l.mode-index l.free))

@@ -32,12 +32,12 @@ returns-in_default c =
 pub best_of_modes-requires : goal.best_of_modes-requires
 best_of_modes-requires c =
     let above = unfixed_above c.args.modes c.args.slots.z (sym c.unfixed.ensures ∙ c.if-not-unfixed.false) in
-    let told = rw c.in-All.is at c.tally_couple.ensures in
+    let told = rw c.in-Some.is at c.tally_couple.ensures in
     let size = length_terms 8 c.args.count c.args.rows.now in
     record {
       by_index = (
         terms_of 8 c.args.count c.args.rows.now,
-        λ z h. looked_up _ c.args.slots.x c.args.slots.y c.limit_past-limit.result c.in-All.all c.in-All.field-1 512 c.args.odds.now c.tally_couple.new.less c.requires.counted.odds_are c.tally_couple.auto.less told z h,
+        λ z h. looked_up _ c.args.slots.x c.args.slots.y c.limit_past-limit.result c.in-Some.tally.all c.in-Some.tally.apart 512 c.args.odds.now c.tally_couple.new.less c.requires.counted.odds_are c.tally_couple.auto.less told z h,
       );
       all_le_most_terms = (omega (arith, told.0, size), omega arith, above, omega arith);
       free_value = c.requires.free_value;
@@ -47,7 +47,7 @@ pub returns : goal.returns
 unfolding numbered
 returns c =
     let args = c.args in
-    let told = rw c.in-All.is at c.tally_couple.ensures in
+    let told = rw c.in-Some.is at c.tally_couple.ensures in
     rw (sym c.unfixed.ensures ∙ c.if-not-unfixed.false)
     (c.best_of_modes.ensures (terms_of 8 args.count args.rows.now)
-    (λ z h. looked_up _ args.slots.x args.slots.y c.limit_past-limit.result c.in-All.all c.in-All.field-1 512 args.odds.now c.tally_couple.new.less c.requires.counted.odds_are c.tally_couple.auto.less told z h))
+    (λ z h. looked_up _ args.slots.x args.slots.y c.limit_past-limit.result c.in-Some.tally.all c.in-Some.tally.apart 512 args.odds.now c.tally_couple.new.less c.requires.counted.odds_are c.tally_couple.auto.less told z h))

@@ -1,9 +1,6 @@
 -- The choices with the pair's modes still to come give the answer.
-use mathlib.Core.List.{List, flat_map}
-use mathlib.Core.Path.{◌∙◌, sym, ap}
-use Prim.Native.Nat.{ℕ, ◌+◌}
-use native.Mathlib.Omega.{arith}
-use lib.ListN.{drop, get_or}
+use Rattle.std.proofs.Common.{List, ◌∙◌, sym, ap, ℕ, ◌+◌, arith, drop, get_or}
+use mathlib.Core.List.{flat_map}
 use Rattle.lists.proofs.Every.{below_at}
 use Rattle.lists.proofs.Steps.{joined_step, joined_end}
 use Rattle.entities.specs.declared.Triple.{Triple}
@@ -17,23 +14,21 @@ use Rattle.choice.proofs.best_of_pairs.Goals as goal
 
 pub best_of_leaves-best-requires : goal.best_of_leaves-best-requires
 best_of_leaves-best-requires c =
-    let low = below_at c.args.modes c.args.free.now c.loop-at.at 0 (omega arith) c.requires.free_value in
+    let low = below_at c.args.modes c.args.free.now c.loop-mode.mode-index 0 (omega arith) c.requires.free_value in
     record { counted = c.requires.counted; count_le_most_terms = (omega arith, omega arith, low); modes_bound = c.requires.modes_bound; free_value = c.requires.free_value }
 
-pub loop-at-preserved : goal.loop-at-preserved
-loop-at-preserved c =
+pub loop-mode-preserved : goal.loop-mode-preserved
+loop-mode-preserved c =
     let args = c.args in
     let rows = terms_of 8 args.count args.rows.now in
     let free = args.free.now in
-    let of : ℕ → List Triple = λ mode. with_z (number_leaf args.modes args.slots.x mode) (number_leaf args.modes args.slots.y mode) (numbered args.modes args.slots.z (without mode free)) in (
-      omega arith,
-      c.loop-at.invariant.1
-          ∙ rw (joined_step of free c.loop-at.at 0 (omega arith))
-          (sought_joined rows args.node c.loop-at.best (of (get_or free c.loop-at.at 0)) (flat_map of (drop (c.loop-at.at + 1) free))
-          ∙ ap (λ b. sought rows args.node b (flat_map of (drop (c.loop-at.at + 1) free))) (sym c.best_of_leaves-best.ensures)),
-    )
+    let of : ℕ → List Triple = λ mode. with_z (number_leaf args.modes args.slots.x mode) (number_leaf args.modes args.slots.y mode) (numbered args.modes args.slots.z (without mode free)) in
+    c.loop-mode.invariant
+    ∙ rw (joined_step of free c.loop-mode.mode-index 0 (omega arith))
+    (sought_joined rows args.node c.loop-mode.best (of (get_or free c.loop-mode.mode-index 0)) (flat_map of (drop (c.loop-mode.mode-index + 1) free))
+    ∙ ap (λ b. sought rows args.node b (flat_map of (drop (c.loop-mode.mode-index + 1) free))) (sym c.best_of_leaves-best.ensures))
 
 pub returns : goal.returns
 returns c =
     let args = c.args in
-    sym (c.loop-at.invariant.1 ∙ rw (joined_end _ args.free.now c.loop-at.at (omega arith)) (sought_none _ _ _))
+    sym (c.loop-mode.invariant ∙ rw (joined_end _ args.free.now c.loop-mode.mode-index (omega arith)) (sought_none _ _ _))

@@ -1,37 +1,27 @@
 -- A pair of unfixed X and Y takes each mode; any other stands as it is.
-use mathlib.Core.Path.{◌∙◌, sym}
-use native.Mathlib.Omega.{arith}
+use Rattle.std.proofs.Common.{◌∙◌, sym, arith}
 use Rattle.slots.proofs.SlotNumbers.{unfixed_above}
 use Rattle.choice.specs.code.Numbered.{numbered_choices}
 use Rattle.choice.proofs.FreeModes.{without_none}
 use Rattle.choice.proofs.best_of_slots.Goals as goal
+use Rattle.choice.proofs.best_of_slots.Goals.{then-not-unfixed-via-then-not-unfixed as x_stands, then-not-unfixed-via-else-not-unfixed+then-not-unfixed-2 as y_stands}
 
 pub returns-then-not-unfixed : goal.returns-then-not-unfixed
 unfolding numbered_choices
 returns-then-not-unfixed c =
-    rw (sym c.unfixed.ensures ∙ c.if-not-unfixed.true)
-    (rw (without_none c.args.modes c.args.free.now c.requires.free_value) at c.best_of_pair.ensures)
+    let one = rw (without_none c.args.modes c.args.free.now c.requires.free_value) at c.best_of_pair.ensures in
+    elim c.then-not-unfixed.branch [
+      | x_stands w ↦ rw (← c.unfixed.ensures, w.if-not-unfixed.true) one
+      | y_stands w ↦ rw (← c.unfixed.ensures, w.if-not-unfixed.false, ← w.unfixed-else-not-unfixed.ensures, w.if-not-unfixed-2.true) one
+    ]
 
-pub returns-then-not-unfixed-2 : goal.returns-then-not-unfixed-2
-unfolding numbered_choices
-returns-then-not-unfixed-2 c =
-    rw (
-      sym c.unfixed.ensures ∙ c.if-not-unfixed.false,
-      sym c.unfixed-2.ensures ∙ c.if-not-unfixed-2.true,
-    )
-    (rw (without_none c.args.modes c.args.free.now c.requires.free_value) at c.best_of_pair-then-not-unfixed-2.ensures)
-
-pub best_of_unfixed-requires : goal.best_of_unfixed-requires
-best_of_unfixed-requires c =
+pub best_of_unfixed-requires-clause-modes_bound : goal.best_of_unfixed-requires-clause-modes_bound
+best_of_unfixed-requires-clause-modes_bound c =
     let x = unfixed_above c.args.modes c.args.slots.x (sym c.unfixed.ensures ∙ c.if-not-unfixed.false) in
-    let y = unfixed_above c.args.modes c.args.slots.y (sym c.unfixed-2.ensures ∙ c.if-not-unfixed-2.false) in
-    record { counted = c.requires.counted; count_le_most_terms = (omega arith, omega arith); modes_bound = (x, omega arith, y, omega arith, omega arith); free_value = c.requires.free_value }
+    let y = unfixed_above c.args.modes c.args.slots.y (sym c.unfixed-else-not-unfixed.ensures ∙ c.if-not-unfixed-2.false) in
+    (x, omega arith, y, omega arith, omega arith)
 
 pub returns : goal.returns
 unfolding numbered_choices
 returns c =
-    rw (
-      sym c.unfixed.ensures ∙ c.if-not-unfixed.false,
-      sym c.unfixed-2.ensures ∙ c.if-not-unfixed-2.false,
-    )
-    c.best_of_unfixed.ensures
+    rw (← c.unfixed.ensures, c.if-not-unfixed.false, ← c.unfixed-else-not-unfixed.ensures, c.if-not-unfixed-2.false) c.best_of_unfixed.ensures

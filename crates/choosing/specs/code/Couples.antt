@@ -1,18 +1,20 @@
 -- How the code goes through the lawful pairs: each a with its x and y first, then every z that is free beside them.
-use Rattle.std.specs.Prelude.{◌≡◌, Bool, false, cond, not, ◌&&◌, ℕ, ◌+◌, ◌*◌, ◌%◌, ◌<◌, ◌≤◌, eqb, ltb, get_or}
+use Rattle.choosing.specs.declared.lawful.Couple.{Couple}
+use Rattle.std.specs.Prelude.{◌≡◌, Bool, false, cond, not, ◌&&◌, ℕ, ◌+◌, ◌*◌, ◌%◌, ◌<◌, ◌≤◌, eqb, ltb, get_or, None, Option, Some}
 use mathlib.Core.List.{List, [], map, Memᴰ}
 use Rattle.lists.specs.Least.{least}
 use Rattle.lists.specs.Members.{keep}
 use Rattle.lists.specs.Ranges.{listed}
 use Rattle.entities.specs.declared.Triple.{Triple}
-use Rattle.entities.specs.Limits.{row_width}
+use Rattle.entities.specs.Limits.{row_width, entity_room}
 use Rattle.terms.specs.Rows.{terms_of}
 use Rattle.terms.specs.Weight.{weight_of}
+use Rattle.tallying.specs.code.Tallies.{Looked}
 use Rattle.history.specs.History.{next_parent, is_open, z_end}
 use Rattle.history.specs.computed.Pairs.{holder, named}
 use Rattle.choosing.specs.declared.choice.Best.{Best}
-use Rattle.choosing.specs.declared.lawful.Couple.{Couple}
-use Rattle.choosing.specs.declared.lawful.Couple.TheVariants.{Of, Nothing}
+use Rattle.choosing.specs.declared.choice.Counted.{Counted}
+use Rattle.choosing.specs.declared.entity_tables.Tables.{Tables}
 
 -- x of the triples that an entity names; z has no part in it.
 unfoldable pub x_of : ℕ → List Triple → ℕ → ℕ
@@ -33,11 +35,11 @@ coupled modes history x y =
     && (is_open modes history y && (not (eqb x y) && ends_pair modes (z_end modes history x) (z_end modes history y)))
 
 -- The x and y that an entity names, where they are lawful beside each other.
-unfoldable pub couple : ℕ → List Triple → ℕ → Couple
+unfoldable pub couple : ℕ → List Triple → ℕ → Option Couple
 couple modes history a =
     cond (coupled modes history (x_of modes history a) (y_of modes history a))
-    (Of (x_of modes history a) (y_of modes history a))
-    Nothing
+    (Some (record { x = x_of modes history a; y = y_of modes history a }))
+    None
 
 -- z is open, and neither x nor y.
 unfoldable pub free : ℕ → List Triple → Triple → Bool
@@ -49,13 +51,17 @@ beside modes history x y from count =
     keep (free modes history) (listed (λ z. record { x = x; y = y; z = z }) from count)
 
 -- The triples of a couple with each free z.
-unfoldable pub beside_couple : ℕ → List Triple → ℕ → Couple → List Triple
-beside_couple modes history count (Of x y) = beside modes history x y 0 count
-beside_couple modes history count Nothing = []
+unfoldable pub beside_couple : ℕ → List Triple → ℕ → Option Couple → List Triple
+beside_couple modes history count (Some couple) = beside modes history couple.x couple.y 0 count
+beside_couple modes history count None = []
 
 -- The weight of a triple in the first rows.
 unfoldable pub weight_here : ℕ → List ℕ → Triple → ℕ
 weight_here count rows triple = weight_of triple (terms_of row_width count rows)
+
+-- What was counted for x and y gives the weight of each of their triples.
+abbrev pub Weighs : (Triple → ℕ) → ℕ → ℕ → Counted → Type 0
+Weighs measure x y counted = Looked entity_room measure x y counted.all counted.odds.now counted.less.now
 
 -- A triple with its weight.
 unfoldable pub weighed : (Triple → ℕ) → Triple → Best
@@ -88,8 +94,8 @@ EndsAre room modes history ends = (entity : ℕ) → entity < room → get_or en
 abbrev pub HoldersAre : ℕ → ℕ → List Triple → List ℕ → Type 0
 HoldersAre room modes history holders = (leaf : ℕ) → leaf < room → get_or holders leaf 0 ≡ holder modes history leaf
 
-pub record Tied (room modes : ℕ) (history : List Triple) (opens : List Bool) (ends holders : List ℕ) : Type 0 where
+pub record Tied (room modes : ℕ) (history : List Triple) (tables : Tables) : Type 0 where
   pub within : next_parent modes history ≤ room
-  pub opens_are : OpensAre room modes history opens
-  pub ends_are : EndsAre room modes history ends
-  pub holders_are : HoldersAre room modes history holders
+  pub opens_are : OpensAre room modes history tables.opens
+  pub ends_are : EndsAre room modes history tables.ends
+  pub holders_are : HoldersAre room modes history tables.holders

@@ -4,44 +4,30 @@ use Prim.Native.Nat.{◌≤◌}
 use native.Mathlib.Omega.{arith}
 use lib.ListN.{length}
 use lib.Seq.{length-take-le}
-use Rattle.text.proofs.RunEnds.{run_refused, run_done}
 use Rattle.drops_text.specs.Dropping.{drops_printed, drops_text}
 use Rattle.drops_text.proofs.DropsPrinted.{drops_stand, drops_told}
 use Rattle.drops_text.proofs.print_drops.Goals as goal
+use Rattle.drops_text.proofs.print_drops.Goals.{In-Ok}
+
+-- The run's drops are within what is lent.
+room : (c : In-Ok) → c.in-Ok.run'.modes ≤ length c.run_drops.new.drops
+room c = omega (arith, c.in-Ok.ensures.runs.few)
 
 pub slice_bounds-put_drops-end : goal.slice_bounds-put_drops-end
-slice_bounds-put_drops-end c =
-    let run = c.run_drops in
-    let known = run_done 256 _ _ _ _ run.ensures.runs _ c.in-Done.is in
-    let room : c.in-Done.run'.modes ≤ length run.new.drops = omega (arith, known.few, run.auto.drops, c.requires.2) in
-    room
-
-pub slice_bounds-put_drops-end-in-Done : goal.slice_bounds-put_drops-end-in-Done
-slice_bounds-put_drops-end-in-Done c =
-    let run = c.run_drops in
-    let known = run_done 256 _ _ _ _ run.ensures.runs _ c.in-Done.is in
-    let room : c.in-Done.run'.modes ≤ length run.new.drops = omega (arith, known.few, run.auto.drops, c.requires.2) in
-    sym (length-take-le c.in-Done.run'.modes run.new.drops room)
+slice_bounds-put_drops-end c = sym (length-take-le _ _ (room (goal.at.slice_bounds-put_drops-end c).In-Ok))
 
 pub put_drops-requires : goal.put_drops-requires
 put_drops-requires c =
-    let run = c.run_drops in
-    let known = run_done 256 _ _ _ _ run.ensures.runs _ c.in-Done.is in
-    let room : c.in-Done.run'.modes ≤ length run.new.drops = omega (arith, known.few, run.auto.drops, c.requires.2) in
-    record {
-      drops_len_bound = omega (arith, length-take-le c.in-Done.run'.modes run.new.drops room, known.few);
-      out_len = c.requires.3;
-    }
+    let fits = room (goal.at.put_drops-requires c).In-Ok in
+    omega (arith, length-take-le c.in-Ok.run'.modes c.run_drops.new.drops fits, c.in-Ok.ensures.runs.few)
 
-pub returns-in-Refused : goal.returns-in-Refused
+pub returns-in-Err : goal.returns-in-Err
 unfolding drops_text drops_printed
-returns-in-Refused c =
-    let run = c.run_drops in
-    rw (run_refused 256 _ _ _ _ run.ensures.runs _ c.in-Refused.is).is c.put_refusal.ensures
+returns-in-Err c = rw c.in-Err.ensures.runs.is c.put_refusal.ensures
 
-pub returns-in-Done : goal.returns-in-Done
+pub returns-in-Ok : goal.returns-in-Ok
 unfolding drops_text
-returns-in-Done c =
-    let run = c.run_drops in
-    let known = run_done 256 _ _ _ _ run.ensures.runs _ c.in-Done.is in
-    rw (drops_stand known _ _ run.ensures.drops_after (omega (arith, known.few, c.requires.2)), ← drops_told known) at c.put_drops.ensures
+returns-in-Ok c =
+    let known = c.in-Ok.ensures.runs in
+    rw (drops_stand known _ _ c.in-Ok.ensures.drops_after (omega (arith, known.few)), ← drops_told known) at
+    c.put_drops.ensures

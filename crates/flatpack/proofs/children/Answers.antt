@@ -11,7 +11,6 @@ returns c =
     let z = c.code-3 in
     let y = c.code-2 in
     let x = c.code in
-    let wide = c.wide-at in
     let args = c.args in
-    rw (recorded_merge args.xs.now args.ys.now args.zs.now args.modes args.label (omega arith), ← c.requires.end_value)
-    (rw (x.ensures, y.ensures, z.ensures, wide.ensures.0))
+    rw (recorded_merge args.merges.now args.modes args.label (omega arith), ← c.requires.end_value)
+    (rw (x.ensures, y.ensures, z.ensures, c.from.ensures))

@@ -14,10 +14,10 @@ use Rattle.flatpack.proofs.write_flatpack.Goals as goal
 
 -- The merges written down are those of every step.
 all_noted : (run : Run) (modes : ℕ) → run.modes ≡ modes → length (history_of run) ≡ modes
-    → history_of run ≡ recorded run.xs run.ys run.zs run.modes
+    → history_of run ≡ recorded run.merges run.modes
 all_noted run modes same all =
-    let made : run.step ≡ run.modes = omega (arith, length_recorded run.xs run.ys run.zs run.step) in
-    ap (recorded run.xs run.ys run.zs) made
+    let made : run.step ≡ run.modes = omega (arith, length_recorded run.merges run.step) in
+    ap (recorded run.merges) made
 
 pub write_rows-requires : goal.write_rows-requires
 unfolding absent_leaf
@@ -27,16 +27,16 @@ write_rows-requires c =
     let few = holds.few in
     let same = holds.modes_are in
     let rest = holds.whole in
-    let merges = recorded run.xs run.ys run.zs run.modes in
+    let merges = recorded run.merges run.modes in
     let noted : history_of run ≡ merges = all_noted run _ same c.requires.1.1.1 in
     let root : 2 * run.modes + length merges ≡ 3 * run.modes =
-    omega (arith, length_recorded run.xs run.ys run.zs run.modes) in
+    omega (arith, length_recorded run.merges run.modes) in
     let lawful : LawfulHistory run.modes merges = rw (noted, ← same) at holds.lawful in
-    let end : get_or run.ends (3 * run.modes) 0 ≡ z_end run.modes merges (2 * run.modes + length merges) =
+    let end : get_or run.tables.ends (3 * run.modes) 0 ≡ z_end run.modes merges (2 * run.modes + length merges) =
     rw root (rw (noted, ← same) at (holds.tied.ends_are (3 * run.modes) (omega arith))) in
     record {
       le_modes = (omega (arith, holds.some), omega arith, omega (arith, c.requires.1.1.2));
-      modes_in_bounds = (omega (arith, rest.xs), omega (arith, rest.ys), omega (arith, rest.zs));
+      modes_in_bounds = omega (arith, rest.merges);
       lawful_history = lawful;
       end_value = end;
     }

@@ -17,7 +17,7 @@ next : (c : In-loop-head)
 next c =
     let loop = c.loop-head in
     let args = c.args in
-    let all = length_recorded args.xs.now args.ys.now args.zs.now args.modes in
+    let all = length_recorded args.merges.now args.modes in
     let room : loop.tail ≤ length loop.labels = omega arith in
     let some = waiting _ _ _ _ _ _ loop.invariant.2 c.loop-head-test.true c.requires.lawful_history all (omega arith) in
     let ahead : loop.head < loop.tail = omega (arith, some, length-take-le loop.tail loop.labels room) in
@@ -27,7 +27,7 @@ next c =
 pub loop-head-init : goal.loop-head-init
 loop-head-init c =
     let args = c.args in
-    (refl, omega arith, walking_starts args.modes (recorded args.xs.now args.ys.now args.zs.now args.modes) args.rows.now (omega arith))
+    (refl, omega arith, walking_starts args.modes (recorded args.merges.now args.modes) args.rows.now (omega arith))
 
 pub children-codes-requires : goal.children-codes-requires
 children-codes-requires c =
@@ -58,7 +58,7 @@ loop-head-preserved c =
       queue.auto.labels ∙ loop.invariant.0,
       omega (arith, queue.ensures.1, loop.invariant.1),
       walking_on _ _ _ _ _ _ loop.invariant.2 c.loop-head-test.true c.requires.lawful_history
-          (length_recorded args.xs.now args.ys.now args.zs.now args.modes) (omega arith)
+          (length_recorded args.merges.now args.modes) (omega arith)
           _ _ _ _ (get_or-take loop.tail loop.labels loop.head 0 (next (goal.at.loop-head-preserved c).In-loop-head).0) codes.ensures put.ensures queue.ensures.2,
     )
 

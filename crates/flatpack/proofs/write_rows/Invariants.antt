@@ -1,13 +1,10 @@
 -- The labels in front are the nodes met so far; those passed have their rows, and at the end they are all.
 use mathlib.Core.Path.{◌≡◌}
-use Prim.Native.Nat.{◌≤◌, ◌-◌, ◌+◌, ◌*◌}
+use Prim.Native.Nat.{◌≤◌, ◌+◌, ◌*◌}
 use lib.ListN.{length, take}
 use Rattle.merging.specs.code.Recorded.{recorded}
 use Rattle.flatpack.proofs.Walking.{Walking}
 use Rattle.flatpack.proofs.write_rows.Given as goal
 
 abbrev pub invariant-loop-head : goal.invariant-loop-head
-invariant-loop-head l = (length l.labels ≡ 769) × (l.tail ≤ 3 * l.head + 1) × Walking l.modes (recorded l.xs l.ys l.zs l.modes) l.initial.rows l.rows (take l.tail l.labels) l.head
-
-abbrev pub decreases-loop-head : goal.decreases-loop-head
-decreases-loop-head l = l.modes - l.head
+invariant-loop-head l = (length l.labels ≡ 769) × (l.tail ≤ 3 * l.head + 1) × Walking l.modes (recorded l.merges l.modes) l.initial.rows l.rows (take l.tail l.labels) l.head

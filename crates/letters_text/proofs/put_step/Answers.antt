@@ -6,22 +6,19 @@ use Rattle.letters_text.proofs.put_step.Goals as goal
 
 pub merge_of-triple-requires : goal.merge_of-triple-requires
 merge_of-triple-requires c =
-    let finished = c.requires.by_index.1.1.0 in
-    (c.requires.by_index.0, (c.requires.by_index.1.0, (finished.holds, omega (arith, finished.all, finished.modes_are, c.requires.by_index.1.1.1))))
+    let finished = c.requires.1.1.0 in
+    (c.requires.0, (c.requires.1.0, (finished.holds, omega (arith, finished.all, finished.modes_are, c.requires.1.1.1))))
 
 pub rows_before-requires : goal.rows_before-requires
 rows_before-requires c =
-    let known = c.requires.by_index.1.1 in
-    (c.requires.by_index.0, (c.requires.by_index.1.0, (known.0, omega (arith, known.1))))
+    let known = c.requires.1.1 in
+    (c.requires.0, (c.requires.1.0, (known.0, omega (arith, known.1))))
 
 pub put_letters-requires : goal.put_letters-requires
 put_letters-requires c =
-    let finished = c.requires.by_index.1.1.0 in
-    let rows = c.rows_before.ensures c.requires.by_index.0 c.requires.by_index.1.0 finished in
-    record {
-      held = (rw finished.count_is at rows.held, omega (arith, finished.holds.light, finished.count_is));
-      out_len = c.requires.out_len;
-    }
+    let finished = c.requires.1.1.0 in
+    let rows = c.rows_before.ensures c.requires.0 c.requires.1.0 finished in
+    (rw finished.count_is at rows.held, omega (arith, finished.holds.light, finished.count_is))
 
 pub returns : goal.returns
 unfolding letters_printed step_lines

@@ -15,22 +15,20 @@ use Rattle.merging.specs.code.Recorded.{merge_at, recorded}
 
 -- The merges that the state has written down, newest first.
 abbrev pub history_of : Run → List Triple
-history_of run = recorded run.xs run.ys run.zs run.step
+history_of run = recorded run.merges run.step
 
 -- The table has for each step so far what a rule says of its merge after those before it.
 abbrev pub TableOf : (List Triple → Triple → ℕ) → Run → List ℕ → Type 0
 TableOf rule run table =
     (step : ℕ) → step < run.step
-    → get_or table step 0 ≡ rule (recorded run.xs run.ys run.zs step) (merge_at run.xs run.ys run.zs step)
+    → get_or table step 0 ≡ rule (recorded run.merges step) (merge_at run.merges step)
 
 -- Each table has its room: one for every entity, one for every step.
 pub record Whole (entities steps : ℕ) (run : Run) : Type 0 where
-  pub opens : length run.opens ≡ entities
-  pub ends : length run.ends ≡ entities
-  pub holders : length run.holders ≡ entities
-  pub xs : length run.xs ≡ steps
-  pub ys : length run.ys ≡ steps
-  pub zs : length run.zs ≡ steps
+  pub opens : length run.tables.opens ≡ entities
+  pub ends : length run.tables.ends ≡ entities
+  pub holders : length run.tables.holders ≡ entities
+  pub merges : length run.merges ≡ steps
   pub weights : length run.weights ≡ steps
   pub drops : length run.drops ≡ steps
 
@@ -45,7 +43,7 @@ pub record HoldsIn (entities steps : ℕ) (job : Job) (rows : List ℕ) (run : R
   pub light : length job.terms ≤ most_terms
   pub inside : run.step ≤ job.modes
   pub lawful : LawfulHistory job.modes (history_of run)
-  pub tied : Tied entities job.modes (history_of run) run.opens run.ends run.holders
+  pub tied : Tied entities job.modes (history_of run) run.tables
   pub held : Held work_width run.count rows
   pub rows_are : counted_of run.count rows ≡ counted_after job (history_of run)
   pub weight_is : run.weight ≡ run_weight job (history_of run)
@@ -55,34 +53,28 @@ pub record HoldsIn (entities steps : ℕ) (job : Job) (rows : List ℕ) (run : R
 
 -- The entities' tables after a merge: the three closed, their parent open with z's end, which it holds; the merges written down as before.
 pub record EntitiesMerged (triple : Triple) (before after : Run) : Type 0 where
-  pub opens : after.opens
-      ≡ set (set (set (set before.opens triple.x false) triple.y false) triple.z false) (2 * before.modes + 1 + before.step) true
-  pub ends : after.ends ≡ set before.ends (2 * before.modes + 1 + before.step) (get_or before.ends triple.z 0)
-  pub holders : after.holders ≡ set before.holders (get_or before.ends triple.z 0) (2 * before.modes + 1 + before.step)
+  pub opens : after.tables.opens
+      ≡ set (set (set (set before.tables.opens triple.x false) triple.y false) triple.z false) (2 * before.modes + 1 + before.step) true
+  pub ends : after.tables.ends ≡ set before.tables.ends (2 * before.modes + 1 + before.step) (get_or before.tables.ends triple.z 0)
+  pub holders : after.tables.holders ≡ set before.tables.holders (get_or before.tables.ends triple.z 0) (2 * before.modes + 1 + before.step)
   pub modes : after.modes ≡ before.modes
   pub rule : after.rule ≡ before.rule
   pub step : after.step ≡ before.step
   pub count : after.count ≡ before.count
-  pub xs : after.xs ≡ before.xs
-  pub ys : after.ys ≡ before.ys
-  pub zs : after.zs ≡ before.zs
+  pub merges : after.merges ≡ before.merges
   pub weights : after.weights ≡ before.weights
   pub drops : after.drops ≡ before.drops
 
 -- The merge written down as the next step; the entities' tables as before.
 pub record Noted (triple : Triple) (weight dropped : ℕ) (before after : Run) : Type 0 where
-  pub xs : after.xs ≡ set before.xs before.step triple.x
-  pub ys : after.ys ≡ set before.ys before.step triple.y
-  pub zs : after.zs ≡ set before.zs before.step triple.z
+  pub merges : after.merges ≡ set before.merges before.step triple
   pub weights : after.weights ≡ set before.weights before.step weight
   pub drops : after.drops ≡ set before.drops before.step dropped
   pub step : after.step ≡ before.step + 1
   pub count : after.count ≡ before.count
   pub modes : after.modes ≡ before.modes
   pub rule : after.rule ≡ before.rule
-  pub opens : after.opens ≡ before.opens
-  pub ends : after.ends ≡ before.ends
-  pub holders : after.holders ≡ before.holders
+  pub tables : after.tables ≡ before.tables
 
 -- A lawful merge with its true weight, ready to be made.
 pub record ReadyIn (entities steps : ℕ) (job : Job) (rows : List ℕ) (run : Run) (triple : Triple) (weight : ℕ) : Type 0 where

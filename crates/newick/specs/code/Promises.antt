@@ -1,10 +1,13 @@
 -- What the functions of the reader tell one another.
-use Rattle.std.specs.Prelude.{◌≡◌, Bool, true, ◌&&◌, List, map, ℕ, ◌+◌, ◌-◌, ◌*◌, ◌≤◌, leb, length, take}
+use Rattle.std.specs.Prelude.{◌≡◌, Bool, true, ◌&&◌, List, map, ℕ, ◌+◌, ◌-◌, ◌*◌, ◌≤◌, leb, length, take, Result, Ok, Err}
 use Rattle.lists.specs.Members.{every}
+use Rattle.refusal.specs.declared.Refusal.{Refusal}
+use Rattle.refusal.specs.declared.Refusal.TheVariants.{NewickForm, TooManyNodes}
 use Rattle.fields.specs.Decimal.{is_digit, value}
 use Rattle.fields.specs.code.Reading.{goes_on}
-use Rattle.newick.specs.declared.reading.Part.{Part}
-use Rattle.newick.specs.declared.reading.Part.TheVariants.{Child, Stuck, Crowded}
+use Rattle.newick.specs.declared.reading.Child.{Child}
+use Rattle.newick.specs.declared.reading.Stop.{Stop}
+use Rattle.newick.specs.declared.reading.Stop.TheVariants.{Stuck, Crowded}
 use Rattle.newick.specs.declared.digits.Number.{Number}
 use Rattle.newick.specs.Reading.{Reading, got, stuck, crowded, number_digits}
 use Rattle.newick.specs.Names.{in_range, code_of}
@@ -20,22 +23,32 @@ pub record NumberRead (text : List ℕ) (at : ℕ) (r : Number) : Type 0 where
   pub small : r.value ≤ 65535
   pub within : r.end ≤ length text
 
+-- Where reading stops, as the meaning says it, and as the call's refusal does.
+unfoldable pub stopped : Stop → Reading
+stopped (Stuck place) = stuck place
+stopped (Crowded place) = crowded place
+
+abbrev pub refused_at : Stop → Refusal
+refused_at (Stuck place) = NewickForm place
+refused_at (Crowded place) = TooManyNodes place
+
 -- What a part says beside the numbers in which the closed nodes stand.
-unfoldable pub meant : Part → List ℕ → Reading
-meant (Child name end closed) numbers = got name (take (4 * closed) numbers) end
-meant (Stuck place) numbers = stuck place
-meant (Crowded place) numbers = crowded place
+unfoldable pub meant : Result Child Stop → List ℕ → Reading
+meant (Ok child) numbers = got child.name (take (4 * child.closed) numbers) child.end
+meant (Err stop) numbers = stopped stop
 
 -- The place of a part, and how many nodes were closed when it was read.
-unfoldable pub end_of : Part → ℕ
-end_of (Child name end closed) = end
-end_of (Stuck place) = place
-end_of (Crowded place) = place
+unfoldable pub place_of : Stop → ℕ
+place_of (Stuck place) = place
+place_of (Crowded place) = place
 
-unfoldable pub closed_of : Part → ℕ
-closed_of (Child name end closed) = closed
-closed_of (Stuck place) = 0
-closed_of (Crowded place) = 0
+unfoldable pub end_of : Result Child Stop → ℕ
+end_of (Ok child) = child.end
+end_of (Err stop) = place_of stop
+
+unfoldable pub closed_of : Result Child Stop → ℕ
+closed_of (Ok child) = child.closed
+closed_of (Err stop) = 0
 
 -- Names were coded: whether all are in range, and if so as which codes.
 pub record Coded (modes : ℕ) (names after : List ℕ) (r : Bool) : Type 0 where
@@ -43,7 +56,7 @@ pub record Coded (modes : ℕ) (names after : List ℕ) (r : Bool) : Type 0 wher
   pub codes : r ≡ true → after ≡ map (code_of modes) names
 
 -- A part was read: it says what was to be read, ends within the text, and closed no more nodes than may stand.
-pub record Reads (reading : Reading) (text numbers : List ℕ) (height : ℕ) (r : Part) : Type 0 where
+pub record Reads (reading : Reading) (text numbers : List ℕ) (height : ℕ) (r : Result Child Stop) : Type 0 where
   pub says : meant r numbers ≡ reading
   pub within : end_of r ≤ length text
   pub few : closed_of r ≤ height

@@ -11,16 +11,16 @@ use Rattle.newick_line.proofs.write_text.Goals as goal
 
 pub slice_bounds-write_newick-end-2 : goal.slice_bounds-write_newick-end-2
 slice_bounds-write_newick-end-2 c =
-    sym (length-take-le line_room c.args.out.now (omega (arith, c.requires)))
+    sym (length-take-le line_room c.args.out.now (omega arith))
 
 pub returns : goal.returns
 returns c =
     let write = c.write_newick in
     let args = c.args in
     let out = args.out.now in
-    let size = length-take-le line_room out (omega (arith, c.requires)) in
+    let size = length-take-le line_room out (omega arith) in
     let says = write.ensures.tells.answer ∙ ap (newick_written 256 args.modes args.tree.now) size in
     record {
       value = says;
-      out_after = ap (λ l. l ++ drop line_room out) write.ensures.text_after ∙ after_front 256 args.modes args.tree.now line_room out (omega (arith, c.requires)) write.result says;
+      out_after = ap (λ l. l ++ drop line_room out) write.ensures.text_after ∙ after_front 256 args.modes args.tree.now line_room out (omega arith) write.result says;
     }

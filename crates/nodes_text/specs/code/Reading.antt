@@ -1,9 +1,10 @@
 -- What the code that reads a tree's text tells of it, part by part.
-use Rattle.std.specs.Prelude.{◌≡◌, Bool, true, List, ℕ, ◌*◌, ◌≤◌, take}
+use Rattle.refusal.specs.declared.Refusal.{Refusal}
+use Rattle.refusal.specs.declared.Refusal.TheVariants.{Malformed}
+use Rattle.refusal.specs.Numbers.{place_of}
+use Rattle.std.specs.Prelude.{◌≡◌, Bool, true, List, ℕ, ◌*◌, ◌≤◌, take, Ok, Err, Result}
 use Rattle.lists.specs.Written.{written_at}
 use Rattle.fields.specs.Fields.{fields}
-use Rattle.nodes_text.specs.declared.Nodes.{Nodes}
-use Rattle.nodes_text.specs.declared.Nodes.TheVariants.{Are, Malformed}
 use Rattle.nodes_text.specs.TreeInput.{says_node, node_row, TreeSaid, nodes, malformed}
 
 -- A line read as a node, into a row.
@@ -22,6 +23,6 @@ pub record NodesFound (most : ℕ) (meant : TreeSaid) (rows : List ℕ) (count :
   pub few : count ≤ most
 
 -- A text read: the answer says what the text says.
-abbrev pub Reads : ℕ → TreeSaid → List ℕ → Nodes → Type 0
-Reads most meant rows (Are count) = NodesFound most meant rows count
-Reads most meant rows (Malformed line) = meant ≡ malformed line
+abbrev pub Reads : ℕ → TreeSaid → List ℕ → Result ℕ Refusal → Type 0
+Reads most meant rows (Ok count) = NodesFound most meant rows count
+Reads most meant rows (Err why) = (why ≡ Malformed (place_of why)) × (meant ≡ malformed (place_of why))

@@ -1,6 +1,7 @@
 -- The first state holds the call's job; the first line is the header, and the others are obeyed from there.
 use mathlib.Core.Path.{refl, sym}
 use lib.Seq.{length-take-le}
+use Rattle.std.proofs.lemmas.List.{take_rest}
 use Rattle.fields.proofs.LineSteps.{lines_none}
 use Rattle.terms.specs.Job.{job_of}
 use Rattle.terms.proofs.RowSteps.{length_terms}
@@ -23,8 +24,8 @@ slice_bounds-obey_header-end c =
     let end = c.line_end-end in
     sym (length-take-le end.result c.args.read.now end.ensures.1)
 
-pub returns-in-Refused : goal.returns-in-Refused
-returns-in-Refused c numbers spread =
+pub returns-in-Err : goal.returns-in-Err
+returns-in-Err c numbers spread =
     let args = c.args in
     let rows = args.rows.now in
     let read = args.read.now in
@@ -34,18 +35,14 @@ returns-in-Refused c numbers spread =
     let end = c.line_end-end in
     let next = text_begins read end.result end.ensures.0 c.if-end-eq0.false in
     let sized : Sized job args.modes args.count = record { modes_are = refl; count_is = length_terms 8 args.count numbers } in
-    header_refused job rows read run first.0 _ _ next _ (c.obey_header.ensures job run sized refl first.1) _ c.in-Refused.is
+    header_refused job rows read run first.0 first.1 _ _ next _ (c.obey_header.ensures job sized refl) _ c.in-Err.is
 
 pub obey_lines-requires : goal.obey_lines-requires
 obey_lines-requires c =
     let args = c.args in
     let rows = args.rows.now in
     let first = c.fresh-first.ensures c.requires.by_index.0 rows c.requires.by_index.1 in
-    let end = c.line_end-end in
-    record {
-      holds = (job_of args.modes args.rule args.count c.requires.by_index.0, (first.0, refl));
-      from_in_bounds = end.ensures.1;
-    }
+    (job_of args.modes args.rule args.count c.requires.by_index.0, (first.0, refl))
 
 pub returns : goal.returns
 returns c numbers spread =
@@ -59,5 +56,5 @@ returns c numbers spread =
     let next = text_begins read end.result end.ensures.0 c.if-end-eq0.false in
     let sized : Sized job args.modes args.count = record { modes_are = refl; count_is = length_terms 8 args.count numbers } in
     let obeyed = c.obey_lines in
-    lines_behind job rows read run first.0 _ _ next _ (c.obey_header.ensures job run sized refl first.1) c.in_default.is
-    obeyed.new.rows obeyed.result (obeyed.ensures job first.0 refl)
+    lines_behind job rows read run first.0 first.1 _ _ next _ (c.obey_header.ensures job sized refl) c.in_default.is
+    obeyed.new.rows obeyed.result (rw take_rest at (obeyed.ensures job first.0 refl))

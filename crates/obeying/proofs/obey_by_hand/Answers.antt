@@ -1,6 +1,5 @@
 -- The first state holds the call's job, and every line is obeyed from there.
 use mathlib.Core.Path.{refl}
-use native.Mathlib.Omega.{arith}
 use Rattle.terms.specs.Job.{job_of}
 use Rattle.obeying.specs.Obeying.{obeyed_by_hand}
 use Rattle.obeying.proofs.obey_by_hand.Goals as goal
@@ -10,10 +9,7 @@ obey_lines-requires c =
     let args = c.args in
     let rows = args.rows.now in
     let first = c.fresh.ensures c.requires.by_index.0 rows c.requires.by_index.1 in
-    record {
-      holds = (job_of args.modes args.rule args.count c.requires.by_index.0, (first.0, refl));
-      from_in_bounds = omega arith;
-    }
+    (job_of args.modes args.rule args.count c.requires.by_index.0, (first.0, refl))
 
 pub returns : goal.returns
 unfolding obeyed_by_hand

@@ -1,50 +1,55 @@
 -- The header is fine where its form is kept, its rule is the call's and so are both numbers.
-use mathlib.Core.Path.{◌≡◌, ◌∙◌, sym}
+use Rattle.std.specs.Prelude.{Some, None}
+use mathlib.Core.Path.{◌≡◌, ap, ◌∙◌, sym}
+use native.Mathlib.Omega.{arith}
+use borrow.Author.Rules.{rules}
+use Rattle.refusal.specs.declared.Refusal.TheVariants.{LineForm}
+use Rattle.refusal.proofs.Told.{handed_on}
 use Rattle.terms.specs.Rules.{rule_number}
-use Rattle.obeying.specs.declared.header.Header.TheVariants.{Is as HeaderIs}
+use Rattle.terms.proofs.RuleNumbers.{same_rule}
 use Rattle.obeying.specs.LineForms.{header_of}
 use Rattle.obeying.proofs.LineObeyed.{header_broken, other_rule, other_modes, other_terms, same_header}
 use Rattle.obeying.proofs.obey_header.Goals as goal
-use Rattle.obeying.proofs.obey_header.Goals.{After-number-in-Is}
+use Rattle.obeying.proofs.obey_header.Goals.{In_ok-said}
 
--- What the line says, as its three parts were bound.
-said_there : (c : After-number-in-Is)
-    → header_of c.args.bytes.now ≡ HeaderIs c.in-Is.said c.in-Is.n c.in-Is.t
-said_there c = sym c.read_header.ensures ∙ c.in-Is.is
+-- What the line says.
+said_there : (c : In_ok-said) → header_of c.args.bytes.now ≡ Some c.in_ok-said.said
+said_there c =
+    let there : c.read_header.result ≡ Some c.in_ok-said.said = grind arith in
+    sym c.read_header.ensures ∙ there
 
--- Its rule has the call's number, where the two were compared and found equal.
-same_number : (c : After-number-in-Is) → c.number.result ≡ c.number-in-Is.result
-    → rule_number c.in-Is.said
-    ≡ rule_number c.args.rule
-same_number c same = sym c.number.ensures ∙ same ∙ c.number-in-Is.ensures
-
-pub returns-then-number : goal.returns-then-number
-returns-then-number c job run sized ruled none_yet =
+pub returns-then-ne : goal.returns-then-ne
+returns-then-ne c job sized ruled =
     let args = c.args in
-    other_rule job args.modes args.count sized args.rule ruled run none_yet _ _ _ _ (said_there (goal.at.returns-then-number c).After-number-in-Is)
-    (λ e. c.if-number.true (c.number.ensures ∙ e ∙ sym c.number-in-Is.ensures))
+    let other : c.in_ok-said.said.rule ≡ args.rule → ⊥ = search rules in
+    other_rule job args.modes args.count sized args.rule ruled _ _ (said_there (goal.at.returns-then-ne c).In_ok-said)
+    (λ e. other (same_rule c.in_ok-said.said.rule args.rule e))
 
-pub returns-then-wide-modes : goal.returns-then-wide-modes
-returns-then-wide-modes c job run sized ruled none_yet =
+pub returns-then-from-modes : goal.returns-then-from-modes
+returns-then-from-modes c job sized ruled =
     let args = c.args in
-    other_modes job args.modes args.count sized args.rule ruled run none_yet _ _ _ _ (said_there (goal.at.returns-then-wide-modes c).After-number-in-Is) (same_number (goal.at.returns-then-wide-modes c).After-number-in-Is c.if-number.false)
-    (λ e. c.if-wide-modes.true (c.wide.ensures.0 ∙ e))
+    let same : c.in_ok-said.said.rule ≡ args.rule = search rules in
+    other_modes job args.modes args.count sized args.rule ruled _ _ (said_there (goal.at.returns-then-from-modes c).In_ok-said)
+    (ap rule_number same) (λ e. c.if-from-modes.true (c.from.ensures ∙ e))
 
-pub returns-then-wide-count : goal.returns-then-wide-count
-returns-then-wide-count c job run sized ruled none_yet =
+pub returns-then-from-count : goal.returns-then-from-count
+returns-then-from-count c job sized ruled =
     let args = c.args in
-    other_terms job args.modes args.count sized args.rule ruled run none_yet _ _ _ _ (said_there (goal.at.returns-then-wide-count c).After-number-in-Is)
-    (same_number (goal.at.returns-then-wide-count c).After-number-in-Is c.if-number.false) (sym c.wide.ensures.0 ∙ c.if-wide-modes.false)
-    (λ e. c.if-wide-count.true (c.wide-in-Is.ensures.0 ∙ e))
+    let same : c.in_ok-said.said.rule ≡ args.rule = search rules in
+    other_terms job args.modes args.count sized args.rule ruled _ _ (said_there (goal.at.returns-then-from-count c).In_ok-said)
+    (ap rule_number same) (sym c.from.ensures ∙ c.if-from-modes.false) (λ e. c.if-from-count.true (c.from-2.ensures ∙ e))
 
-pub returns-else-wide-count : goal.returns-else-wide-count
-returns-else-wide-count c job run sized ruled none_yet =
+pub returns : goal.returns
+returns c job sized ruled =
     let args = c.args in
-    same_header job args.modes args.count sized args.rule ruled run none_yet _ _ _ _ (said_there (goal.at.returns-else-wide-count c).After-number-in-Is)
-    (same_number (goal.at.returns-else-wide-count c).After-number-in-Is c.if-number.false) (sym c.wide.ensures.0 ∙ c.if-wide-modes.false)
-    (sym c.wide-in-Is.ensures.0 ∙ c.if-wide-count.false)
+    let same : c.in_ok-said.said.rule ≡ args.rule = search rules in
+    same_header job args.modes args.count sized args.rule ruled _ _ (said_there (goal.at.returns c).In_ok-said)
+    (ap rule_number same) (sym c.from.ensures ∙ c.if-from-modes.false) (sym c.from-2.ensures ∙ c.if-from-count.false)
 
-pub returns-in-Broken : goal.returns-in-Broken
-returns-in-Broken c job run sized ruled none_yet =
+pub returns-in_err-said : goal.returns-in_err-said
+returns-in_err-said c job sized ruled =
     let args = c.args in
-    header_broken job args.modes args.count sized args.rule ruled run none_yet _ (sym c.read_header.ensures ∙ c.in-Broken.is)
+    let none : c.read_header.result ≡ None = grind arith in
+    let why : c.in_err-said.field-0.0 ≡ LineForm 0 = grind arith in
+    rw (handed_on c.from_residual.ensures, why)
+    (header_broken job args.modes args.count sized args.rule ruled _ (sym c.read_header.ensures ∙ none))

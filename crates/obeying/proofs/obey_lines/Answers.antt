@@ -1,55 +1,36 @@
 -- What the lines ahead come to stays the answer; each line that is fine takes one from them.
-use mathlib.Core.Path.{refl, ◌∙◌}
-use native.Mathlib.Omega.{arith}
-use Rattle.fields.proofs.LineSteps.{lines_none, lines_next}
+use Rattle.std.proofs.Common.{◌∙◌, ap}
+use Rattle.fields.specs.code.LinesLeft.{lines_left}
+use Rattle.refusal.proofs.Told.{handed_on}
 use Rattle.obeying.proofs.LinesObeyed.{along_starts, along_ends, along_goes, along_stops}
 use Rattle.obeying.proofs.obey_lines.Goals as goal
 
-pub loop-at-init : goal.loop-at-init
-loop-at-init c =
-    let first = c.args.first in (
-      refl,
-      omega arith,
-      λ job holds same. along_starts c.args.by_hand job c.args.rows.now _ first holds _ refl,
-    )
+pub loop-line-init : goal.loop-line-init
+loop-line-init c job holds same =
+    let all = ap lines_left c.into_iter-line-iterator.ensures.into_iter_gives ∙ c.lines_of-line-items.ensures in
+    along_starts c.args.by_hand job c.args.rows.now _ c.args.first holds _ (rw all)
 
-pub returns-then-end-at : goal.returns-then-end-at
-returns-then-end-at c job holds same =
-    let rows = c.args.rows.now in
-    let read = c.args.read.now in
-    let end = c.line_end-end in
-    let none = lines_none read c.loop-at.at end.result end.ensures.0 c.if-end-at.true in
-    along_ends c.args.by_hand job rows _ c.loop-at.run c.loop-at.rows
-    (rw none at (c.loop-at.invariant.2 job holds same))
-
-pub obey_line-next-requires : goal.obey_line-next-requires
-obey_line-next-requires c =
+pub obey_line-requires : goal.obey_line-requires
+obey_line-requires c =
     let pre = c.requires in
-    (pre.holds.0, ((c.loop-at.invariant.2 pre.holds.0 pre.holds.1.0 pre.holds.1.1).so_far.holds, pre.holds.1.1))
+    (pre.0, ((c.loop-line.invariant pre.0 pre.1.0 pre.1.1).so_far.holds, pre.1.1))
 
-pub returns-in-Refused : goal.returns-in-Refused
-returns-in-Refused c job holds same =
-    let rows = c.args.rows.now in
-    let read = c.args.read.now in
-    let end = c.line_end-end in
-    let next = lines_next read c.loop-at.at end.result end.ensures.0 c.if-end-at.false in
-    let obeyed = c.obey_line-next in
-    along_stops c.args.by_hand job rows _ c.loop-at.run c.loop-at.rows _ _
-    (rw next at (c.loop-at.invariant.2 job holds same)) obeyed.result obeyed.new.rows
-    (obeyed.ensures job (c.loop-at.invariant.2 job holds same).so_far.holds same) _ c.in-Refused.is
+pub returns-in_err-run : goal.returns-in_err-run
+returns-in_err-run c job holds same =
+    let obeyed = c.obey_line in
+    let along = c.loop-line.invariant job holds same in
+    rw (handed_on c.from_residual.ensures)
+    (along_stops c.args.by_hand job c.args.rows.now _ c.loop-line.run c.loop-line.rows _ _
+    (rw c.in-Some.ensures.steps at along) obeyed.new.rows _ (rw c.in_err-run.was at (obeyed.ensures job along.so_far.holds same)))
 
-pub loop-at-preserved : goal.loop-at-preserved
-loop-at-preserved c =
-    let rows = c.args.rows.now in
-    let read = c.args.read.now in
-    let end = c.line_end-end in
-    let next = lines_next read c.loop-at.at end.result end.ensures.0 c.if-end-at.false in
-    let obeyed = c.obey_line-next in
-    let more = c.if-end-at.false in (
-      obeyed.auto.rows ∙ c.loop-at.invariant.0,
-      omega arith,
-      λ job holds same.
-          along_goes c.args.by_hand job rows _ c.loop-at.run c.loop-at.rows _ _
-          (rw next at (c.loop-at.invariant.2 job holds same)) obeyed.result obeyed.new.rows
-          (obeyed.ensures job (c.loop-at.invariant.2 job holds same).so_far.holds same) c.in_default.is,
-    )
+pub loop-line-preserved : goal.loop-line-preserved
+loop-line-preserved c job holds same =
+    let obeyed = c.obey_line in
+    let along = c.loop-line.invariant job holds same in
+    along_goes c.args.by_hand job c.args.rows.now _ c.loop-line.run c.loop-line.rows _ _
+    (rw c.in-Some.ensures.steps at along) obeyed.new.rows _ (rw c.in_ok-run.was at (obeyed.ensures job along.so_far.holds same))
+
+pub returns : goal.returns
+returns c job holds same =
+    along_ends c.args.by_hand job c.args.rows.now _ c.loop-line.run c.loop-line.rows
+    (rw c.in-None.ensures.steps.0 at (c.loop-line.invariant job holds same))

@@ -4,32 +4,25 @@ use Prim.Native.Nat.{◌*◌, ◌≤◌}
 use native.Mathlib.Omega.{arith}
 use lib.ListN.{length}
 use lib.Seq.{length-take-le}
-use Rattle.text.proofs.RunEnds.{run_refused, run_done}
+use Rattle.refusal.proofs.Told.{handed_on}
 use Rattle.ran_tree.proofs.TreeEnds.{front_modes, done_stands}
 use Rattle.ran_tree.proofs.grow.Goals as goal
-use Rattle.ran_tree.proofs.grow.Goals.{In-Done}
+use Rattle.ran_tree.proofs.grow.Goals.{In_ok-run}
 
 -- The rows of the run that is done fit in what was lent.
-fits : (c : In-Done) → 4 * c.in-Done.run'.modes ≤ length c.run_text.new.rows
-fits c = omega (arith, (run_done 256 _ _ _ _ c.run_text.ensures _ c.in-Done.is).few, c.run_text.auto.rows, c.requires.0)
-
-pub overflow_mul-end : goal.overflow_mul-end
-overflow_mul-end c = omega (arith, (run_done 256 _ _ _ _ c.run_text.ensures _ c.in-Done.is).few)
+fits : (c : In_ok-run) → 4 * c.in_ok-run.run'.modes ≤ length c.run_text.new.rows
+fits c = omega (arith, c.in_ok-run.ensures.few)
 
 pub slice_bounds-lay_front-end : goal.slice_bounds-lay_front-end
-slice_bounds-lay_front-end c = fits (goal.at.slice_bounds-lay_front-end c).In-Done
-
-pub slice_bounds-lay_front-end-in-Done : goal.slice_bounds-lay_front-end-in-Done
-slice_bounds-lay_front-end-in-Done c = sym (length-take-le _ c.run_text.new.rows (fits (goal.at.slice_bounds-lay_front-end-in-Done c).In-Done))
+slice_bounds-lay_front-end c = sym (length-take-le _ _ (fits (goal.at.slice_bounds-lay_front-end c).In_ok-run))
 
 pub lay_front-requires : goal.lay_front-requires
 lay_front-requires c =
-    let known = run_done 256 _ _ _ _ c.run_text.ensures _ c.in-Done.is in
-    omega (arith, known.few, front_modes known (omega (arith, c.requires.0)), c.requires.2)
+    let known = c.in_ok-run.ensures in
+    omega (arith, known.few, front_modes known (omega arith))
 
-pub returns-in-Refused : goal.returns-in-Refused
-returns-in-Refused c = (run_refused 256 _ _ _ _ c.run_text.ensures _ c.in-Refused.is).is
+pub returns-in_err-run : goal.returns-in_err-run
+returns-in_err-run c = rw (handed_on c.from_residual.ensures) c.in_err-run.ensures.is
 
-pub returns-in-Done : goal.returns-in-Done
-returns-in-Done c =
-    done_stands (run_done 256 _ _ _ _ c.run_text.ensures _ c.in-Done.is) (omega (arith, c.requires.0)) _ c.lay_front.ensures
+pub returns : goal.returns
+returns c = done_stands c.in_ok-run.ensures (omega arith) _ c.lay_front.ensures

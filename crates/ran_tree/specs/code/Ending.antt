@@ -1,8 +1,7 @@
 -- What the code that lays out a run's tree tells of it.
-use Rattle.std.specs.Prelude.{◌≡◌, List, ℕ, ◌*◌, ◌≤◌, take}
+use Rattle.refusal.specs.declared.Refusal.{Refusal}
+use Rattle.std.specs.Prelude.{◌≡◌, List, ℕ, ◌*◌, ◌≤◌, take, Err, Ok, Result}
 use Rattle.journal.specs.Resuming.{Outcome, refuses}
-use Rattle.ran_tree.specs.declared.Ended.{Ended}
-use Rattle.ran_tree.specs.declared.Ended.TheVariants.{Tree, Refused}
 use Rattle.ran_tree.specs.Printing.{tree_printed}
 
 -- The run ended in a tree of so many modes, whose table stands in front: what is printed of the run is printed of that table.
@@ -10,6 +9,6 @@ pub record TreeStands (most : ℕ) (means : Outcome) (table : List ℕ) (modes :
   pub few : modes ≤ most
   pub prints : (of_table : ℕ → List ℕ → List ℕ) → of_table modes (take (3 * modes) table) ≡ tree_printed of_table means
 
-abbrev pub EndsIn : ℕ → Outcome → List ℕ → Ended → Type 0
-EndsIn most means table (Tree modes) = TreeStands most means table modes
-EndsIn most means table (Refused refusal) = means ≡ refuses refusal
+abbrev pub EndsIn : ℕ → Outcome → List ℕ → Result ℕ Refusal → Type 0
+EndsIn most means table (Ok modes) = TreeStands most means table modes
+EndsIn most means table (Err refusal) = means ≡ refuses refusal

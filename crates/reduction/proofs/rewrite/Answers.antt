@@ -1,37 +1,26 @@
--- From the end forward: what is passed is rewritten, what is ahead is as it was, and one more number is replaced and put in.
-use mathlib.Core.Path.{◌≡◌, refl}
-use Prim.Native.Nat.{◌<◌, ◌+◌, ◌-◌}
-use native.Mathlib.Omega.{arith}
-use borrow.Author.Rules.{rules}
-use lib.ListN.{length}
-use Rattle.reduction.proofs.Sorting.{rewritten_none, rest_ascends, rewrite_step}
+-- The numbers passed are replaced, and those ahead are as they were; at the end all are replaced, and then sorted.
+use Rattle.std.proofs.Common.{◌<◌, ◌≤◌, arith, length, get_or, append-nil}
+use Rattle.std.proofs.lemmas.List.{take_all, drop_all, get_or_default}
+use Rattle.std.proofs.lemmas.List.Edits.{map_over_more}
+use Rattle.reduction.specs.Reduction.{replacement, rewriting}
+use Rattle.reduction.proofs.SortedRight.{sorts}
 use Rattle.reduction.proofs.rewrite.Goals as goal
 
-pub loop-at-init : goal.loop-at-init
-loop-at-init c = (search rules, refl, refl, rewritten_none _ _ c.args.term.now)
-
-pub insert-requires : goal.insert-requires
-insert-requires c =
-    let args = c.args in
-    let a = c.loop-at.at - 1 in
-    let e : c.loop-at.at ≡ a + 1 = omega arith in
-    let inside : a < length args.term.now = omega arith in
-    record {
-      numbers_nonzero = search rules;
-      numbers_value = rest_ascends args.triple args.parent args.term.now c.loop-at.term a inside c.loop-at.invariant.1
-          (rw e at c.loop-at.invariant.2) (rw e at c.loop-at.invariant.3);
-    }
-
-pub loop-at-preserved : goal.loop-at-preserved
-loop-at-preserved c =
-    let args = c.args in
-    let a = c.loop-at.at - 1 in
-    let e : c.loop-at.at ≡ a + 1 = omega arith in
-    let inside : a < length args.term.now = omega arith in
-    rewrite_step args.triple args.parent args.term.now c.loop-at.term a inside c.loop-at.invariant.1
-    (rw e at c.loop-at.invariant.2) (rw e at c.loop-at.invariant.3) _ (rw c.replaced-number.ensures at c.insert.ensures)
+pub loop-index-preserved : goal.loop-index-preserved
+loop-index-preserved c =
+    let term = c.args.term.now in
+    let so_far = c.loop-index.term in
+    let i = c.loop-index.index-index in
+    let h : i < length so_far = omega arith in
+    rw c.replaced.ensures
+    (map_over_more (replacement c.args.triple c.args.parent) term so_far i (get_or so_far i 0) (omega arith) c.loop-index.invariant
+    (get_or_default so_far i 0 _ h))
 
 pub returns : goal.returns
+unfolding rewriting
 returns c =
-    let e : c.loop-at.at ≡ 0 = omega arith in
-    rw e at c.loop-at.invariant.3
+    let term = c.args.term.now in
+    let i = c.loop-index.index-index in
+    let h : length term ≤ i = omega arith in
+    let all = rw (take_all i term h, drop_all i term h, append-nil) at c.loop-index.invariant in
+    rw (← all) (sorts c.loop-index.term c.sort_unstable.new.self c.sort_unstable.ensures.permutation c.sort_unstable.ensures.sorted)

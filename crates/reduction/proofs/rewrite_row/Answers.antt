@@ -9,7 +9,7 @@ unfolding term
 returns c =
     let args = c.args in
     let pre = c.requires in
-    let e = c.wide-end.ensures.0 in
+    let e = c.from-count.ensures in
     rw (add-sub_cancel, e)
     (row_rewritten args.row.now pre.0 pre.1 args.triple args.parent _
     (rw (add-sub_cancel, e) at c.rewrite.ensures))

@@ -21,7 +21,7 @@ returns-then-drops_at c =
     let place = c.args.place in
     let rows = c.args.rows.now in
     let held = c.requires.worked.held in
-    rw (c.wide.ensures.0, c.clear_row.ensures.value, c.clear_row.ensures.rows_after) (record {
+    rw (c.from.ensures, c.clear_row.ensures.value, c.clear_row.ensures.rows_after) (record {
       row_settled = row_drops place rows held c.args.rule c.args.parent (sym c.drops_at.ensures ∙ c.if-drops_at.true);
       chained_2 = row_gone 16384 2048 9 place rows c.args.chains.now c.requires.chained c.requires.place_lt_most_terms _ (cleared_terms place rows held);
     })

@@ -19,4 +19,4 @@ pub returns : goal.returns
 returns c =
     let args = c.args in
     let read = slot_read args.modes args.assigned.now args.code (omega arith) (omega arith) (omega arith) in
-    (c.leaf_slot.ensures.0 ∙ ap (λ v. stands_as args.modes (leaf_slot args.modes v ((args.code - args.modes) % 2))) c.wide.ensures.0 ∙ ap (stands_as args.modes) (sym read), c.leaf_slot.ensures.1)
+    (c.leaf_slot.ensures.0 ∙ ap (λ v. stands_as args.modes (leaf_slot args.modes v ((args.code - args.modes) % 2))) c.from.ensures ∙ ap (stands_as args.modes) (sym read), c.leaf_slot.ensures.1)

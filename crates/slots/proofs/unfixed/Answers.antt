@@ -4,4 +4,4 @@ use Rattle.slots.proofs.unfixed.Goals as goal
 
 pub returns : goal.returns
 unfolding number_unfixed
-returns c = rw c.wide.ensures.0
+returns c = rw c.from.ensures

@@ -12,8 +12,8 @@ use Rattle.steering.proofs.put_journal.Goals as goal
 
 pub overflow_add-merges : goal.overflow_add-merges
 overflow_add-merges c =
-    let holds = c.requires.holds.1.0 in
-    omega (arith, merges_within c.requires.holds.0 _ c.args.run holds, holds.few, c.merges.ensures)
+    let holds = c.requires.1.0 in
+    omega (arith, merges_within c.requires.0 _ c.args.run holds, holds.few, c.merges.ensures)
 
 pub returns-then-kept_bytes-merges : goal.returns-then-kept_bytes-merges
 unfolding steer_printed
@@ -26,15 +26,15 @@ returns-then-kept_bytes-merges c job holds sized =
 
 pub write_new-requires : goal.write_new-requires
 write_new-requires c =
-    let known = c.requires.holds in
-    (known.0, (_, text_fits known.0 _ c.args.run _ _ known.1.0 known.1.1 _ (omega (arith, c.requires.out_len))))
+    let known = c.requires in
+    (known.0, (_, text_fits known.0 _ c.args.run _ _ known.1.0 known.1.1 _ (omega arith)))
 
 pub returns : goal.returns
 unfolding steer_printed
 returns c job holds sized =
     let run = c.args.run in
     let kept = c.kept_bytes in
-    let enough : 5392 ≤ length c.args.out.now = omega (arith, c.requires.out_len) in
+    let enough : 5392 ≤ length c.args.out.now = omega arith in
     let wrote = c.write_new.ensures job _ (text_fits job _ run _ _ holds sized _ enough) in
     rw (ended job c.args.merges.now (history_of run) (sym kept.ensures.0 ∙ c.if-kept_bytes-merges.false))
     (journal_puts job _ run _ _ holds sized c.args.out.now _ _ enough wrote.0 wrote.1)

@@ -13,33 +13,28 @@ use Rattle.steering.proofs.steer_job.Goals as goal
 sized : (modes : ℕ) (rule : Rule) (count : ℕ) (numbers : List ℕ) → Sized (job_of modes rule count numbers) modes count
 sized modes rule count numbers = record { modes_are = refl; count_is = length_terms 8 count numbers }
 
-pub obey_by_hand-found-requires : goal.obey_by_hand-found-requires
-obey_by_hand-found-requires c = record { le_modes = c.requires.le_modes; by_index = c.requires.by_index }
+pub obey_by_hand-requires : goal.obey_by_hand-requires
+obey_by_hand-requires c = record { le_modes = c.requires.le_modes; by_index = c.requires.by_index }
 
 pub put_journal-requires : goal.put_journal-requires
 put_journal-requires c =
     let args = c.args in
     let numbers = c.requires.by_index.0 in
-    let obeys = c.obey_by_hand-found.ensures numbers c.requires.by_index.1 in
-    record {
-      holds = (job_of args.modes args.rule args.count numbers, (obeys.went.holds, sized args.modes args.rule args.count numbers));
-      out_len = c.requires.out_len;
-    }
+    let told = rw c.in-Ok.is at (c.obey_by_hand.ensures numbers c.requires.by_index.1) in
+    (job_of args.modes args.rule args.count numbers, (told.went.holds, sized args.modes args.rule args.count numbers))
 
-pub returns-in-Refused : goal.returns-in-Refused
+pub returns-in-Err : goal.returns-in-Err
 unfolding steer_printed
-returns-in-Refused c numbers spread =
+returns-in-Err c numbers spread =
     let args = c.args in
     let job = job_of args.modes args.rule args.count numbers in
-    let obey = c.obey_by_hand-found in
-    rw (refused_steered job args.merges.now obey.result.verdict obey.result.run _ (obey.ensures numbers spread).comes_to _ c.in-Refused.is)
-    c.put_refusal.ensures
+    let told = rw c.in-Err.is at (c.obey_by_hand.ensures numbers spread) in
+    rw (refused_steered job args.merges.now _ _ told.comes_to) c.put_refusal.ensures
 
-pub returns-in-Fine : goal.returns-in-Fine
-returns-in-Fine c numbers spread =
+pub returns-in-Ok : goal.returns-in-Ok
+returns-in-Ok c numbers spread =
     let args = c.args in
     let job = job_of args.modes args.rule args.count numbers in
-    let obey = c.obey_by_hand-found in
-    let told = obey.ensures numbers spread in
-    rw (fine_steered job args.merges.now obey.result.verdict obey.result.run _ told.comes_to c.in-Fine.is)
+    let told = rw c.in-Ok.is at (c.obey_by_hand.ensures numbers spread) in
+    rw (fine_steered job args.merges.now _ _ told.comes_to)
     (c.put_journal.ensures job told.went.holds (sized args.modes args.rule args.count numbers))

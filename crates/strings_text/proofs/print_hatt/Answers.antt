@@ -1,25 +1,24 @@
 -- The run was refused, or its table stands in front, whose strings are printed.
 use mathlib.Core.Path.{sym, ◌∙◌}
+use Prim.Native.Nat.{◌*◌, ◌≤◌}
 use native.Mathlib.Omega.{arith}
+use lib.ListN.{length}
 use lib.Seq.{length-take-le}
-use Rattle.ran_tree.proofs.TreeEnds.{tree_stands, tree_refused}
+use Rattle.ran_tree.proofs.TreeEnds.{tree_refused}
 use Rattle.strings_text.specs.Printing.{table_strings}
 use Rattle.strings_text.proofs.StringsSuffice.{run_strings}
 use Rattle.strings_text.proofs.print_hatt.Goals as goal
+use Rattle.strings_text.proofs.print_hatt.Goals.{In-Ok}
 
-pub overflow_mul-end : goal.overflow_mul-end
-overflow_mul-end c = omega (arith, (tree_stands 256 _ _ _ c.run_tree.ensures _ c.in-Tree.is).few)
+-- The table of the modes is within what is lent.
+room : (c : In-Ok) → 3 * c.in-Ok.modes ≤ length c.run_tree.new.table
+room c = omega (arith, c.in-Ok.ensures.few)
 
 pub slice_bounds-put_strings-end : goal.slice_bounds-put_strings-end
-slice_bounds-put_strings-end c = omega (arith, (tree_stands 256 _ _ _ c.run_tree.ensures _ c.in-Tree.is).few, c.run_tree.auto.table, c.requires.0)
+slice_bounds-put_strings-end c = sym (length-take-le _ _ (room (goal.at.slice_bounds-put_strings-end c).In-Ok))
 
-pub slice_bounds-put_strings-end-in-Tree : goal.slice_bounds-put_strings-end-in-Tree
-slice_bounds-put_strings-end-in-Tree c =
-    let run = c.run_tree in
-    sym (length-take-le _ run.new.table (omega (arith, (tree_stands 256 _ _ _ c.run_tree.ensures _ c.in-Tree.is).few, run.auto.table, c.requires.0)))
+pub returns-in-Err : goal.returns-in-Err
+returns-in-Err c = rw (tree_refused c.in-Err.ensures (table_strings 256) ∙ run_strings _) at c.put_refusal.ensures
 
-pub returns-in-Refused : goal.returns-in-Refused
-returns-in-Refused c = rw (tree_refused 256 _ _ _ c.run_tree.ensures _ c.in-Refused.is (table_strings 256) ∙ run_strings _) at c.put_refusal.ensures
-
-pub returns-in-Tree : goal.returns-in-Tree
-returns-in-Tree c = rw ((tree_stands 256 _ _ _ c.run_tree.ensures _ c.in-Tree.is).prints (table_strings 256) ∙ run_strings _) at c.put_strings.ensures
+pub returns-in-Ok : goal.returns-in-Ok
+returns-in-Ok c = rw (c.in-Ok.ensures.prints (table_strings 256) ∙ run_strings _) at c.put_strings.ensures

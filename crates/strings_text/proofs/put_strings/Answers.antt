@@ -1,22 +1,16 @@
 -- The tree was refused, or its strings stand in front.
-use mathlib.Core.Path.{sym, ap, ◌∙◌}
-use Rattle.tree.specs.Writing.{text_after}
-use Rattle.strings.specs.Text.{strings_text}
+use native.Mathlib.Omega.{arith}
 use Rattle.strings_text.proofs.StringsPrinted.{written_strings, refused_strings}
 use Rattle.strings_text.proofs.put_strings.Goals as goal
 
-pub returns-in-Unwritten : goal.returns-in-Unwritten
-returns-in-Unwritten c =
+pub returns-in-Err : goal.returns-in-Err
+returns-in-Err c =
     let args = c.args in
-    let write = c.write_strings in
-    let says = sym c.in-Unwritten.is ∙ write.ensures.tells.answer in
-    let after = write.ensures.text_after ∙ ap (λ r. text_after r (strings_text args.modes args.tree.now) args.out.now) c.in-Unwritten.is in
-    refused_strings args.modes args.tree.now args.out.now c.requires c.in-Unwritten.refusal write.new.text says after c.put_refusal.ensures
+    let known = c.in-Err.ensures in
+    refused_strings args.modes args.tree.now args.out.now (omega arith) _ c.write_strings.new.text known.tells.answer known.text_after c.put_refusal.ensures
 
-pub returns-in-Written : goal.returns-in-Written
-returns-in-Written c =
+pub returns-in-Ok : goal.returns-in-Ok
+returns-in-Ok c =
     let args = c.args in
-    let write = c.write_strings in
-    let says = sym c.in-Written.is ∙ write.ensures.tells.answer in
-    let after = write.ensures.text_after ∙ ap (λ r. text_after r (strings_text args.modes args.tree.now) args.out.now) c.in-Written.is in
-    written_strings args.modes args.tree.now args.out.now c.requires c.in-Written.count write.new.text says after
+    let known = c.in-Ok.ensures in
+    written_strings args.modes args.tree.now args.out.now (omega arith) _ c.write_strings.new.text known.tells.answer known.text_after

@@ -1,10 +1,9 @@
 -- What is counted of rows before a couple is weighed with every z, and what the counts come to.
-use Rattle.std.specs.Prelude.{◌≡◌, List, map, ℕ, ◌+◌, ◌/◌, ◌%◌, ◌≤◌, ◌<◌, length, get_or, take}
+use Rattle.tallying.specs.declared.tally.Tally.{Tally}
+use Rattle.std.specs.Prelude.{◌≡◌, List, map, ℕ, ◌+◌, ◌/◌, ◌%◌, ◌≤◌, ◌<◌, length, get_or, take, None, Option, Some}
 use Rattle.lists.specs.Counting.{sum, occurrences}
 use Rattle.entities.specs.declared.Triple.{Triple}
 use Rattle.terms.specs.Weight.{term_weight, weight_of}
-use Rattle.tallying.specs.declared.tally.Tally.{Tally}
-use Rattle.tallying.specs.declared.tally.Tally.TheVariants.{Heavy, All}
 
 -- In how many terms a number is odd.
 unfoldable pub odds : ℕ → List (List ℕ) → ℕ
@@ -39,12 +38,12 @@ pub record RowTallied (term : List ℕ) (x y : ℕ) (before after : List ℕ) (o
       → (odd + 1) / 2 + occurrences z term % 2 + get_or before z 0 ≡ term_weight (record { x = x; y = y; z = z }) term + get_or after z 0
 
 -- The weights of the couple with all z: none below the limit; or each from the counts, and none below a bound.
-abbrev pub Tallied : List (List ℕ) → ℕ → ℕ → ℕ → List ℕ → Tally → Type 0
-Tallied terms x y limit less Heavy = (z : ℕ) → limit ≤ weight_of (record { x = x; y = y; z = z }) terms
-Tallied terms x y limit less (All all bound) =
-    (all ≤ length terms)
-    × ((z : ℕ) → z < length less → all + odds z terms ≡ weight_of (record { x = x; y = y; z = z }) terms + get_or less z 0)
-    × ((z : ℕ) → bound ≤ weight_of (record { x = x; y = y; z = z }) terms)
+abbrev pub Tallied : List (List ℕ) → ℕ → ℕ → ℕ → List ℕ → Option Tally → Type 0
+Tallied terms x y limit less None = (z : ℕ) → limit ≤ weight_of (record { x = x; y = y; z = z }) terms
+Tallied terms x y limit less (Some tally) =
+    (tally.all ≤ length terms)
+    × ((z : ℕ) → z < length less → tally.all + odds z terms ≡ weight_of (record { x = x; y = y; z = z }) terms + get_or less z 0)
+    × ((z : ℕ) → tally.apart ≤ weight_of (record { x = x; y = y; z = z }) terms)
 
 -- What was counted gives the weight of the couple with any z below a room.
 abbrev pub Looked : ℕ → (Triple → ℕ) → ℕ → ℕ → ℕ → List ℕ → List ℕ → Type 0

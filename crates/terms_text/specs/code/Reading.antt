@@ -1,5 +1,8 @@
 -- What the code that reads a text tells of it, part by part.
-use Rattle.std.specs.Prelude.{◌≡◌, Bool, true, cond, ◌&&◌, ℕ, ◌-◌, ◌*◌, ◌≤◌, eqb, length, get_or, take, replicate}
+use Rattle.refusal.specs.declared.Refusal.{Refusal}
+use Rattle.refusal.specs.declared.Refusal.TheVariants.{Malformed}
+use Rattle.refusal.specs.Numbers.{place_of}
+use Rattle.std.specs.Prelude.{◌≡◌, Bool, true, false, cond, ◌&&◌, ℕ, ◌+◌, ◌-◌, ◌*◌, ◌≤◌, eqb, length, get_or, take, replicate, None, Option, Result, Some, Ok, Err}
 use mathlib.Core.List.{List, [], ◌∷◌, ◌++◌, map, flat_map}
 use Rattle.lists.specs.Written.{written_at}
 use Rattle.entities.specs.Limits.{row_width}
@@ -8,16 +11,12 @@ use Rattle.fields.specs.Decimal.{value}
 use Rattle.fields.specs.Lines.{lines, kept_of}
 use Rattle.fields.specs.Fields.{fields}
 use Rattle.fields.specs.code.Reading.{fields_behind, says_numbers}
-use Rattle.terms_text.specs.declared.Modes.{Modes}
-use Rattle.terms_text.specs.declared.Modes.TheVariants.{Are, Broken}
-use Rattle.terms_text.specs.declared.Said.{Said}
-use Rattle.terms_text.specs.declared.Said.TheVariants.{Given, Malformed}
-use Rattle.terms_text.specs.declared.Terms.{Terms}
-use Rattle.terms_text.specs.Input.{modes_line, term_line, formed_from, term_row, given, malformed, Said as Meant}
+use Rattle.terms_text.specs.declared.Given.{Given}
+use Rattle.terms_text.specs.Input.{modes_line, term_line, formed_from, term_row, Said, given, malformed}
 
 -- The first line's number, where it says one.
-unfoldable pub modes_said : List ℕ → Modes
-modes_said line = cond (modes_line (fields line)) (Are (value (get_or (fields line) 1 []))) Broken
+unfoldable pub modes_said : List ℕ → Option ℕ
+modes_said line = cond (modes_line (fields line)) (Some (value (get_or (fields line) 1 []))) None
 
 -- The word of a term's line, and a tab.
 abbrev pub term_opening : List ℕ
@@ -42,24 +41,24 @@ pub record TermPut (line : List ℕ) (place : ℕ) (before after : List ℕ) (r 
 unfoldable pub all_terms : ℕ → List ℕ → Bool
 all_terms most text = eqb (formed_from most 1 (lines text)) (length (lines text)) && eqb (length (kept_of text)) (length text)
 
--- The lines behind the first read as terms: how many are before the first that isn't, whether they are all, and if so their rows.
-pub record TermsRead (most : ℕ) (text numbers : List ℕ) (r : Terms) : Type 0 where
-  pub formed : r.count ≡ formed_from most 1 (lines text)
-  pub few : r.count ≤ most
-  pub whole : r.all ≡ all_terms most text
-  pub rows : r.all ≡ true → take (row_width * r.count) numbers ≡ flat_map term_row (lines text)
+-- The lines behind the first are terms, at most as many as there may be, and their rows stand in front.
+pub record AllTerms (most : ℕ) (text numbers : List ℕ) (count : ℕ) : Type 0 where
+  pub whole : all_terms most text ≡ true
+  pub formed : count ≡ formed_from most 1 (lines text)
+  pub few : count ≤ most
+  pub rows : take (row_width * count) numbers ≡ flat_map term_row (lines text)
 
--- What the answer and the numbers' front say.
-unfoldable pub meant_by : Said → List ℕ → Meant
-meant_by (Given modes count) numbers = given modes (take (row_width * count) numbers)
-meant_by (Malformed line) numbers = malformed line
+-- The lines behind the first read as terms, or refused at the first that isn't a term, or behind the last.
+abbrev pub TermsRead : ℕ → List ℕ → List ℕ → Result ℕ Refusal → Type 0
+TermsRead most text numbers (Ok count) = AllTerms most text numbers count
+TermsRead most text numbers (Err why) = (all_terms most text ≡ false) × (why ≡ Malformed (formed_from most 1 (lines text) + 1))
 
--- How many terms an answer gives.
-unfoldable pub terms_given : Said → ℕ
-terms_given (Given modes count) = count
-terms_given (Malformed line) = 0
+-- Modes and terms are read, at most as many terms as there may be, and their rows stand in front.
+pub record GivenRead (most : ℕ) (meant : Said) (numbers : List ℕ) (read : Given) : Type 0 where
+  pub says : meant ≡ given read.modes (take (row_width * read.count) numbers)
+  pub few : read.count ≤ most
 
--- A text read: the answer says what the text says, of so many terms at most.
-pub record Reads (most : ℕ) (meant : Meant) (numbers : List ℕ) (r : Said) : Type 0 where
-  pub says : meant_by r numbers ≡ meant
-  pub few : terms_given r ≤ most
+-- A text read: the answer says what the text says.
+abbrev pub Reads : ℕ → Said → List ℕ → Result Given Refusal → Type 0
+Reads most meant numbers (Ok read) = GivenRead most meant numbers read
+Reads most meant numbers (Err why) = (why ≡ Malformed (place_of why)) × (meant ≡ malformed (place_of why))

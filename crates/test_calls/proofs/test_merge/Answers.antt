@@ -7,8 +7,8 @@ pub put_merge-requires : goal.put_merge-requires
 put_merge-requires c =
     let args = c.args in
     let good =
-    accepted args.modes args.terms.now c.in-Good.count
-    (sym c.check_terms.ensures.answer ∙ c.in-Good.is) in
+    accepted args.modes args.terms.now c.in-Ok.count
+    (sym c.check_terms.ensures.answer ∙ c.in-Ok.is) in
     record {
       given = good.given;
       count_le_most_terms = good.at_most;

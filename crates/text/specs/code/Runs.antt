@@ -1,10 +1,8 @@
 -- What the code that runs a text tells of it.
-use Rattle.std.specs.Prelude.{◌≡◌, List, ℕ, ◌*◌, ◌≤◌, length}
+use Rattle.std.specs.Prelude.{◌≡◌, List, ℕ, ◌*◌, ◌≤◌, length, Err, Ok, Result}
 use Rattle.lists.specs.Written.{written_at}
 use Rattle.refusal.specs.declared.Refusal.{Refusal}
 use Rattle.journal.specs.Resuming.{Ending, Outcome, done, refuses}
-use Rattle.text.specs.declared.running.Ran.{Ran}
-use Rattle.text.specs.declared.running.Ran.TheVariants.{Done, Refused}
 use Rattle.text.specs.declared.running.Run.{Run}
 
 -- What is lent to a run for its rows and its new lines.
@@ -40,6 +38,6 @@ pub record RanRefused (means : Outcome) (before after : Lent) (refusal : Refusal
   pub leaves : after ≡ before
 
 -- A text was run, of so many modes at most.
-abbrev pub Runs : ℕ → Outcome → Lent → Lent → Ran → Type 0
-Runs most means before after (Done run) = RanDone most means before after run
-Runs most means before after (Refused refusal) = RanRefused means before after refusal
+abbrev pub Runs : ℕ → Outcome → Lent → Lent → Result Run Refusal → Type 0
+Runs most means before after (Ok run) = RanDone most means before after run
+Runs most means before after (Err refusal) = RanRefused means before after refusal

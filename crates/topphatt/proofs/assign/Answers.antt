@@ -1,25 +1,27 @@
 -- The modes, then the rule, then what the tree and the terms come to.
-use mathlib.Core.Path.{refl}
-use borrow.Author.Tests.{le-leb, lt-leb}
-use Rattle.terms.specs.Rules.{rule_good}
-use Rattle.terms.specs.Good.{modes_good}
+use mathlib.Core.Path.{refl, ap, ◌∙◌}
+use Rattle.refusal.proofs.Told.{handed_on}
+use Rattle.terms.specs.Rules.{rule_number}
+use Rattle.terms.proofs.RuleNumbers.{number_of_rule}
 use Rattle.topphatt.specs.Answer.{outcome}
 use Rattle.topphatt.proofs.Answers.{refused_so}
 use Rattle.topphatt.proofs.assign.Goals as goal
 
-pub returns-then-modes-lt1 : goal.returns-then-modes-lt1
-unfolding outcome modes_good
-returns-then-modes-lt1 c = rw (lt-leb _ _ c.if-modes-lt1.true) (refused_so _ _ _ refl)
+pub returns-in_err-check_modes : goal.returns-in_err-check_modes
+unfolding outcome
+returns-in_err-check_modes c =
+    let refused = c.in_err-check_modes.ensures.said in
+    rw (handed_on c.from_residual.ensures, refused.1, refused.0) (refused_so _ _ _ refl)
 
-pub returns-then-modes-gt256 : goal.returns-then-modes-gt256
-unfolding outcome modes_good
-returns-then-modes-gt256 c = rw (le-leb _ _ c.if-modes-lt1.false, lt-leb _ _ c.if-modes-gt256.true) (refused_so _ _ _ refl)
-
-pub returns-then-rule-gt1 : goal.returns-then-rule-gt1
-unfolding outcome modes_good rule_good
-returns-then-rule-gt1 c = rw (le-leb _ _ c.if-modes-lt1.false, le-leb _ _ c.if-modes-gt256.false, lt-leb _ _ c.if-rule-gt1.true) (refused_so _ _ _ refl)
+pub returns-in_err-rule : goal.returns-in_err-rule
+unfolding outcome
+returns-in_err-rule c =
+    let refused = c.in_err-rule.ensures in
+    rw (handed_on c.from_residual-in_err-rule.ensures, c.in_ok-check_modes.ensures.said, refused.1, refused.0) (refused_so _ _ _ refl)
 
 pub returns : goal.returns
-unfolding outcome modes_good rule_good
+unfolding outcome
 returns c =
-    rw (le-leb _ _ c.if-modes-lt1.false, le-leb _ _ c.if-modes-gt256.false, le-leb _ _ c.if-rule-gt1.false) c.assign_ruled.ensures
+    let said = c.in_ok-rule.ensures in
+    let number = ap rule_number said.1 ∙ number_of_rule c.args.rule said.0 in
+    rw (c.in_ok-check_modes.ensures.said, said.0) (rw number at c.assign_ruled.ensures)

@@ -1,5 +1,8 @@
 -- Too little room is refused; else nothing can refuse any more.
+use Rattle.slots.specs.Heuristics.{heuristic_number}
 use mathlib.Core.Path.{sym}
+use Rattle.terms.specs.Rules.{rule_number}
+use Rattle.terms.proofs.RuleNumbers.{rule_of_number}
 use Rattle.topphatt.specs.Answer.{asked, task_of, done_by, with_room}
 use Rattle.topphatt.specs.Promises.{lent, rooms_of}
 use Rattle.topphatt.proofs.Answers.{room_work, room_table, room_done, refused_so, assigns_so}
@@ -8,22 +11,22 @@ use Rattle.topphatt.proofs.assign_good.Goals as goal
 pub returns-then-work-count : goal.returns-then-work-count
 returns-then-work-count c =
     let args = c.args in
-    let call = asked args.modes args.rule args.tree.now args.heuristic args.terms.now in
+    let call = asked args.modes (rule_number args.rule) args.tree.now (heuristic_number args.heuristic) args.terms.now in
     let given = lent args.work.now args.table.now in
     refused_so _ given _ (room_work (rooms_of 256 given) call args.count c.if-work-count.true)
 
 pub returns-then-table-modes : goal.returns-then-table-modes
 returns-then-table-modes c =
     let args = c.args in
-    let call = asked args.modes args.rule args.tree.now args.heuristic args.terms.now in
+    let call = asked args.modes (rule_number args.rule) args.tree.now (heuristic_number args.heuristic) args.terms.now in
     let given = lent args.work.now args.table.now in
     refused_so _ given _ (room_table (rooms_of 256 given) call args.count c.if-work-count.false c.if-table-modes.true)
 
 pub returns : goal.returns
 returns c =
     let args = c.args in
-    let call = asked args.modes args.rule args.tree.now args.heuristic args.terms.now in
+    let call = asked args.modes (rule_number args.rule) args.tree.now (heuristic_number args.heuristic) args.terms.now in
     let given = lent args.work.now args.table.now in
     assigns_so (λ l. done_by (task_of call args.count)) given (λ l. with_room (rooms_of 256 l) (task_of call args.count)) _ _
     (sym (room_done (rooms_of 256 given) call args.count c.if-work-count.false c.if-table-modes.false))
-    (rw c.rule_of.ensures at c.assign_in.ensures)
+    (rw (rule_of_number args.rule) c.assign_in.ensures)

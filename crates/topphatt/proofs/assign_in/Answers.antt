@@ -1,4 +1,5 @@
 -- The terms stand as work rows in the front of work, where the rounds are made; it is cleared behind them.
+use Rattle.slots.specs.Heuristics.{heuristic_number}
 use mathlib.Core.Path.{◌∙◌}
 use Rattle.terms.specs.Rows.{terms_of}
 use Rattle.terms.proofs.RowSteps.{length_terms}
@@ -23,7 +24,7 @@ returns c =
     let args = c.args in
     let terms = args.terms.now in
     let count = args.count in
-    let task = task_with args.modes args.rule args.tree.now args.heuristic (terms_of 8 count terms) in
+    let task = task_with args.modes args.rule args.tree.now (heuristic_number args.heuristic) (terms_of 8 count terms) in
     let tabled = rw (spread_terms count terms put.new.rows put.ensures.spread) at c.assign_rows-weight.ensures in
     done_so task count args.work.now c.assign_rows-weight.new.rows args.table.now _ _ _ (length_terms 8 count terms)
     tabled.weight_is (tabled.rest ∙ put.ensures.rows_unchanged) c.clear_front.ensures tabled.table_is

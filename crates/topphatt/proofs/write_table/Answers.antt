@@ -1,9 +1,5 @@
 -- The codes written so far.
-use mathlib.Core.Path.{◌∙◌, ap}
-use Prim.Native.Nat.{ℕ, ◌*◌}
-use native.Mathlib.Omega.{arith}
-use lib.ListN.{get_or, set, length-set}
-use lib.Seq.{take_all}
+use Rattle.std.proofs.Common.{◌∙◌, ap, ℕ, ◌*◌, arith, get_or, set, take_all}
 use Rattle.lists.proofs.Behind.{mapped_start, mapped_next}
 use Rattle.entities.specs.Codes.{child_code}
 use Rattle.slots.specs.Slots.{slot_of, stands_as}
@@ -13,19 +9,16 @@ use Rattle.topphatt.proofs.write_table.Goals as goal
 pub loop-at-init : goal.loop-at-init
 loop-at-init c =
     let args = c.args in
-    (omega arith, omega arith, mapped_start (λ given. child_code args.modes (2 * args.modes) (stands_as args.modes (slot_of args.modes args.assigned.now given))) args.tree.now args.table.now)
+    mapped_start (λ given. child_code args.modes (2 * args.modes) (stands_as args.modes (slot_of args.modes args.assigned.now given))) args.tree.now args.table.now
 
 pub loop-at-preserved : goal.loop-at-preserved
 loop-at-preserved c =
     let args = c.args in
-    let rule : ℕ → ℕ = λ given. child_code args.modes (2 * args.modes) (stands_as args.modes (slot_of args.modes args.assigned.now given)) in (
-      omega arith,
-      simp length-set (omega arith),
-      rw c.answer_code.ensures (ap (λ t. set t c.loop-at.at (rule (get_or args.tree.now c.loop-at.at 0))) c.loop-at.invariant.2 ∙ mapped_next rule args.tree.now args.table.now c.loop-at.at 0 (omega arith) (omega arith)),
-    )
+    let rule : ℕ → ℕ = λ given. child_code args.modes (2 * args.modes) (stands_as args.modes (slot_of args.modes args.assigned.now given)) in
+    rw c.answer_code.ensures (ap (λ t. set t c.loop-at.at (rule (get_or args.tree.now c.loop-at.at 0))) c.loop-at.invariant ∙ mapped_next rule args.tree.now args.table.now c.loop-at.at 0 (omega arith) (omega arith))
 
 pub returns : goal.returns
 unfolding answer_table
 returns c =
     let args = c.args in
-    c.loop-at.invariant.2 ∙ rw (take_all c.loop-at.at args.tree.now (omega arith))
+    c.loop-at.invariant ∙ rw (take_all c.loop-at.at args.tree.now (omega arith))

@@ -1,5 +1,5 @@
 -- What holds from round to round, and what the functions of the rounds promise one another.
-use Rattle.std.specs.Prelude.{◌≡◌, List, ℕ, suc, ◌*◌, ◌≤◌, ◌<◌, length, drop}
+use Rattle.std.specs.Prelude.{◌≡◌, List, ℕ, ◌+◌, ◌*◌, ◌≤◌, ◌<◌, length, drop}
 use Rattle.lists.specs.Written.{written_at}
 use Rattle.entities.specs.Limits.{most_terms, row_width, work_width}
 use Rattle.terms.specs.declared.rules.Rule.{Rule}
@@ -11,7 +11,6 @@ use Rattle.choice.specs.declared.Selection.{Selection}
 use Rattle.choice.specs.Choice.{Choice}
 use Rattle.choice.specs.computed.Choosing.{chosen}
 use Rattle.choice.specs.code.Seeking.{choice_of}
-use Rattle.topphatt.specs.declared.rounds.Progress.{Progress}
 use Rattle.topphatt.specs.Rounds.{Rounds, Task, fixed_by}
 use Rattle.topphatt.specs.computed.Rounding.{next}
 use Rattle.topphatt.specs.Answer.{answer_table}
@@ -22,12 +21,8 @@ task_with modes rule table heuristic terms =
     record { job = record { modes = modes; rule = rule; terms = terms }; table = table; heuristic = heuristic }
 
 -- What the rounds have come to.
-unfoldable pub state_of : List ℕ → List ℕ → Progress → Rounds
-state_of rows assigned progress = record {
-  assigned = assigned;
-  rows = terms_of work_width progress.count rows;
-  weight = progress.weight;
-}
+unfoldable pub state_of : ℕ → List ℕ → List ℕ → ℕ → Rounds
+state_of count rows assigned weight = record { assigned = assigned; rows = terms_of work_width count rows; weight = weight }
 
 -- What each round needs of the tree and the pairs' modes.
 pub record Ready (most modes : ℕ) (table distances assigned : List ℕ) : Type 0 where
@@ -38,11 +33,10 @@ pub record Ready (most modes : ℕ) (table distances assigned : List ℕ) : Type
   pub pairs : length assigned ≡ modes
 
 -- What holds before and after each round; the rows are work rows.
-pub record Going (most modes : ℕ) (table distances rows assigned : List ℕ) (progress : Progress) : Type 0 where
+pub record Going (most modes : ℕ) (table distances rows : List ℕ) (count : ℕ) (assigned : List ℕ) : Type 0 where
   pub ready : Ready most modes table distances assigned
-  pub fits : progress.count ≤ most_terms
-  pub worked : Worked progress.count rows
-  pub light : progress.weight ≤ most_terms * progress.round
+  pub fits : count ≤ most_terms
+  pub worked : Worked count rows
 
 -- What a choice is sought among: the first `count` of the gathered rows.
 pub record Among (most modes : ℕ) (table distances rows : List ℕ) (count : ℕ) (assigned : List ℕ) : Type 0 where
@@ -61,14 +55,14 @@ pub record Fixed (modes : ℕ) (table : List ℕ) (choice : Choice) (assigned af
   pub pairs : length after ≡ modes
   pub right : after ≡ fixed_by modes table choice assigned
 
--- A round was made; whatever the terms were at first, and the numbers behind the rows are as they were.
-pub record RoundMade (most modes : ℕ) (rule : Rule) (table distances : List ℕ) (heuristic : ℕ) (rows assigned : List ℕ) (progress : Progress) (now_rows now_assigned : List ℕ) (r : Progress) : Type 0 where
-  pub on : r.round ≡ suc progress.round
-  pub same_count : r.count ≡ progress.count
-  pub right : (terms : List (List ℕ))
-      → state_of now_rows now_assigned r ≡ next (task_with modes rule table heuristic terms) (state_of rows assigned progress)
-  pub going : Going most modes table distances now_rows now_assigned r
-  pub rest : drop (work_width * progress.count) now_rows ≡ drop (work_width * progress.count) rows
+-- A round was made, its choice of this weight; whatever the terms were at first and what the rounds before it weighed, and the numbers
+-- behind the rows are as they were.
+pub record RoundMade (most modes : ℕ) (rule : Rule) (table distances : List ℕ) (heuristic : ℕ) (rows : List ℕ) (count : ℕ) (assigned now_rows now_assigned : List ℕ) (r : ℕ) : Type 0 where
+  pub right : (terms : List (List ℕ)) (weight : ℕ)
+      → state_of count now_rows now_assigned (weight + r) ≡ next (task_with modes rule table heuristic terms) (state_of count rows assigned weight)
+  pub light : r ≤ most_terms
+  pub going : Going most modes table distances now_rows count now_assigned
+  pub rest : drop (work_width * count) now_rows ≡ drop (work_width * count) rows
 
 -- All rounds were made.
 pub record Ended (modes count : ℕ) (end : Rounds) (rows now_rows assigned : List ℕ) (r : ℕ) : Type 0 where

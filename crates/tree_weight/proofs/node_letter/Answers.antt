@@ -1,40 +1,40 @@
 -- Each count and what is ahead of it make all the edges of its kind; at the end the three counts decide the letter.
-use mathlib.Core.Path.{◌≡◌, ◌∙◌, ap}
-use Prim.Native.Nat.{◌<◌, ◌≤◌, ◌*◌}
-use native.Mathlib.Numerals.{add-one}
-use native.Mathlib.Omega.{arith}
-use lib.ListN.{length}
+use Rattle.std.proofs.Common.{◌≡◌, ◌∙◌, ap, ◌<◌, ◌≤◌, ◌*◌, add-one, arith, length}
 use Rattle.lists.specs.Counting.{same, occurrences}
+use Rattle.lists.proofs.Standard.{same_is}
 use Rattle.lists.proofs.Every.{below_at}
 use Rattle.tree_weight.specs.Weight.{edges, node_letter}
 use Rattle.tree_weight.proofs.TreeWeighing.{edges_step, edges_end}
 use Rattle.tree_weight.proofs.node_letter.Goals as goal
 
-pub overflow_add-modes-in-loop-at : goal.overflow_add-modes-in-loop-at
-overflow_add-modes-in-loop-at c =
-    let below = below_at (2 * c.args.modes) c.args.term.now c.loop-at.at 0 (omega arith) c.requires.term_value in
-    let e = c.wide.ensures.0 in
+pub overflow_add-modes-in-loop-index : goal.overflow_add-modes-in-loop-index
+overflow_add-modes-in-loop-index c =
+    let below = below_at (2 * c.args.modes) c.args.term.now c.loop-index.index-index 0 (omega arith) c.requires.term_value in
+    let e = c.from.ensures in
     omega arith
 
 pub edge_under-edge-requires : goal.edge_under-edge-requires
 edge_under-edge-requires c =
-    let below = below_at (2 * c.args.modes) c.args.term.now c.loop-at.at 0 (omega arith) c.requires.term_value in
-    let e = c.wide.ensures.0 in
+    let below = below_at (2 * c.args.modes) c.args.term.now c.loop-index.index-index 0 (omega arith) c.requires.term_value in
+    let e = c.from.ensures in
     record { places = c.requires.places; code_in_bounds = omega arith }
 
-pub loop-at-preserved : goal.loop-at-preserved
-loop-at-preserved c =
+pub loop-index-preserved : goal.loop-index-preserved
+loop-index-preserved c =
     let args = c.args in
     let term = args.term.now in
-    let at = c.loop-at.at in
+    let at = c.loop-index.index-index in
     let h : at < length term = omega arith in
     let x = edges_step args.modes args.tree.now args.node term at 0 h in
     let y = edges_step args.modes args.tree.now args.node term at 1 h in
     let z = edges_step args.modes args.tree.now args.node term at 2 h in
-    let found : c.edge_under-edge.result ≡ _ = rw (c.wide.ensures.0, add-one) at c.edge_under-edge.ensures in
-    let ex = c.same-xs.ensures.0 ∙ ap (λ v. same v 0) found in
-    let ey = c.same-ys.ensures.0 ∙ ap (λ v. same v 1) found in
-    let ez = c.same-zs.ensures.0 ∙ ap (λ v. same v 2) found in
+    let found : c.edge_under-edge.result ≡ _ = rw (c.from.ensures, add-one) at c.edge_under-edge.ensures in
+    let own_x = same_is c.edge_under-edge.result 0 in
+    let ex = c.from-xs.ensures ∙ own_x.0 ∙ ap (λ v. same v 0) found in
+    let own_y = same_is c.edge_under-edge.result 1 in
+    let ey = c.from-ys.ensures ∙ own_y.0 ∙ ap (λ v. same v 1) found in
+    let own_z = same_is c.edge_under-edge.result 2 in
+    let ez = c.from-zs.ensures ∙ own_z.0 ∙ ap (λ v. same v 2) found in
     omega arith
 
 pub returns : goal.returns
@@ -42,12 +42,12 @@ unfolding node_letter
 returns c =
     let args = c.args in
     let term = args.term.now in
-    let at = c.loop-at.at in
+    let at = c.loop-index.index-index in
     let h : length term ≤ at = omega arith in
     let x = edges_end args.modes args.tree.now args.node term at 0 h in
     let y = edges_end args.modes args.tree.now args.node term at 1 h in
     let z = edges_end args.modes args.tree.now args.node term at 2 h in
-    let ex : c.loop-at.xs ≡ occurrences 0 (edges args.modes args.tree.now args.node term) = omega arith in
-    let ey : c.loop-at.ys ≡ occurrences 1 (edges args.modes args.tree.now args.node term) = omega arith in
-    let ez : c.loop-at.zs ≡ occurrences 2 (edges args.modes args.tree.now args.node term) = omega arith in
+    let ex : c.loop-index.xs ≡ occurrences 0 (edges args.modes args.tree.now args.node term) = omega arith in
+    let ey : c.loop-index.ys ≡ occurrences 1 (edges args.modes args.tree.now args.node term) = omega arith in
+    let ez : c.loop-index.zs ≡ occurrences 2 (edges args.modes args.tree.now args.node term) = omega arith in
     rw (← ex, ← ey, ← ez) c.counted_letter.ensures

@@ -1,7 +1,5 @@
 -- The weight at the nodes passed and at those ahead is the weight at all.
-use mathlib.Core.Path.{◌≡◌, ◌∙◌, sym, ap}
-use native.Mathlib.Nat.{zero-add}
-use native.Mathlib.Omega.{arith}
+use Rattle.std.proofs.Common.{◌≡◌, ◌∙◌, sym, ap, zero-add, arith}
 use Rattle.lists.proofs.Ranges.{sum_on, sum_done}
 use Rattle.terms.specs.Letters.{not_none}
 use Rattle.tree_weight.specs.Weight.{node_weight}
@@ -11,7 +9,7 @@ use Rattle.tree_weight.proofs.row_weight.Goals as goal
 pub loop-node-init : goal.loop-node-init
 loop-node-init c =
     let args = c.args in
-    (omega arith, omega arith, zero-add _ ∙ sym (row_start args.modes args.tree.now args.term.now))
+    (omega arith, zero-add _ ∙ sym (row_start args.modes args.tree.now args.term.now))
 
 pub node_letter-requires : goal.node_letter-requires
 node_letter-requires c =

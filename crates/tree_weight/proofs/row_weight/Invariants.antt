@@ -1,16 +1,10 @@
 -- The weight at the nodes passed and at those ahead is the weight at all.
-use mathlib.Core.Path.{◌≡◌}
-use mathlib.Core.List.{map}
-use Prim.Native.Nat.{◌≤◌, ◌-◌, ◌+◌}
+use Rattle.std.proofs.Common.{◌≡◌, map, ◌≤◌, ◌-◌, ◌+◌}
 use Rattle.lists.specs.Counting.{sum as total}
 use Rattle.lists.specs.Ranges.{listed}
 use Rattle.tree_weight.specs.Weight.{node_weight, row_weight}
 use Rattle.tree_weight.proofs.row_weight.Given as goal
 
 abbrev pub invariant-loop-node : goal.invariant-loop-node
-invariant-loop-node l = (l.node ≤ l.modes)
-    × (l.sum ≤ l.node)
+invariant-loop-node l = (l.sum ≤ l.node)
     × (l.sum + total (map (node_weight l.modes l.tree l.term) (listed (λ v. v) l.node (l.modes - l.node))) ≡ row_weight l.modes l.tree l.term)
-
-abbrev pub decreases-loop-node : goal.decreases-loop-node
-decreases-loop-node l = l.modes - l.node

@@ -1,10 +1,5 @@
 -- The weight of the rows passed and of those ahead is the weight of all.
-use mathlib.Core.Path.{◌∙◌, sym, ap}
-use Prim.Native.Nat.{◌*◌}
-use native.Mathlib.Nat.{zero-add}
-use native.Mathlib.Omega.{arith}
-use borrow.Author.Rules.{rules}
-use lib.Dec.{ltb}
+use Rattle.std.proofs.Common.{◌∙◌, sym, ap, ◌*◌, zero-add, arith, rules, ltb}
 use Rattle.lists.specs.Members.{every}
 use Rattle.terms.proofs.RowSteps.{terms_start, every_term_at}
 use Rattle.tree_weight.specs.Weight.{row_weight, listed_weight}
@@ -12,7 +7,7 @@ use Rattle.tree_weight.proofs.TreeWeighing.{tree_step, tree_end}
 use Rattle.tree_weight.proofs.rows_weight.Goals as goal
 
 pub loop-place-init : goal.loop-place-init
-loop-place-init c = (omega arith, omega arith, zero-add _ ∙ sym (ap (listed_weight _ _) (terms_start 9 _ _)))
+loop-place-init c = (omega arith, zero-add _ ∙ sym (ap (listed_weight _ _) (terms_start 9 _ _)))
 
 pub term_at-requires : goal.term_at-requires
 term_at-requires c =

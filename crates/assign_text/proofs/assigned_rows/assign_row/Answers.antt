@@ -13,4 +13,4 @@ bounds-rows-at-4 c = simp length-set (omega arith)
 
 pub returns : goal.returns
 returns c =
-    row_stored c.args.rows.now c.args.table.now (4 * c.args.row) _ _ _ _ c.requires c.wide-label.ensures.0 c.child_of.ensures c.child_of-2.ensures c.child_of-3.ensures
+    row_stored c.args.rows.now c.args.table.now (4 * c.args.row) _ _ _ _ c.requires c.from-label.ensures c.child_of.ensures c.child_of-2.ensures c.child_of-3.ensures

@@ -1,11 +1,6 @@
 -- The rows written anew and those ahead give the answer.
-use Prim.Native.Nat.{◌/◌, ◌-◌}
-use lib.ListN.{length}
 use Rattle.assign_text.proofs.AssignedRows.{Anew}
 use Rattle.assign_text.proofs.assigned_rows.assign_rows.Given as goal
 
 abbrev pub invariant-loop-row : goal.invariant-loop-row
 invariant-loop-row l = Anew l.initial.rows l.table l.rows l.row
-
-abbrev pub decreases-loop-row : goal.decreases-loop-row
-decreases-loop-row l = length l.initial.rows / 4 - l.row

@@ -1,12 +1,11 @@
--- Three open entities first, then that they are paired.
-use mathlib.Core.Path.{◌∙◌, sym}
+-- Three open entities, and that they are paired.
 use Rattle.history.specs.computed.Pairs.{is_lawful}
 use Rattle.best.proofs.lawful.is_lawful.Goals as goal
 
-pub returns-then-not-three_open : goal.returns-then-not-three_open
+pub returns-then-three_open : goal.returns-then-three_open
 unfolding is_lawful
-returns-then-not-three_open c = rw (sym c.three_open.ensures ∙ c.if-not-three_open.true)
+returns-then-three_open c = rw (← c.three_open.ensures, c.if-three_open.true) c.are_paired.ensures
 
-pub returns : goal.returns
+pub returns-else-three_open : goal.returns-else-three_open
 unfolding is_lawful
-returns c = rw (sym c.three_open.ensures ∙ c.if-not-three_open.false) c.are_paired.ensures
+returns-else-three_open c = rw (← c.three_open.ensures, c.if-three_open.false)

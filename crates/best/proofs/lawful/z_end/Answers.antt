@@ -1,37 +1,31 @@
 -- The merges from the newest back: where the entity is a merge's parent its z takes over.
-use mathlib.Core.Path.{◌≡◌, refl, ◌∙◌, sym}
-use Prim.Native.Nat.{◌+◌, ◌-◌}
-use native.Mathlib.Omega.{arith}
+use Rattle.std.proofs.Common.{◌≡◌, ◌∙◌, sym, ◌+◌, ◌-◌, arith}
 use Rattle.entities.specs.Parents.{parent_number}
 use Rattle.history.specs.History.{z_end}
 use Rattle.best.specs.code.Numbered.{history_in}
 use Rattle.best.proofs.MergesKept.{parent_ends, others_end}
 use Rattle.best.proofs.lawful.z_end.Goals as goal
+use Rattle.best.proofs.lawful.z_end.Goals.{In-loop-step}
 
-pub loop-left-init : goal.loop-left-init
-loop-left-init c = (omega arith, refl)
+-- The invariant with the step that is looked at written as one more than those before it.
+ahead : (c : In-loop-step) → z_end c.args.modes (history_in c.args.merges.now (c.loop-step.step - 1 + 1)) c.loop-step.at
+    ≡ z_end c.args.modes (history_in c.args.merges.now c.args.steps) c.args.entity
+ahead c = let same : c.loop-step.step - 1 + 1 ≡ c.loop-step.step = omega arith in rw same c.loop-step.invariant
 
-pub loop-left-preserved-then-at-parent_number : goal.loop-left-preserved-then-at-parent_number
-loop-left-preserved-then-at-parent_number c =
+pub loop-step-preserved-then-at-parent_number : goal.loop-step-preserved-then-at-parent_number
+loop-step-preserved-then-at-parent_number c =
     let args = c.args in
-    let left = c.loop-left.left in
-    let same : left - 1 + 1 ≡ left = omega arith in
-    let on : z_end args.modes (history_in args.merges.now (left - 1 + 1)) c.loop-left.at ≡ z_end args.modes (history_in args.merges.now args.steps) args.entity =
-    rw same c.loop-left.invariant.1 in
-    (omega arith, sym (parent_ends args.modes args.merges.now (left - 1) c.loop-left.at (c.if-at-parent_number.true ∙ c.parent_number.ensures)) ∙ on)
+    sym (parent_ends args.modes args.merges.now (c.loop-step.step - 1) c.loop-step.at (c.if-at-parent_number.true ∙ c.parent_number.ensures))
+    ∙ ahead (goal.at.loop-step-preserved-then-at-parent_number c).In-loop-step
 
-pub loop-left-preserved : goal.loop-left-preserved
-loop-left-preserved c =
+pub loop-step-preserved : goal.loop-step-preserved
+loop-step-preserved c =
     let args = c.args in
-    let left = c.loop-left.left in
-    let same : left - 1 + 1 ≡ left = omega arith in
-    let on : z_end args.modes (history_in args.merges.now (left - 1 + 1)) c.loop-left.at ≡ z_end args.modes (history_in args.merges.now args.steps) args.entity =
-    rw same c.loop-left.invariant.1 in
-    let other : c.loop-left.at ≡ parent_number args.modes (left - 1) → ⊥ = λ e. c.if-at-parent_number.false (e ∙ sym c.parent_number.ensures) in
-    (omega arith, sym (others_end args.modes args.merges.now (left - 1) c.loop-left.at other) ∙ on)
+    let other : c.loop-step.at ≡ parent_number args.modes (c.loop-step.step - 1) → ⊥ = λ e. c.if-at-parent_number.false (e ∙ sym c.parent_number.ensures) in
+    sym (others_end args.modes args.merges.now (c.loop-step.step - 1) c.loop-step.at other) ∙ ahead (goal.at.loop-step-preserved c).In-loop-step
 
 pub returns : goal.returns
 unfolding z_end history_in
 returns c =
-    let done : c.loop-left.left ≡ 0 = omega arith in
-    rw done at c.loop-left.invariant.1
+    let done : c.loop-step.step ≡ 0 = omega arith in
+    rw done at c.loop-step.invariant

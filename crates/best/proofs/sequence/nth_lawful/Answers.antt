@@ -1,54 +1,25 @@
--- The lawful triples from here on, without the first `passes` of them, begin with the triple that is sought.
-use mathlib.Core.Path.{ap, ◌∙◌, sym}
-use Prim.Native.Nat.{◌+◌}
-use native.Mathlib.Omega.{arith}
-use lib.ListN.{get_or}
+-- The chain gives the lawful triples in their order, and then the one of this number.
+use Rattle.std.proofs.Common.{rules, ◌∙◌, sym, ap, ◌+◌, ◌*◌, get_or, arith, tests}
+use Rattle.std.proofs.lemmas.Iterator.{YieldsList-from_range, YieldsList-from_map}
+use Rattle.std.proofs.lemmas.Iterator.Adapters.{option_map_id}
+use Rattle.std.proofs.lemmas.Iterator.Consumers.{YieldsList-at, YieldsList-from_filter, nth_from_yields_List}
+use Rattle.std.proofs.lemmas.Option.{unwrap_or-slice_get}
+use Rattle.std.specs.Option.{unwrap_or}
 use Rattle.history.specs.computed.Pairs.{is_lawful}
-use Rattle.best.specs.code.Numbered.{no_merge, history_in}
-use Rattle.best.proofs.LawfulNumbered.{lawful_from, lawful_start, lawful_met, unlawful_met, lawful_end, next_of}
+use Rattle.best.specs.code.Numbered.{no_merge, history_in, triple_at}
+use Rattle.best.proofs.LawfulNumbered.{lawful_numbered}
 use Rattle.best.proofs.sequence.nth_lawful.Goals as goal
-use Rattle.best.proofs.sequence.nth_lawful.Goals.{then-is_lawful+else-passes-eq0, else-is_lawful}
-
-pub loop-at-init : goal.loop-at-init
-loop-at-init c =
-    let args = c.args in
-    (omega arith, ap (λ l. get_or l args.number no_merge) (lawful_start args.modes args.merges.now args.steps c.triple_count-end.result c.triple_count-end.ensures.0))
-
-pub returns-then-passes-eq0 : goal.returns-then-passes-eq0
-returns-then-passes-eq0 c =
-    let args = c.args in
-    let end = c.triple_count-end.result in
-    let at = c.loop-at.at in
-    let history = history_in args.merges.now args.steps in
-    let triple = c.triple_at-triple.ensures in
-    let passed = ap (is_lawful args.modes history) (sym triple) ∙ sym c.is_lawful.ensures ∙ c.if-is_lawful.true in
-    let met = lawful_met args.modes args.merges.now args.steps end at (omega arith) passed in
-    triple ∙ (rw (met, c.if-passes-eq0.true) at c.loop-at.invariant.1)
-
-pub loop-at-preserved : goal.loop-at-preserved
-loop-at-preserved c =
-    let args = c.args in
-    let end = c.triple_count-end.result in
-    let at = c.loop-at.at in
-    let history = history_in args.merges.now args.steps in
-    let rest = lawful_from args.modes args.merges.now args.steps end (at + 1) in
-    let tested = ap (is_lawful args.modes history) (sym c.triple_at-triple.ensures) ∙ sym c.is_lawful.ensures in
-    elim c.if-is_lawful.branch [
-      | then-is_lawful+else-passes-eq0 w ↦ (
-        omega arith,
-        ap (λ n. get_or rest n no_merge) w.passes-is
-            ∙ next_of _ rest c.loop-at.passes no_merge (omega (arith, w.if-passes-eq0.false))
-            ∙ (rw (lawful_met args.modes args.merges.now args.steps end at (omega arith) (tested ∙ w.if-is_lawful.true)) at c.loop-at.invariant.1),
-      )
-      | else-is_lawful w ↦ (
-        omega arith,
-        ap (λ n. get_or rest n no_merge) w.passes-is
-            ∙ (rw (unlawful_met args.modes args.merges.now args.steps end at (omega arith) (tested ∙ w.if-is_lawful.false)) at c.loop-at.invariant.1),
-      )
-    ]
 
 pub returns : goal.returns
 returns c =
     let args = c.args in
-    let none = lawful_end args.modes args.merges.now args.steps c.triple_count-end.result c.loop-at.at (omega arith) in
-    rw none at c.loop-at.invariant.1
+    let history = history_in args.merges.now args.steps in
+    let end = c.triple_count.result in
+    let nth = nth_from_yields_List c.nth.result _ args.number c.nth.ensures.ran
+    (YieldsList-from_filter _ (is_lawful args.modes history)
+    (YieldsList-at c.filter.ensures.source
+    (YieldsList-from_map _ (triple_at (2 * args.modes + 1 + args.steps)) (YieldsList-from_range 0 end end c.map.ensures.source (omega arith)) c.map.ensures.closure
+    (λ x r q k. search (rules, tests))))
+    c.filter.ensures.closure (λ x b q k. search (rules, tests))) in
+    c.unwrap_or.ensures ∙ ap (λ o. unwrap_or o no_merge) (sym (option_map_id c.nth.result) ∙ nth) ∙ unwrap_or-slice_get _ args.number no_merge
+    ∙ ap (λ l. get_or l args.number no_merge) (lawful_numbered args.modes args.merges.now args.steps end c.triple_count.ensures.0)

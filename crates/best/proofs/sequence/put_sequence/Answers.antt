@@ -1,8 +1,5 @@
 -- What is left of the number says the rest of the sequence behind the merges put so far.
-use mathlib.Core.Path.{◌≡◌, refl, ◌∙◌, sym}
-use Prim.Native.Nat.{suc, ◌+◌, ◌-◌}
-use native.Mathlib.Omega.{arith}
-use native.Mathlib.Numerals.{add-one}
+use Rattle.std.proofs.Common.{◌≡◌, refl, ◌∙◌, sym, suc, ◌+◌, ◌-◌, arith, add-one}
 use native.Mathlib.Nat.{sub-zero}
 use Rattle.best.specs.code.Numbered.{history_in, sequence_at}
 use Rattle.best.proofs.SequenceNumbers.{sequence_step}
@@ -10,7 +7,7 @@ use Rattle.best.proofs.sequence.put_sequence.Goals as goal
 
 pub loop-step-init : goal.loop-step-init
 unfolding history_in
-loop-step-init c = (omega arith, refl, rw (sub-zero c.args.modes))
+loop-step-init c = (refl, rw (sub-zero c.args.modes))
 
 pub loop-step-preserved : goal.loop-step-preserved
 loop-step-preserved c =
@@ -22,9 +19,8 @@ loop-step-preserved c =
     let fewer : modes - (step + 1) ≡ modes - step - 1 = omega arith in
     let next =
     sequence_step modes (modes - step - 1) (history_in c.loop-step.merges step) c.loop-step.left ways.result _ ways.ensures.0 c.nth_lawful-triple.ensures in (
-      omega arith,
-      put.long ∙ c.loop-step.invariant.1,
-      rw (fewer, add-one step, put.merges) (sym next ∙ (rw more at c.loop-step.invariant.2)),
+      put.long ∙ c.loop-step.invariant.0,
+      rw (fewer, add-one step, put.merges) (sym next ∙ (rw more at c.loop-step.invariant.1)),
     )
 
 pub returns : goal.returns
@@ -32,4 +28,4 @@ unfolding sequence_at
 returns c =
     let done : c.loop-step.step ≡ c.args.modes = omega arith in
     let none : c.args.modes - c.loop-step.step ≡ 0 = omega arith in
-    ((rw done at (rw none at c.loop-step.invariant.2)), c.loop-step.invariant.1)
+    ((rw done at (rw none at c.loop-step.invariant.1)), c.loop-step.invariant.0)

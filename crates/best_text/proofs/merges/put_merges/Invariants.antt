@@ -1,10 +1,6 @@
 -- The lines of the merges passed stand behind the start; at the end they are all.
-use Prim.Native.Nat.{◌-◌}
 use Rattle.best_text.proofs.MergesPrinted.{PuttingMerges}
 use Rattle.best_text.proofs.merges.put_merges.Given as goal
 
 abbrev pub invariant-loop-done : goal.invariant-loop-done
 invariant-loop-done l = PuttingMerges l.start l.modes l.sequence l.initial.out l.out l.at l.done
-
-abbrev pub decreases-loop-done : goal.decreases-loop-done
-decreases-loop-done l = l.modes - l.done

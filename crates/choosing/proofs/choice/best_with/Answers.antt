@@ -12,12 +12,12 @@ returns-in_default c history tied settled =
 
 pub returns-then-named_before : goal.returns-then-named_before
 returns-then-named_before c history tied settled =
-    let named = sym (c.couple_of.ensures history tied) ∙ c.in-Of.is in
+    let named = sym (c.couple_of.ensures history tied) ∙ c.in-Some.is in
     let lower = c.named_before.ensures _ history tied.ends_are tied.holders_are named c.if-named_before.true in
     sym (seek_idle _ _ _ (rw (lower.1.1 ∙ sym named) at (settled lower.0 lower.1.0)))
 
 pub returns : goal.returns
 unfolding beside_couple
 returns c history tied settled =
-    rw (sym (c.couple_of.ensures history tied) ∙ c.in-Of.is)
+    rw (sym (c.couple_of.ensures history tied) ∙ c.in-Some.is)
     (c.best_of_couple.ensures _ history tied.within tied.opens_are)

@@ -12,26 +12,26 @@ refusal_result-requires c =
     let args = c.args in
     let answers = c.resume.ensures in
     refused_place args.modes 0 args.terms.now (rooms_of 256 (run_lent args.work.now args.own.now args.journal.now args.drops.now)) (omega arith) args.read.now _
-    (why_refused args.modes args.terms.now args.read.now args.work.now args.own.now args.drops.now args.rows.now args.journal.now args.answer.now _ _ _ _ _ answers _ c.in-Refused.is)
+    (why_refused args.modes args.terms.now args.read.now args.work.now args.own.now args.drops.now args.rows.now args.journal.now args.answer.now _ _ _ _ _ answers _ c.in-Err.is)
 
 pub put_done-requires : goal.put_done-requires
 put_done-requires c =
     let args = c.args in
     let answers = c.resume.ensures in
-    let fits = fit args.modes args.terms.now args.read.now args.work.now args.own.now args.drops.now args.rows.now args.journal.now args.answer.now _ _ _ _ _ answers _ c.in-Done.is in
+    let fits = fit args.modes args.terms.now args.read.now args.work.now args.own.now args.drops.now args.rows.now args.journal.now args.answer.now _ _ _ _ _ answers _ c.in-Ok.is in
     let some : 1 ≤ length args.own.now = omega (arith, fits.room, fits.some) in
     let room : 8 * args.modes ≤ length args.rows.now = omega (arith, fits.room, c.requires.0) in
     (omega (arith, fits.room), room, c.requires.1 some)
 
-pub returns-in-Refused : goal.returns-in-Refused
-returns-in-Refused c =
+pub returns-in-Err : goal.returns-in-Err
+returns-in-Err c =
     let args = c.args in
     let answers = c.resume.ensures in
-    called_refused args.modes args.terms.now args.read.now args.work.now args.own.now args.drops.now args.rows.now args.journal.now args.answer.now _ _ _ _ _ answers _ _ c.in-Refused.is c.refusal_result.ensures
+    called_refused args.modes args.terms.now args.read.now args.work.now args.own.now args.drops.now args.rows.now args.journal.now args.answer.now _ _ _ _ _ answers _ _ c.in-Err.is c.refusal_result.ensures
 
-pub returns-in-Done : goal.returns-in-Done
-returns-in-Done c =
+pub returns-in-Ok : goal.returns-in-Ok
+returns-in-Ok c =
     let args = c.args in
     let answers = c.resume.ensures in
     let put = c.put_done.ensures in
-    called_done args.modes args.terms.now args.read.now args.work.now args.own.now args.drops.now args.rows.now args.journal.now args.answer.now _ _ _ _ _ answers _ c.in-Done.is _ _ put.0 put.1
+    called_done args.modes args.terms.now args.read.now args.work.now args.own.now args.drops.now args.rows.now args.journal.now args.answer.now _ _ _ _ _ answers _ c.in-Ok.is _ _ put.0 put.1

@@ -1,5 +1,5 @@
 -- So many digits are passed, and those of what is left are as many as are still to be counted.
-use native.Mathlib.Omega.{arith}
+use Rattle.std.proofs.Common.{arith}
 use Rattle.fields.proofs.Digits.{counting_starts, counting_ends, counting_goes, counting_full}
 use Rattle.fields.proofs.decimal.digit_count.Goals as goal
 
@@ -16,4 +16,5 @@ loop-count-preserved c =
 
 pub returns : goal.returns
 returns c =
-    (counting_full _ _ _ c.loop-count.invariant (omega arith), omega (arith, c.loop-count.invariant.few))
+    let full = counting_full _ _ _ c.loop-count.invariant (omega arith) in
+    (omega (arith, full), omega arith)

@@ -1,18 +1,24 @@
--- What is kept of what is ahead, behind the bytes that are passed, is what is kept of all.
-use mathlib.Core.Path.{◌∙◌, sym, ap}
-use native.Mathlib.Omega.{arith}
-use lib.ListN.{length}
-use Rattle.fields.proofs.LineSteps.{kept_none, kept_more}
+-- The kept bytes are those of all complete lines.
+use Rattle.std.proofs.Common.{arith, rules, tests, length, ◌∙◌, sym}
+use Rattle.std.proofs.lemmas.Iterator.{YieldsList-from_map}
+use Rattle.std.proofs.lemmas.Iterator.Consumers.{YieldsList-from_first, YieldsList-at, sum_by_from_yields_List, fits_by_from_yields_list}
+use Rattle.fields.specs.Lines.{lines}
+use Rattle.fields.specs.code.LinesLeft.{lines_left}
+use Rattle.fields.proofs.LinesJoined.{kept_length, kept_short}
 use Rattle.fields.proofs.lines.kept_bytes.Goals as goal
 
-pub returns-then-end-at : goal.returns-then-end-at
-returns-then-end-at c =
+pub sum-requires-clause-fits : goal.sum-requires-clause-fits
+sum-requires-clause-fits c =
     let bytes = c.args.bytes.now in
-    let end = c.line_end-end in
-    (omega (arith, ap length (kept_none bytes c.loop-at.at end.result end.ensures.0 c.if-end-at.true)), omega arith)
+    fits_by_from_yields_list length (lines bytes) c.map.result _
+    (YieldsList-from_map _ length (YieldsList-at c.map.ensures.source (YieldsList-from_first (λ line. line.now) lines_left (lines bytes) c.lines_of.ensures))
+    c.map.ensures.closure (λ x r q k. search (rules, tests)))
+    (omega (arith, kept_length bytes, kept_short bytes))
 
-pub loop-at-preserved : goal.loop-at-preserved
-loop-at-preserved c =
+pub returns : goal.returns
+returns c =
     let bytes = c.args.bytes.now in
-    let end = c.line_end-end in
-    (omega arith, sym (kept_more bytes c.loop-at.at end.result end.ensures.0 c.if-end-at.false) ∙ c.loop-at.invariant.1)
+    let total = sum_by_from_yields_List length (lines bytes) c.map.result c.sum.result c.sum.ensures.ran
+    (YieldsList-from_map _ length (YieldsList-at c.map.ensures.source (YieldsList-from_first (λ line. line.now) lines_left (lines bytes) c.lines_of.ensures))
+    c.map.ensures.closure (λ x r q k. search (rules, tests))) in
+    (total ∙ sym (kept_length bytes), omega (arith, total, kept_length bytes, kept_short bytes))

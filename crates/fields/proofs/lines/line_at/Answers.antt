@@ -1,31 +1,14 @@
--- The line is the one among those ahead with the number that is left; each line that is passed takes one from that.
-use mathlib.Core.Path.{◌≡◌, ◌∙◌, sym}
-use native.Mathlib.Omega.{arith}
-use Rattle.fields.specs.Lines.{first_line}
-use Rattle.fields.proofs.LineSteps.{line_passed, line_missing, line_part}
+-- The line is the item with this number.
+use Rattle.std.proofs.Common.{refl}
+use Rattle.std.proofs.lemmas.Iterator.Consumers.{YieldsList-from_first, nth_from_yields_List}
+use Rattle.fields.specs.Lines.{lines}
+use Rattle.fields.specs.code.LinesLeft.{lines_left}
+use Rattle.fields.proofs.LineSteps.{part_found}
 use Rattle.fields.proofs.lines.line_at.Goals as goal
 
-pub returns-then-end-at : goal.returns-then-end-at
-returns-then-end-at c =
-    let bytes = c.args.bytes.now in
-    let end = c.line_end-end in
-    sym
-    (c.loop-left.invariant.1
-    ∙ line_missing bytes c.loop-left.at end.result end.ensures.0 c.if-end-at.true c.loop-left.left)
-
-pub loop-left-preserved : goal.loop-left-preserved
-loop-left-preserved c =
-    let bytes = c.args.bytes.now in
-    let end = c.line_end-end in (
-      omega arith,
-      c.loop-left.invariant.1
-          ∙ line_passed bytes c.loop-left.at end.result end.ensures.0 c.if-end-at.false c.loop-left.left (omega arith),
-    )
-
 pub returns : goal.returns
-unfolding first_line
 returns c =
     let bytes = c.args.bytes.now in
-    let end = c.line_end-end-2 in
-    let none : c.loop-left.left ≡ 0 = omega arith in
-    line_part bytes c.loop-left.at end.result end.ensures.0 ∙ sym (rw none at c.loop-left.invariant.1)
+    let found = nth_from_yields_List c.nth.result c.nth.new.self c.args.line c.nth.ensures.ran
+    (YieldsList-from_first (λ line. line.now) lines_left (lines bytes) c.lines_of.ensures) in
+    rw c.unwrap_or.ensures (part_found (lines bytes) c.args.line c.nth.result _ found refl)

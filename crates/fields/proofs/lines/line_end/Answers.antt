@@ -1,27 +1,21 @@
--- The line that is begun and what is ahead have the same lines as the whole; the LF ends the line, and without one there is none.
-use mathlib.Core.Path.{◌∙◌}
-use native.Mathlib.Omega.{arith}
-use borrow.Author.Rules.{rules}
-use Rattle.fields.proofs.LineSteps.{scan_starts, scan_passes, scan_found, scan_ends}
+-- The first LF ends the line; without one there is none.
+use Rattle.std.proofs.Common.{◌+◌, ◌≤◌, arith, drop, length, length-drop, length-take-le}
+use Rattle.std.proofs.lemmas.List.{take_rest}
+use Rattle.fields.specs.Lines.{first_line}
+use Rattle.fields.proofs.LineSteps.{feed_found}
 use Rattle.fields.proofs.lines.line_end.Goals as goal
 
-pub loop-at-init : goal.loop-at-init
-loop-at-init c = (search rules, search rules, scan_starts c.args.bytes.now c.args.from)
+pub returns-in-Some : goal.returns-in-Some
+unfolding first_line
+returns-in-Some c =
+    let rest = drop c.args.from c.args.bytes.now in
+    let h = rw c.in-Some.is at (feed_found rest c.first_feed.result (rw take_rest at c.first_feed.ensures)) in
+    let long : c.in-Some.before + 1 ≤ length rest = omega arith in
+    rw (h.1, length-take-le (c.in-Some.before + 1) rest long) (omega (arith, length-drop c.args.from c.args.bytes.now))
 
-pub returns-then-bytes-at-eq10 : goal.returns-then-bytes-at-eq10
-returns-then-bytes-at-eq10 c =
-    let args = c.args in
-    (scan_found args.bytes.now args.from c.loop-at.at (omega arith) (omega arith) c.loop-at.invariant.2 c.if-bytes-at-eq10.true, omega arith)
-
-pub loop-at-preserved : goal.loop-at-preserved
-loop-at-preserved c =
-    let args = c.args in (
-      omega arith,
-      omega arith,
-      c.loop-at.invariant.2 ∙ scan_passes args.bytes.now args.from c.loop-at.at (omega arith) (omega arith) c.if-bytes-at-eq10.false,
-    )
-
-pub returns : goal.returns
-returns c =
-    let args = c.args in
-    (scan_ends args.bytes.now args.from c.loop-at.at (omega arith) c.loop-at.invariant.2, omega arith)
+pub returns-in-None : goal.returns-in-None
+unfolding first_line
+returns-in-None c =
+    let rest = drop c.args.from c.args.bytes.now in
+    let h = rw c.in-None.is at (feed_found rest c.first_feed.result (rw take_rest at c.first_feed.ensures)) in
+    rw h (omega arith)

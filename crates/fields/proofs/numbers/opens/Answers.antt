@@ -2,6 +2,7 @@
 use mathlib.Core.Path.{sym, ◌∙◌}
 use native.Mathlib.Omega.{arith}
 use lib.Seq.{length-take-le}
+use Rattle.lists.proofs.Standard.{alike_is}
 use Rattle.fields.proofs.Openings.{closed_short, opens_alike}
 use Rattle.fields.proofs.numbers.opens.Goals as goal
 
@@ -10,12 +11,12 @@ returns-then-line-front c =
     let args = c.args in
     sym (closed_short args.opening.now args.line.now c.if-line-front.true)
 
-pub slice_bounds-same_bytes-end : goal.slice_bounds-same_bytes-end
-slice_bounds-same_bytes-end c =
+pub slice_bounds-eq-end : goal.slice_bounds-eq-end
+slice_bounds-eq-end c =
     let args = c.args in
     sym (length-take-le _ args.line.now (omega arith))
 
 pub returns : goal.returns
 returns c =
     let args = c.args in
-    c.same_bytes.ensures ∙ sym (opens_alike args.opening.now args.line.now (omega arith))
+    c.eq.ensures ∙ sym (alike_is _ args.opening.now) ∙ sym (opens_alike args.opening.now args.line.now (omega arith))

@@ -17,7 +17,7 @@ step_fits : (c : After-put_step-arg-1) (job : Job) (own : List ℕ)
 step_fits c job own fits =
     let args = c.args in
     let history = history_of args.run in
-    let more : c.loop-step.step < length history = omega (arith, c.loop-step-test.true, c.merges-all.ensures) in
+    let more : c.loop-step.step < length history = omega (arith, c.loop-step-test.true, c.merges-step-end.ensures) in
     record {
       holds = fits.holds;
       made = more;
@@ -53,5 +53,5 @@ shape_of-journal c =
 pub returns : goal.returns
 returns c job own fits =
     let args = c.args in
-    let all : length (history_of args.run) ≤ c.loop-step.step = omega (arith, c.loop-step-test.false, c.merges-all.ensures) in
+    let all : length (history_of args.run) ≤ c.loop-step.step = omega (arith, c.loop-step-test.false, c.merges-step-end.ensures) in
     putting_ends job (history_of args.run) args.from args.start args.journal.now fits.fits _ _ _ (c.loop-step.invariant job own fits) all

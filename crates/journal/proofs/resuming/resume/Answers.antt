@@ -1,57 +1,52 @@
 -- Each return is one arm of the meaning, by the modes, the rule and what the check of the terms answered.
 use mathlib.Core.Path.{◌∙◌, sym}
-use borrow.Author.Tests.{le-leb, lt-leb}
-use Rattle.terms.specs.Rules.{rule_good}
-use Rattle.terms.specs.Good.{modes_good}
 use Rattle.journal.specs.Resuming.{with_terms, resumed}
 use Rattle.journal.specs.Promises.{lent}
 use Rattle.journal.proofs.JournalAnswered.{nothing_altered}
+use Rattle.refusal.proofs.Told.{handed_on}
 use Rattle.journal.proofs.resuming.resume.Goals as goal
 
-pub returns-then-modes-lt1 : goal.returns-then-modes-lt1
-unfolding resumed modes_good
-returns-then-modes-lt1 c =
+pub returns-in_err-check_modes : goal.returns-in_err-check_modes
+unfolding resumed
+returns-in_err-check_modes c =
     let args = c.args in
-    nothing_altered _ (lent args.work.now args.rows.now args.journal.now args.drops.now) _ (rw (lt-leb _ _ c.if-modes-lt1.true))
+    let refused = c.in_err-check_modes.ensures.said in
+    rw (handed_on c.from_residual.ensures, refused.1)
+    (nothing_altered _ (lent args.work.now args.rows.now args.journal.now args.drops.now) _ (rw refused.0))
 
-pub returns-then-modes-gt256 : goal.returns-then-modes-gt256
-unfolding resumed modes_good
-returns-then-modes-gt256 c =
+pub returns-in_err-rule : goal.returns-in_err-rule
+unfolding resumed
+returns-in_err-rule c =
     let args = c.args in
-    nothing_altered _ (lent args.work.now args.rows.now args.journal.now args.drops.now) _
-    (rw (le-leb _ _ c.if-modes-lt1.false, lt-leb _ _ c.if-modes-gt256.true))
-
-pub returns-then-rule-gt1 : goal.returns-then-rule-gt1
-unfolding resumed modes_good rule_good
-returns-then-rule-gt1 c =
-    let args = c.args in
-    nothing_altered _ (lent args.work.now args.rows.now args.journal.now args.drops.now) _
-    (rw (le-leb _ _ c.if-modes-lt1.false, le-leb _ _ c.if-modes-gt256.false, lt-leb _ _ c.if-rule-gt1.true))
+    let refused = c.in_err-rule.ensures in
+    rw (handed_on c.from_residual-in_err-rule.ensures, refused.1)
+    (nothing_altered _ (lent args.work.now args.rows.now args.journal.now args.drops.now) _
+    (rw (c.in_ok-check_modes.ensures.said, refused.0)))
 
 pub resume_good-requires : goal.resume_good-requires
 resume_good-requires c =
-    (c.if-modes-lt1.false, c.if-modes-gt256.false, sym c.check_terms.ensures.answer ∙ c.in-Good.is)
+    let between = c.in_ok-check_modes.ensures.between in
+    (between.0, between.1, sym c.check_terms.ensures.answer ∙ c.in_ok-count.was)
 
-pub returns-in-Refused : goal.returns-in-Refused
-unfolding resumed modes_good rule_good with_terms
-returns-in-Refused c =
+pub returns-in_err-count : goal.returns-in_err-count
+unfolding resumed with_terms
+returns-in_err-count c =
     let args = c.args in
-    nothing_altered _ (lent args.work.now args.rows.now args.journal.now args.drops.now) _
+    rw (handed_on c.from_residual-in_err-count.ensures)
+    (nothing_altered _ (lent args.work.now args.rows.now args.journal.now args.drops.now) _
     (rw (
-      le-leb _ _ c.if-modes-lt1.false,
-      le-leb _ _ c.if-modes-gt256.false,
-      le-leb _ _ c.if-rule-gt1.false,
-      sym c.check_terms.ensures.answer ∙ c.in-Refused.is,
-    ))
+      c.in_ok-check_modes.ensures.said,
+      c.in_ok-rule.ensures.0,
+      sym c.check_terms.ensures.answer ∙ c.in_err-count.was,
+    )))
 
-pub returns-in-Good : goal.returns-in-Good
-unfolding resumed modes_good rule_good
-returns-in-Good c =
+pub returns : goal.returns
+unfolding resumed
+returns c =
     rw (
-      le-leb _ _ c.if-modes-lt1.false,
-      le-leb _ _ c.if-modes-gt256.false,
-      le-leb _ _ c.if-rule-gt1.false,
-      sym c.check_terms.ensures.answer ∙ c.in-Good.is,
-      ← c.rule_of.ensures,
+      c.in_ok-check_modes.ensures.said,
+      c.in_ok-rule.ensures.0,
+      sym c.check_terms.ensures.answer ∙ c.in_ok-count.was,
+      sym c.in_ok-rule.ensures.1,
     )
     c.resume_good.ensures

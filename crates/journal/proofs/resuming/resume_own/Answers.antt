@@ -13,6 +13,7 @@ use Rattle.journal.specs.Resuming.{roomy}
 use Rattle.journal.specs.Promises.{Lent, lent, rooms_of}
 use Rattle.journal.specs.code.Finishing.{FromOwn}
 use Rattle.journal.proofs.JournalAnswered.{nothing_altered, answers_so, journal_refused, journal_obeyed}
+use Rattle.refusal.proofs.Told.{handed_on}
 use Rattle.journal.proofs.resuming.resume_own.Goals as goal
 
 -- The run that an accepted journal leads to, on the call's own rows.
@@ -29,34 +30,33 @@ accepted modes rule count numbers now_own run given holds few light room =
       room = room;
     }
 
-pub obey-found-requires : goal.obey-found-requires
-obey-found-requires c = record { le_modes = c.requires.le_modes; by_index = c.requires.by_index }
+pub obey-requires : goal.obey-requires
+obey-requires c = record { le_modes = c.requires.le_modes; by_index = c.requires.by_index }
 
 pub finish_lent-requires : goal.finish_lent-requires
 finish_lent-requires c =
     let args = c.args in
     let numbers = c.requires.by_index.0 in
-    let obey = c.obey-found.ensures numbers c.requires.by_index.1 in (
+    let obey = rw c.in_ok-run.was at (c.obey.ensures numbers c.requires.by_index.1) in (
       job_of args.modes args.rule args.count numbers,
       accepted args.modes args.rule args.count numbers _ _ _ obey.went.holds c.requires.le_modes.1 c.requires.le_modes.2 c.requires.count_value,
     )
 
-pub returns-in-Refused : goal.returns-in-Refused
-returns-in-Refused c numbers spread =
+pub returns-in_err-run : goal.returns-in_err-run
+returns-in_err-run c numbers spread =
     let args = c.args in
     let job = job_of args.modes args.rule args.count numbers in
-    let obey = c.obey-found in
-    nothing_altered _ (lent args.work.now args.rows.now args.journal.now args.drops.now) _
-    (journal_refused job args.read.now (obeyed job args.read.now) obey.result.verdict obey.result.run
-    (obey.ensures numbers spread).comes_to _ c.in-Refused.is)
+    let told = rw c.in_err-run.was at (c.obey.ensures numbers spread) in
+    rw (handed_on c.from_residual.ensures)
+    (nothing_altered _ (lent args.work.now args.rows.now args.journal.now args.drops.now) _
+    (journal_refused job args.read.now (obeyed job args.read.now) _ told.comes_to))
 
-pub returns-in-Fine : goal.returns-in-Fine
-returns-in-Fine c numbers spread =
+pub returns : goal.returns
+returns c numbers spread =
     let args = c.args in
     let job = job_of args.modes args.rule args.count numbers in
-    let obey = c.obey-found in
-    let told = obey.ensures numbers spread in
+    let told = rw c.in_ok-run.was at (c.obey.ensures numbers spread) in
     let from = accepted args.modes args.rule args.count numbers _ _ _ told.went.holds c.requires.le_modes.1 c.requires.le_modes.2 c.requires.count_value in
     answers_so _ (lent args.work.now args.rows.now args.journal.now args.drops.now) _ _ _
-    (journal_obeyed job args.read.now (obeyed job args.read.now) obey.result.verdict obey.result.run told.comes_to c.in-Fine.is)
+    (journal_obeyed job args.read.now (obeyed job args.read.now) _ told.comes_to)
     (c.finish_lent.ensures job args.read.now from c.kept_bytes-kept.ensures.0)

@@ -1,5 +1,5 @@
 -- The rows before each step in turn: a merge takes them to those before the next.
-use mathlib.Core.Path.{◌≡◌, refl, ap, ◌∙◌, sym}
+use mathlib.Core.Path.{◌≡◌, ap, ◌∙◌, sym}
 use Prim.Native.Nat.{◌<◌}
 use native.Mathlib.Omega.{arith}
 use lib.ListN.{length}
@@ -9,12 +9,12 @@ use Rattle.letters_text.proofs.RowsReplayed.{replay_starts, replay_goes, worked_
 use Rattle.letters_text.proofs.replay.rows_before.Goals as goal
 
 pub loop-at-init : goal.loop-at-init
-loop-at-init c = (omega arith, refl, λ job own finished. replay_starts job (history_of c.args.run) _ finished.rows_are)
+loop-at-init c job own finished = replay_starts job (history_of c.args.run) _ finished.rows_are
 
 pub parent_number-parent-requires : goal.parent_number-parent-requires
 parent_number-parent-requires c =
     let finished = c.requires.1.1.0 in
-    (omega (arith, finished.holds.few, finished.modes_are), omega (arith, finished.holds.few, finished.modes_are, c.requires.1.1.1, c.loop-at.invariant.0))
+    (omega (arith, finished.holds.few, finished.modes_are), omega (arith, finished.holds.few, finished.modes_are, c.requires.1.1.1))
 
 pub merge_of-requires : goal.merge_of-requires
 merge_of-requires c =
@@ -25,27 +25,21 @@ pub reduce_hamiltonian-requires : goal.reduce_hamiltonian-requires
 reduce_hamiltonian-requires c =
     let job = c.requires.0 in
     let finished = c.requires.1.1.0 in
-    let rows = c.loop-at.invariant.2 job c.requires.1.0 finished in
+    let rows = c.loop-at.invariant job c.requires.1.0 finished in
     record {
       worked = rw finished.count_is at (worked_replayed job _ _ rows finished.holds.light);
       count_le_most_terms = rw finished.count_is at finished.holds.light;
     }
 
 pub loop-at-preserved : goal.loop-at-preserved
-loop-at-preserved c =
-    let args = c.args in
-    let history = history_of args.run in
-    let left = c.loop-at-test.true in (
-      omega (arith, left),
-      c.reduce_hamiltonian.auto.rows ∙ c.loop-at.invariant.1,
-      λ job own finished.
-          let made : c.loop-at.at < length history = omega (arith, finished.all, finished.modes_are, c.requires.1.1.1, left) in
-          replay_goes job history c.loop-at.at _ _ _ _ _ _ made (c.rule_of-rule.ensures job own finished.holds) c.merge_of.ensures
-          (c.parent_number-parent.ensures ∙ ap (λ n. parent_number n c.loop-at.at) (sym finished.modes_are)) (c.loop-at.invariant.2 job own finished)
-          (rw (← finished.count_is) at c.reduce_hamiltonian.ensures),
-    )
+loop-at-preserved c job own finished =
+    let history = history_of c.args.run in
+    let made : c.loop-at.at < length history = omega (arith, finished.all, finished.modes_are, c.requires.1.1.1, c.loop-at-test.true) in
+    replay_goes job history c.loop-at.at _ _ _ _ _ _ made (c.rule_of-rule.ensures job own finished.holds) c.merge_of.ensures
+    (c.parent_number-parent.ensures ∙ ap (λ n. parent_number n c.loop-at.at) (sym finished.modes_are)) (c.loop-at.invariant job own finished)
+    (rw (← finished.count_is) at c.reduce_hamiltonian.ensures)
 
 pub returns : goal.returns
 returns c job own finished =
     let last : c.loop-at.at ≡ c.args.step = omega arith in
-    rw last at (c.loop-at.invariant.2 job own finished)
+    rw last at (c.loop-at.invariant job own finished)

@@ -9,9 +9,9 @@ pub loop-place-init : goal.loop-place-init
 loop-place-init c =
     letters_start c.args.triple c.args.count c.args.rows.now c.args.out.now (omega arith)
 
-pub term_at-requires : goal.term_at-requires
-term_at-requires c =
-    let held = c.requires.held.0 in
+pub term_at-term-requires : goal.term_at-term-requires
+term_at-term-requires c =
+    let held = c.requires.0 in
     (omega (arith, held.room), omega (arith, held.within c.loop-place.place (omega arith)))
 
 pub put_row-at-requires : goal.put_row-at-requires
@@ -24,7 +24,7 @@ loop-place-preserved c =
     let put = c.put_row-at in
     let line : Wrote _ _ _ _ _ = record { behind = put.ensures.value.0; written = put.ensures.out_after } in
     letters_go args.triple args.count args.rows.now args.out.now (omega arith) _ _ _ c.loop-place.invariant _ _ (omega arith)
-    (rw c.term_at.ensures at line) put.ensures.value.1 put.auto.out
+    (rw c.term_at-term.ensures at line) put.ensures.value.1 put.auto.out
 
 pub returns : goal.returns
 returns c =

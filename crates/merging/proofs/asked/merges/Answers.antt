@@ -6,4 +6,4 @@ use Rattle.merging.proofs.asked.merges.Goals as goal
 pub returns : goal.returns
 returns c =
     let run = c.args.run in
-    sym (length_recorded run.xs run.ys run.zs run.step)
+    sym (length_recorded run.merges run.step)

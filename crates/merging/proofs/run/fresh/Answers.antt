@@ -10,17 +10,15 @@ use Rattle.merging.proofs.run.fresh.Goals as goal
 pub returns : goal.returns
 unfolding recorded
 returns c numbers rows spread =
-    let opens = c.leaves-opens.ensures in
-    let ends = c.identity-ends.ensures in
-    let holders = c.identity-holders.ensures in (
+    let opens = c.leaves.ensures in
+    let ends = c.identity.ensures in
+    let holders = c.identity-2.ensures in (
       fresh_holds 769 256 _ numbers rows (omega arith)
           (record {
             opens = ap length opens ∙ length_listed _ 0 769;
             ends = ap length ends ∙ length_listed _ 0 769;
             holders = ap length holders ∙ length_listed _ 0 769;
-            xs = refl;
-            ys = refl;
-            zs = refl;
+            merges = refl;
             weights = refl;
             drops = refl;
           })

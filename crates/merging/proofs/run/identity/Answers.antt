@@ -1,26 +1,9 @@
--- The entries written so far are those of the rule.
-use mathlib.Core.Path.{◌≡◌, refl}
-use native.Mathlib.Nat.{zero-add}
-use native.Mathlib.Omega.{arith}
-use lib.ListN.{length-set}
-use Rattle.lists.specs.Ranges.{listed}
-use Rattle.lists.proofs.Writes.{written_next, all_of}
-use Rattle.lists.proofs.Listed.{listed_more}
+-- The rule gives each entry its own place.
+use Rattle.std.proofs.Common.{rules, tests}
+use Rattle.lists.proofs.Listed.{listed_by_place}
 use Rattle.merging.proofs.run.identity.Goals as goal
-
-pub loop-at-init : goal.loop-at-init
-unfolding listed
-loop-at-init c = (omega arith, refl, refl)
-
-pub loop-at-preserved : goal.loop-at-preserved
-loop-at-preserved c =
-    let at = c.loop-at.at in (
-      omega arith,
-      simp length-set (omega arith),
-      rw (c.wide-place.ensures.0, written_next c.loop-at.table at at (omega arith), c.loop-at.invariant.2, listed_more (λ entity. entity) 0 at, zero-add at),
-    )
 
 pub returns : goal.returns
 returns c =
-    let e : c.loop-at.at ≡ 769 = omega arith in
-    all_of c.loop-at.table (listed (λ entity. entity) 0 769) 769 (omega arith) (rw e at c.loop-at.invariant.2)
+    let made = c.from_fn.ensures.items in
+    listed_by_place (λ entity. entity) c.from_fn.result 769 0 made.long (λ i h. let called = (made.at i 0 h).2 in search (rules, tests))

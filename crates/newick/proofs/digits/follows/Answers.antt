@@ -1,30 +1,31 @@
--- Each return is one part of the definition.
-use mathlib.Core.Path.{sym, ◌∙◌}
-use native.Mathlib.Omega.{arith}
-use Rattle.fields.proofs.Numerals.{digit_within, digit_below, digit_above}
+-- The tests are those of the definition.
+use Rattle.std.proofs.Common.{◌≡◌, ◌&&◌}
+use Rattle.std.proofs.Math.Bool.{and_assoc}
+use Rattle.fields.specs.Decimal.{is_digit}
+use Rattle.fields.specs.code.Reading.{goes_on}
 use Rattle.newick.specs.code.Promises.{may_follow}
 use Rattle.newick.proofs.digits.follows.Goals as goal
+use Rattle.newick.proofs.digits.follows.Goals.{Joined-is_ascii_digit, then-is_ascii_digit, else-is_ascii_digit}
 
-pub returns-then-byte-lt48 : goal.returns-then-byte-lt48
-unfolding may_follow
-returns-then-byte-lt48 c = rw (digit_below _ c.if-byte-lt48.true)
+digit : (c : Joined-is_ascii_digit) → c.is_ascii_digit.result ≡ is_digit c.args.byte
+unfolding is_digit
+digit c = c.is_ascii_digit.ensures.value
 
-pub returns-then-byte-gt57 : goal.returns-then-byte-gt57
-unfolding may_follow
-returns-then-byte-gt57 c = rw (digit_above _ c.if-byte-gt57.true)
+first_two : (c : Joined-is_ascii_digit) → c.if-is_ascii_digit.value ≡ (is_digit c.args.byte && goes_on c.args.count c.args.value)
+first_two c =
+    elim c.if-is_ascii_digit.branch [
+      | then-is_ascii_digit w ↦ rw (w.value-is, ← digit c, w.if-is_ascii_digit.true) w.goes_on.ensures
+      | else-is_ascii_digit w ↦ rw (w.value-is, ← digit c, w.if-is_ascii_digit.false)
+    ]
 
-pub returns-then-not-goes_on : goal.returns-then-not-goes_on
+pub returns-then-goes_on : goal.returns-then-goes_on
 unfolding may_follow
-returns-then-not-goes_on c =
-    let args = c.args in
-    let digit = digit_within args.byte (omega arith) (omega arith) in
-    let stops = sym c.goes_on.ensures ∙ c.if-not-goes_on.true in
-    rw (digit, stops)
+returns-then-goes_on c =
+    let two = first_two (goal.at.returns-then-goes_on c).Joined-is_ascii_digit in
+    rw (← and_assoc, ← two, c.if-goes_on.true, c.from.ensures)
 
-pub returns : goal.returns
+pub returns-else-goes_on : goal.returns-else-goes_on
 unfolding may_follow
-returns c =
-    let args = c.args in
-    let digit = digit_within args.byte (omega arith) (omega arith) in
-    let on = sym c.goes_on.ensures ∙ c.if-not-goes_on.false in
-    rw (digit, on)
+returns-else-goes_on c =
+    let two = first_two (goal.at.returns-else-goes_on c).Joined-is_ascii_digit in
+    rw (← and_assoc, ← two, c.if-goes_on.false)

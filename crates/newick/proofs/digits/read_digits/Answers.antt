@@ -1,49 +1,49 @@
 -- The digits read and those ahead are the number's digits: each way out of the loop is one law of the place midway.
-use mathlib.Core.Path.{refl, sym, ◌∙◌}
-use Prim.Native.Nat.{◌-◌}
-use native.Mathlib.Omega.{arith}
+use Rattle.std.proofs.Common.{◌≡◌, refl, ap, sym, ◌∙◌, ◌+◌, ◌-◌, get_or, get_or-drop, take, drop, length, length-drop, arith}
+use native.Mathlib.Nat.{add-zero, add_assoc}
+use Rattle.lists.proofs.Steps.{part_to_end}
 use Rattle.newick.specs.Reading.{byte_at}
+use Rattle.newick.specs.code.Promises.{may_follow}
 use Rattle.newick.proofs.NumberAhead.{midway_starts, midway_ends, midway_goes, none_at_end, follows_digit}
 use Rattle.newick.proofs.digits.read_digits.Goals as goal
+use Rattle.newick.proofs.digits.read_digits.Goals.{After-follows}
 
-pub loop-end-init : goal.loop-end-init
-loop-end-init c = (c.requires, midway_starts c.args.text.now c.args.at)
+pub loop-count-init : goal.loop-count-init
+loop-count-init c = rw (add-zero c.args.at) (midway_starts c.args.text.now c.args.at)
+
+-- The byte that is read stands so many places behind the first.
+here : (c : After-follows) → get_or (take (length c.args.text.now - c.args.at) (drop c.args.at c.args.text.now)) c.loop-count.count 0
+    ≡ byte_at c.args.text.now (c.args.at + c.loop-count.count)
+unfolding byte_at
+here c = rw (part_to_end c.args.text.now c.args.at) (get_or-drop c.args.at c.args.text.now c.loop-count.count 0)
+
+tested : (c : After-follows) → c.follows.result
+    ≡ may_follow (c.args.at + c.loop-count.count - c.args.at) c.loop-count.value (byte_at c.args.text.now (c.args.at + c.loop-count.count))
+tested c =
+    let count : c.loop-count.count ≡ c.args.at + c.loop-count.count - c.args.at = omega arith in
+    c.follows.ensures ∙ rw (here c) (ap (λ n. may_follow n c.loop-count.value (byte_at c.args.text.now (c.args.at + c.loop-count.count))) count)
 
 pub returns-then-not-follows : goal.returns-then-not-follows
-unfolding byte_at
 returns-then-not-follows c =
-    let stops = sym c.follows.ensures ∙ c.if-not-follows.true in
-    midway_ends c.args.text.now c.args.at c.loop-end.value c.loop-end.end c.loop-end.invariant.1 stops _ refl refl c.loop-end.invariant.0
+    let stops = sym (tested (goal.at.returns-then-not-follows c).After-follows) ∙ c.if-not-follows.true in
+    midway_ends c.args.text.now c.args.at c.loop-count.value (c.args.at + c.loop-count.count) c.loop-count.invariant stops _ refl refl (omega arith)
 
-pub overflow_sub-value : goal.overflow_sub-value
-unfolding byte_at
-overflow_sub-value c =
-    let end = c.loop-end.end in
-    let on = sym c.follows.ensures ∙ c.if-not-follows.false in
-    omega (arith, follows_digit (end - c.args.at) c.loop-end.value _ on)
+pub overflow_sub-byte : goal.overflow_sub-byte
+overflow_sub-byte c =
+    let at = (goal.at.overflow_sub-byte c).After-follows in
+    let on = sym (tested at) ∙ c.if-not-follows.false in
+    rw (here at) (follows_digit _ c.loop-count.value _ on).0
 
-pub overflow_cast-value : goal.overflow_cast-value
-unfolding byte_at
-overflow_cast-value c =
-    let end = c.loop-end.end in
-    let on = sym c.follows.ensures ∙ c.if-not-follows.false in
-    omega (arith, follows_digit (end - c.args.at) c.loop-end.value _ on)
-
-pub overflow_add-value : goal.overflow_add-value
-unfolding byte_at
-overflow_add-value c =
-    let end = c.loop-end.end in
-    let on = sym c.follows.ensures ∙ c.if-not-follows.false in
-    omega (arith, follows_digit (end - c.args.at) c.loop-end.value _ on)
-
-pub loop-end-preserved : goal.loop-end-preserved
-unfolding byte_at
-loop-end-preserved c =
-    let end = c.loop-end.end in
-    let on = sym c.follows.ensures ∙ c.if-not-follows.false in
-    (omega arith, midway_goes c.args.text.now c.args.at c.loop-end.value end c.loop-end.invariant.1 on)
+pub loop-count-preserved : goal.loop-count-preserved
+loop-count-preserved c =
+    let at = (goal.at.loop-count-preserved c).After-follows in
+    let on = sym (tested at) ∙ c.if-not-follows.false in
+    rw (c.from.ensures, here at, ← add_assoc) (midway_goes c.args.text.now c.args.at c.loop-count.value (c.args.at + c.loop-count.count) c.loop-count.invariant on)
 
 pub returns : goal.returns
 returns c =
-    let none = none_at_end c.args.text.now c.args.at c.loop-end.value c.loop-end.end c.loop-end.invariant.1 (omega arith) in
-    midway_ends c.args.text.now c.args.at c.loop-end.value c.loop-end.end c.loop-end.invariant.1 none _ refl refl c.loop-end.invariant.0
+    let text = c.args.text.now in
+    let end : c.args.at + c.loop-count.count ≡ length text =
+    omega (arith, ap length (part_to_end text c.args.at), length-drop c.args.at text) in
+    let none = none_at_end text c.args.at c.loop-count.value (c.args.at + c.loop-count.count) c.loop-count.invariant (omega arith) in
+    midway_ends text c.args.at c.loop-count.value (c.args.at + c.loop-count.count) c.loop-count.invariant none _ refl (sym end) (omega arith)

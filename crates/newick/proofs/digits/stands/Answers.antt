@@ -1,23 +1,15 @@
 -- Beyond its end a text has 0, which no byte asked for is.
-use mathlib.Core.Path.{refl, sym}
-use mathlib.Core.Bool.{true≢false}
-use Prim.Native.Nat.{◌≤◌}
-use native.Mathlib.Omega.{arith}
-use borrow.Author.Tests.{ne_eqb}
-use lib.ListN.{length, get_or-eq_default}
+use Rattle.std.proofs.Common.{◌≤◌, length, refl, sym, ne_eqb, le-ltb, arith}
+use lib.ListN.{get_or-eq_default}
 use Rattle.newick.specs.Reading.{byte_at}
 use Rattle.newick.proofs.digits.stands.Goals as goal
 
-pub returns-then-at-text : goal.returns-then-at-text
+pub returns-then-at-text-clause-value : goal.returns-then-at-text-clause-value
 unfolding byte_at
-returns-then-at-text c = record { value = refl; at_in_bounds = λ e. omega arith }
+returns-then-at-text-clause-value c = refl
 
-pub returns : goal.returns
+pub returns-else-at-text-clause-value : goal.returns-else-at-text-clause-value
 unfolding byte_at
-returns c =
-    let args = c.args in
-    let beyond : length args.text.now ≤ args.at = omega arith in
-    record {
-      value = rw (get_or-eq_default args.text.now 0 beyond) (sym (ne_eqb 0 args.byte (λ e. omega (arith, c.requires))));
-      at_in_bounds = λ e. absurd (true≢false (sym e));
-    }
+returns-else-at-text-clause-value c =
+    let beyond : length c.args.text.now ≤ c.args.at = omega arith in
+    rw (le-ltb _ _ beyond, get_or-eq_default c.args.text.now 0 beyond) (sym (ne_eqb 0 c.args.byte (λ e. omega (arith, c.requires))))

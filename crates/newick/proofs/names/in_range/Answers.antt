@@ -1,33 +1,26 @@
--- Each return is one arm of the definition.
-use mathlib.Core.Path.{sym}
-use mathlib.Core.Bool.{◌&&◌, or-true, or-false}
-use Prim.Native.Nat.{◌+◌, ◌*◌}
-use native.Mathlib.Omega.{arith}
-use borrow.Author.Tests.{lt-ltb, le-ltb, le-leb, lt-leb, eq-eqb, ne_eqb}
-use lib.Dec.{ltb, leb}
+-- The tests are those of the definition, in its order.
+use Rattle.std.proofs.Common.{rules, ◌≡◌, ◌&&◌, ◌||◌, ◌+◌, ◌*◌, ltb, leb, lt-ltb, le-ltb}
+use Rattle.std.proofs.Math.Bool.{or_assoc}
 use Rattle.newick.specs.Names.{in_range}
 use Rattle.newick.proofs.names.in_range.Goals as goal
+use Rattle.newick.proofs.names.in_range.Goals.{Joined-name-modes, then-name-modes, else-name-modes}
 
-pub returns-then-name-modes : goal.returns-then-name-modes
-unfolding in_range
-returns-then-name-modes c = rw (lt-ltb _ _ c.if-name-modes.true)
+first_two : (c : Joined-name-modes)
+    → c.if-name-modes.value ≡ (ltb c.args.name c.args.modes || (leb 65536 c.args.name && ltb c.args.name (65536 + 2 * c.args.modes)))
+first_two c =
+    elim c.if-name-modes.branch [
+      | then-name-modes w ↦ rw (w.value-is, lt-ltb _ _ w.if-name-modes.true)
+      | else-name-modes w ↦ rw (w.value-is, le-ltb _ _ w.if-name-modes.false) (search rules)
+    ]
 
-pub returns-then-name-eq131072 : goal.returns-then-name-eq131072
+pub returns-then-contains : goal.returns-then-contains
 unfolding in_range
-returns-then-name-eq131072 c =
-    let args = c.args in
-    let leaf = leb 65536 args.name && ltb args.name (65536 + 2 * args.modes) in
-    rw (le-ltb args.name args.modes (omega arith), eq-eqb args.name 131072 c.if-name-eq131072.true) (sym (or-true leaf))
+returns-then-contains c =
+    let two = first_two (goal.at.returns-then-contains c).Joined-name-modes in
+    rw (← or_assoc, ← two, c.if-contains.true)
 
-pub returns-then-name-lt65536 : goal.returns-then-name-lt65536
+pub returns-else-contains : goal.returns-else-contains
 unfolding in_range
-returns-then-name-lt65536 c =
-    let args = c.args in
-    rw (le-ltb args.name args.modes (omega arith), lt-leb 65536 args.name (omega arith), ne_eqb args.name 131072 c.if-name-eq131072.false)
-
-pub returns : goal.returns
-unfolding in_range
-returns c =
-    let args = c.args in
-    rw (le-ltb args.name args.modes (omega arith), le-leb 65536 args.name (omega arith), ne_eqb args.name 131072 c.if-name-eq131072.false)
-    (sym (or-false _))
+returns-else-contains c =
+    let two = first_two (goal.at.returns-else-contains c).Joined-name-modes in
+    rw (← or_assoc, ← two, c.if-contains.false)

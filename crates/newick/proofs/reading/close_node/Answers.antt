@@ -3,12 +3,12 @@ use mathlib.Core.Path.{sym, ◌∙◌}
 use Prim.Native.Nat.{◌*◌}
 use native.Mathlib.Omega.{arith}
 use lib.ListN.{take}
-use Rattle.newick.specs.code.Promises.{meant, end_of, closed_of}
+use Rattle.newick.specs.code.Promises.{meant, stopped, end_of, place_of, closed_of}
 use Rattle.newick.proofs.PartsRead.{named_missing, named_none, named_some, one_closed}
 use Rattle.newick.proofs.reading.close_node.Goals as goal
 
 pub returns-then-not-stands : goal.returns-then-not-stands
-unfolding meant end_of closed_of
+unfolding meant stopped end_of place_of closed_of
 returns-then-not-stands c =
     let args = c.args in
     let missing = sym c.stands.ensures.value ∙ c.if-not-stands.true in
@@ -22,7 +22,7 @@ pub read_digits-number-requires : goal.read_digits-number-requires
 read_digits-number-requires c = omega (arith, c.stands.ensures.at_in_bounds c.if-not-stands.false)
 
 pub returns-then-number-at : goal.returns-then-number-at
-unfolding meant end_of closed_of
+unfolding meant stopped end_of place_of closed_of
 returns-then-number-at c =
     let args = c.args in
     let stands = c.stands in
@@ -38,7 +38,7 @@ returns-then-number-at c =
     }
 
 pub returns : goal.returns
-unfolding meant end_of closed_of
+unfolding meant stopped end_of place_of closed_of
 returns c =
     let args = c.args in
     let stands = c.stands in

@@ -5,7 +5,7 @@ use Prim.Native.Nat.{ℕ, ◌*◌}
 use native.Mathlib.Omega.{arith}
 use lib.ListN.{take}
 use Rattle.newick.specs.Reading.{Reading, got, leaf_name}
-use Rattle.newick.specs.code.Promises.{meant, end_of, closed_of}
+use Rattle.newick.specs.code.Promises.{meant, stopped, end_of, place_of, closed_of}
 use Rattle.newick.proofs.PartsRead.{numbered_none, numbered_some}
 use Rattle.newick.proofs.reading.read_leaf.Goals as goal
 
@@ -14,7 +14,7 @@ abbrev leaf : ℕ → List ℕ → ℕ → ℕ → Reading
 leaf closed numbers number end = got (leaf_name number) (take (4 * closed) numbers) end
 
 pub returns-then-number-at : goal.returns-then-number-at
-unfolding meant end_of closed_of
+unfolding meant stopped end_of place_of closed_of
 returns-then-number-at c =
     let read = c.read_digits-number in
     let none = c.if-number-at.true in

@@ -9,6 +9,7 @@ use Rattle.tree.specs.Check.{tree_checked}
 use Rattle.newick.specs.Reading.{got}
 use Rattle.newick.specs.Calls.{table_in, taken_as, read_as, table_after}
 use Rattle.newick.proofs.TreeTaken.{table_is, out_of_range, all_in_range, laid_alike, front_fits, front_counts}
+use Rattle.refusal.proofs.Told.{handed_on}
 use Rattle.newick.proofs.reading.take_tree.Goals as goal
 use Rattle.newick.proofs.reading.take_tree.Goals.{After-check_tree, After-lay_rows, After-put_codes}
 
@@ -90,9 +91,9 @@ pub slice_bounds-check_tree-end : goal.slice_bounds-check_tree-end
 slice_bounds-check_tree-end c =
     sym (front_counts (tree (goal.at.slice_bounds-check_tree-end c).After-lay_rows) _ (tree_end (goal.at.slice_bounds-check_tree-end c).After-lay_rows) (tree_size (goal.at.slice_bounds-check_tree-end c).After-lay_rows))
 
-pub slice_bounds-tree-end-in-Accepted : goal.slice_bounds-tree-end-in-Accepted
-slice_bounds-tree-end-in-Accepted c =
-    front_fits (tree (goal.at.slice_bounds-tree-end-in-Accepted c).After-lay_rows) _ (tree_end (goal.at.slice_bounds-tree-end-in-Accepted c).After-lay_rows) (tree_size (goal.at.slice_bounds-tree-end-in-Accepted c).After-lay_rows)
+pub slice_bounds-tree-end-3 : goal.slice_bounds-tree-end-3
+slice_bounds-tree-end-3 c =
+    front_fits (tree (goal.at.slice_bounds-tree-end-3 c).After-lay_rows) _ (tree_end (goal.at.slice_bounds-tree-end-3 c).After-lay_rows) (tree_size (goal.at.slice_bounds-tree-end-3 c).After-lay_rows)
 
 pub slice_bounds-take_table-end : goal.slice_bounds-take_table-end
 slice_bounds-take_table-end c =
@@ -102,24 +103,25 @@ pub take_table-requires : goal.take_table-requires
 take_table-requires c =
     front_counts (tree (goal.at.take_table-requires c).After-lay_rows) _ (tree_end (goal.at.take_table-requires c).After-lay_rows) (tree_size (goal.at.take_table-requires c).After-lay_rows)
 
-pub returns-in-Refused : goal.returns-in-Refused
+pub returns-in_err-check_tree : goal.returns-in_err-check_tree
 unfolding table_after taken_as
-returns-in-Refused c =
-    let here = (goal.at.returns-in-Refused c).After-check_tree in
+returns-in_err-check_tree c =
+    let here = (goal.at.returns-in_err-check_tree c).After-check_tree in
     let room = length c.args.table.now in
+    let refused = handed_on c.from_residual.ensures in
     record {
-      by_index = λ name at. ap (λ w. taken_as w c.args.modes room) (sym c.in-Refused.is) ∙ read_is here name at room;
-      table_after = refl;
+      by_index = λ name at. refused ∙ ap (λ w. taken_as w c.args.modes room) (sym c.in_err-check_tree.was) ∙ read_is here name at room;
+      table_after = rw refused;
     }
 
-pub returns-in-Accepted : goal.returns-in-Accepted
-returns-in-Accepted c =
-    let here = (goal.at.returns-in-Accepted c).After-check_tree in
+pub returns : goal.returns
+returns c =
+    let here = (goal.at.returns c).After-check_tree in
     let room = length c.args.table.now in
     let take = c.take_table in
-    let tree = (goal.at.returns-in-Accepted c).After-lay_rows in
+    let tree = (goal.at.returns c).After-lay_rows in
     let front = take_at c.lay_rows.new.table _ (3 * c.args.modes) (tree_size tree) ∙ tree_is here in
     record {
-      by_index = λ name at. take.ensures.value ∙ ap (λ w. taken_as w c.args.modes room) (sym c.in-Accepted.is) ∙ read_is here name at room;
+      by_index = λ name at. take.ensures.value ∙ ap (λ w. taken_as w c.args.modes room) (sym c.in_ok-check_tree.was) ∙ read_is here name at room;
       table_after = take.ensures.table_after ∙ ap (λ t. table_after take.result t c.args.table.now) front;
     }

@@ -1,25 +1,22 @@
 -- Each return is one arm of the definition, by what the tree's check answered.
-use mathlib.Core.Path.{◌≡◌, refl, ◌∙◌, sym}
-use Rattle.refusal.proofs.Told.{tells}
-use Rattle.tree.specs.declared.TreeChecked.TheVariants.{Accepted}
-use Rattle.tree.specs.Check.{tree_checked}
+use mathlib.Core.Path.{◌∙◌, sym}
+use Rattle.refusal.proofs.Told.{tells, handed_on}
 use Rattle.tree.specs.Writing.{written_as, tree_written, text_after}
 use Rattle.newick.specs.Calls.{newick_written}
 use Rattle.newick.proofs.writing.write_newick.Goals as goal
 
 pub put_tree-requires : goal.put_tree-requires
-put_tree-requires c =
-    let told : tree_checked 256 c.args.modes c.args.tree.now ≡ Accepted = cc in
-    told
+put_tree-requires c = sym c.check_tree.ensures.answer ∙ c.in_ok-check_tree.was
 
-pub returns-in-Refused : goal.returns-in-Refused
+pub returns-in_err-check_tree : goal.returns-in_err-check_tree
 unfolding newick_written tree_written written_as text_after
-returns-in-Refused c =
-    record { tells = tells (rw (sym c.check_tree.ensures.answer ∙ c.in-Refused.is)); text_after = refl }
+returns-in_err-check_tree c =
+    let refused = handed_on c.from_residual.ensures in
+    record { tells = tells (rw (sym c.check_tree.ensures.answer ∙ c.in_err-check_tree.was) refused); text_after = rw refused }
 
-pub returns-in-Accepted : goal.returns-in-Accepted
+pub returns : goal.returns
 unfolding newick_written tree_written
-returns-in-Accepted c =
-    let told : tree_checked 256 c.args.modes c.args.tree.now ≡ Accepted = cc in
+returns c =
+    let told = sym c.check_tree.ensures.answer ∙ c.in_ok-check_tree.was in
     let put = c.put_tree.ensures in
     record { tells = tells (rw told put.value); text_after = put.text_after }

@@ -18,17 +18,18 @@ returns-then-is_dash c =
     let args = c.args in
     sym (code_dash args.text.now args.at (sym c.is_dash.ensures ∙ c.if-is_dash.true))
 
-pub returns-in_default : goal.returns-in_default
-returns-in_default c =
+pub returns-in_err-field : goal.returns-in_err-field
+returns-in_err-field c =
     let args = c.args in
-    sym (code_broken args.text.now args.at (other (goal.at.returns-in_default c).Else-is_dash) (sym c.read_number.ensures ∙ c.in_default.is))
+    c.from_residual.ensures
+    ∙ sym (code_broken args.text.now args.at (other (goal.at.returns-in_err-field c).Else-is_dash) (sym c.read_number.ensures ∙ c.in_err-field.was))
 
-pub returns-then-number : goal.returns-then-number
-returns-then-number c =
+pub returns-then-field : goal.returns-then-field
+returns-then-field c =
     let args = c.args in
-    sym (code_absent args.text.now args.at (other (goal.at.returns-then-number c).Else-is_dash) _ _ (sym c.read_number.ensures ∙ c.in-Number.is) c.if-number.true)
+    sym (code_absent args.text.now args.at (other (goal.at.returns-then-field c).Else-is_dash) _ _ (sym c.read_number.ensures ∙ c.in_ok-field.was) c.if-field.true)
 
 pub returns : goal.returns
 returns c =
     let args = c.args in
-    sym (code_number args.text.now args.at (other (goal.at.returns c).Else-is_dash) _ _ (sym c.read_number.ensures ∙ c.in-Number.is) c.if-number.false)
+    sym (code_number args.text.now args.at (other (goal.at.returns c).Else-is_dash) _ _ (sym c.read_number.ensures ∙ c.in_ok-field.was) c.if-field.false)

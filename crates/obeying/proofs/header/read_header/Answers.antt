@@ -10,19 +10,19 @@ pub read_by-requires : goal.read_by-requires
 unfolding header_opening rule_word
 read_by-requires c = refl
 
-pub read_by-requires-in-Broken : goal.read_by-requires-in-Broken
+pub read_by-requires-2 : goal.read_by-requires-2
 unfolding header_opening rule_word
-read_by-requires-in-Broken c = refl
+read_by-requires-2 c = refl
 
-pub returns-in-Is : goal.returns-in-Is
+pub returns-in-Some : goal.returns-in-Some
 unfolding header_of
-returns-in-Is c =
-    sym (header_first Published c.args.line.now _ _ _ _
-    (sym c.read_by.ensures ∙ c.in-Is.is))
+returns-in-Some c =
+    sym (header_first Published c.args.line.now _ _
+    (sym c.read_by.ensures ∙ c.in-Some.is))
 
-pub returns-in-Broken : goal.returns-in-Broken
+pub returns : goal.returns
 unfolding header_of
-returns-in-Broken c =
+returns c =
     let line = c.args.line.now in
-    c.read_by-in-Broken.ensures
-    ∙ sym (header_next Published line _ (sym c.read_by.ensures ∙ c.in-Broken.is))
+    c.read_by-2.ensures
+    ∙ sym (header_next Published line _ (sym c.read_by.ensures ∙ c.in_default.is))

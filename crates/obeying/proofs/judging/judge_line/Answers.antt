@@ -1,10 +1,13 @@
 -- What a line says is what its merge is judged, where there is a step left and the form is kept.
+use Rattle.std.specs.Prelude.{Some, None}
 use mathlib.Core.Path.{◌≡◌, ◌∙◌, sym}
 use Prim.Native.Nat.{◌<◌, ◌≤◌}
 use native.Mathlib.Omega.{arith}
 use lib.ListN.{length}
 use Rattle.terms.specs.Job.{Job}
 use Rattle.merging.specs.code.State.{history_of}
+use Rattle.refusal.specs.declared.Refusal.TheVariants.{LineForm}
+use Rattle.refusal.proofs.Told.{handed_on}
 use Rattle.obeying.proofs.LineJudged.{after_last, line_broken, line_says}
 use Rattle.obeying.proofs.judging.judge_line.Goals as goal
 use Rattle.obeying.proofs.judging.judge_line.Goals.{Else-modes-merges}
@@ -27,16 +30,19 @@ judge_merge-requires c =
       line_value = c.line_after-line.ensures;
     }
 
-pub returns-in-Is : goal.returns-in-Is
-returns-in-Is c job holds same =
+pub returns : goal.returns
+returns c job holds same =
     let args = c.args in
+    let said : c.read_said.result ≡ Some c.in_ok-said.said = grind arith in
     c.judge_merge.ensures job holds
-    ∙ line_says args.by_hand job (history_of args.run) args.bytes.now (one_left (goal.at.returns-in-Is c).Else-modes-merges job same) _
-    (sym (c.read_said.ensures job holds) ∙ c.in-Is.is)
+    ∙ line_says args.by_hand job (history_of args.run) args.bytes.now (one_left (goal.at.returns c).Else-modes-merges job same) _
+    (sym (c.read_said.ensures job holds) ∙ said)
 
-pub returns-in-Broken : goal.returns-in-Broken
-returns-in-Broken c job holds same =
+pub returns-in_err-said : goal.returns-in_err-said
+returns-in_err-said c job holds same =
     let args = c.args in
-    rw c.line_after-line.ensures
-    (line_broken args.by_hand job (history_of args.run) args.bytes.now (one_left (goal.at.returns-in-Broken c).Else-modes-merges job same)
-    (sym (c.read_said.ensures job holds) ∙ c.in-Broken.is))
+    let none : c.read_said.result ≡ None = grind arith in
+    let why : c.in_err-said.field-0.0 ≡ LineForm c.line_after-line.result = grind arith in
+    rw (handed_on c.from_residual.ensures, why, c.line_after-line.ensures)
+    (line_broken args.by_hand job (history_of args.run) args.bytes.now (one_left (goal.at.returns-in_err-said c).Else-modes-merges job same)
+    (sym (c.read_said.ensures job holds) ∙ none))

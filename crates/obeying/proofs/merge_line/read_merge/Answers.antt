@@ -1,18 +1,16 @@
 -- The numbers of the whole line are what it says as a merge.
-use mathlib.Core.Path.{sym, ◌∙◌}
-use Rattle.fields.proofs.Openings.{plain_read}
+use Rattle.std.proofs.Common.{◌∙◌, sym}
+use Rattle.fields.proofs.NumbersSaid.{plain_there, no_plain}
 use Rattle.obeying.proofs.LineSaid.{merge_broken, merge_said}
 use Rattle.obeying.proofs.merge_line.read_merge.Goals as goal
 
-pub returns-then-not-read_line : goal.returns-then-not-read_line
-returns-then-not-read_line c =
+pub returns-in_err-step : goal.returns-in_err-step
+returns-in_err-step c =
     let line = c.args.line.now in
-    let read = plain_read line 5 _ _ c.read_line.ensures in
-    sym (merge_broken line (sym read.good ∙ c.if-not-read_line.true))
+    rw c.from_residual.ensures (sym (merge_broken line (no_plain 5 line (sym c.line_numbers.ensures ∙ c.in_err-step.was))))
 
 pub returns : goal.returns
 returns c =
     let line = c.args.line.now in
-    let read = plain_read line 5 _ _ c.read_line.ensures in
-    let yes_all = c.if-not-read_line.false in
-    sym (merge_said line c.read_line.new.numbers (sym read.good ∙ yes_all) (read.values yes_all))
+    let said = plain_there 5 line (sym c.line_numbers.ensures ∙ c.in_ok-step.was) in
+    sym (merge_said line c.in_ok-step.field-0 said.0 said.1)

@@ -1,11 +1,6 @@
--- The place stays within the text, the count within the room.
-use mathlib.Core.Path.{◌≡◌}
-use Prim.Native.Nat.{◌≤◌, ◌-◌}
-use lib.ListN.{length}
+-- The count stays within the room.
+use Rattle.std.proofs.Common.{◌≤◌, length}
 use Rattle.recorded.proofs.lines.read_codes.Given as goal
 
-abbrev pub invariant-loop-count : goal.invariant-loop-count
-invariant-loop-count l = (l.at ≤ length l.text) × (l.count ≤ length l.initial.codes) × (length l.codes ≡ length l.initial.codes)
-
-abbrev pub decreases-loop-count : goal.decreases-loop-count
-decreases-loop-count l = length l.initial.codes - l.count
+abbrev pub invariant-loop-field : goal.invariant-loop-field
+invariant-loop-field l = l.count ≤ length l.codes

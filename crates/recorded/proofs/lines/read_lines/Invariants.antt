@@ -1,11 +1,7 @@
--- The count stays within the room.
-use mathlib.Core.Path.{◌≡◌}
-use Prim.Native.Nat.{◌≤◌, ◌-◌}
-use lib.ListN.{length}
+-- The count and the room ahead stay within the codes.
+use Rattle.std.proofs.Common.{◌≡◌, ◌+◌, ◌≤◌, length}
+use Rattle.std.specs.Slice.Iter.{chunks_exact_mut_rest, chunks_exact_mut_size}
 use Rattle.recorded.proofs.lines.read_lines.Given as goal
 
-abbrev pub invariant-loop-codes : goal.invariant-loop-codes
-invariant-loop-codes l = (l.count ≤ length l.initial.codes) × (length l.codes ≡ length l.initial.codes)
-
-abbrev pub decreases-loop-codes : goal.decreases-loop-codes
-decreases-loop-codes l = length l.initial.codes - l.count
+abbrev pub invariant-loop-part : goal.invariant-loop-part
+invariant-loop-part l = (chunks_exact_mut_size l.part-iterator ≡ l.width) × (l.count + length (chunks_exact_mut_rest l.part-iterator) ≤ length l.fn.codes)

@@ -1,11 +1,7 @@
--- The count stays within the room.
-use mathlib.Core.Path.{◌≡◌}
-use Prim.Native.Nat.{◌≤◌, ◌-◌}
-use lib.ListN.{length}
+-- The count and the room ahead stay within the rows.
+use Rattle.std.proofs.Common.{◌≡◌, ◌+◌, ◌≤◌, length}
+use Rattle.std.specs.Slice.Iter.{chunks_exact_mut_rest, chunks_exact_mut_size}
 use Rattle.recorded.proofs.lines.read_terms.Given as goal
 
-abbrev pub invariant-loop-rows : goal.invariant-loop-rows
-invariant-loop-rows l = (l.count ≤ length l.initial.rows) × (length l.rows ≡ length l.initial.rows)
-
-abbrev pub decreases-loop-rows : goal.decreases-loop-rows
-decreases-loop-rows l = length l.initial.rows - l.count
+abbrev pub invariant-loop-row : goal.invariant-loop-row
+invariant-loop-row l = (chunks_exact_mut_size l.row-iterator ≡ 8) × (l.count + length (chunks_exact_mut_rest l.row-iterator) ≤ length l.fn.rows)

@@ -6,10 +6,11 @@ use native.Mathlib.Omega.{arith}
 use lib.ListN.{get_or}
 use Rattle.lists.specs.Members.{alike}
 use Rattle.terms.specs.Rows.{terms_of}
+use Rattle.lists.proofs.Standard.{alike_is}
 use Rattle.terms.proofs.RowSteps.{length_terms}
 use Rattle.reduction.proofs.ChainedRows.{terms_at, seeking_starts, seeking_on, seeking_found, seeking_ends, place_inside, chain_falls}
 use Rattle.reduction.proofs.kept_rows.find_like.Goals as goal
-use Rattle.reduction.proofs.kept_rows.find_like.Goals.{After-same, In-loop-at}
+use Rattle.reduction.proofs.kept_rows.find_like.Goals.{After-eq, In-loop-at}
 
 -- The number leads to one of the rows.
 row_there : (c : In-loop-at)
@@ -20,12 +21,12 @@ row_there c =
     (rw (length_terms 9 c.args.count c.args.rows.now) at inside, omega (arith, inside, chained.fits))
 
 -- The comparison is with that row's term.
-compared : (c : After-same)
+compared : (c : After-eq)
     → (let args = c.args in
-    c.same.result ≡ alike args.term.now (get_or (terms_of 9 args.count args.rows.now) (c.loop-at.at - 1) []))
+    c.eq.result ≡ alike args.term.now (get_or (terms_of 9 args.count args.rows.now) (c.loop-at.at - 1) []))
 compared c =
     let args = c.args in
-    rw (terms_at 9 args.count (c.loop-at.at - 1) args.rows.now (row_there (goal.at.After-same c).In-loop-at).0, ← c.term_at.ensures) c.same.ensures
+    rw (terms_at 9 args.count (c.loop-at.at - 1) args.rows.now (row_there (goal.at.After-eq c).In-loop-at).0, ← c.term_at.ensures, alike_is) c.eq.ensures
 
 pub bounds-chains-mark : goal.bounds-chains-mark
 bounds-chains-mark c =
@@ -33,7 +34,7 @@ bounds-chains-mark c =
 
 pub loop-at-init : goal.loop-at-init
 loop-at-init c =
-    rw (c.wide-at.ensures.0, c.mark_of-mark.ensures.0) (seeking_starts _ _ _ _ c.requires.chained _ c.requires.term_nonzero (omega arith))
+    rw (c.from-at.ensures, c.mark_of-mark.ensures.0) (seeking_starts _ _ _ _ c.requires.chained _ c.requires.term_nonzero (omega arith))
 
 pub term_at-requires : goal.term_at-requires
 term_at-requires c =
@@ -41,10 +42,10 @@ term_at-requires c =
     let inside = (row_there (goal.at.term_at-requires c).In-loop-at).0 in
     (omega (arith, held.room), omega (arith, held.within (c.loop-at.at - 1) inside))
 
-pub returns-then-same : goal.returns-then-same
-returns-then-same c =
+pub returns-then-eq : goal.returns-then-eq
+returns-then-eq c =
     seeking_found _ _ _ _ c.requires.chained _ c.requires.term_nonzero _ c.loop-at.invariant c.loop-at-test.true
-    (sym (compared (goal.at.returns-then-same c).After-same) ∙ c.if-same.true)
+    (sym (compared (goal.at.returns-then-eq c).After-eq) ∙ c.if-eq.true)
 
 pub overflow_add-place : goal.overflow_add-place
 overflow_add-place c = omega (arith, (row_there (goal.at.overflow_add-place c).In-loop-at).1)
@@ -55,14 +56,14 @@ bounds-chains-place c =
 
 pub loop-at-smaller : goal.loop-at-smaller
 loop-at-smaller c =
-    rw c.wide-at-in-loop-at.ensures.0
+    rw c.from-at-in-loop-at.ensures
     (chain_falls _ _ _ _ c.requires.chained _ c.requires.term_nonzero _ c.loop-at.invariant c.loop-at-test.true)
 
 pub loop-at-preserved : goal.loop-at-preserved
 loop-at-preserved c =
-    rw c.wide-at-in-loop-at.ensures.0
+    rw c.from-at-in-loop-at.ensures
     (seeking_on _ _ _ _ c.requires.chained _ c.requires.term_nonzero _ c.loop-at.invariant c.loop-at-test.true
-    (sym (compared (goal.at.loop-at-preserved c).After-same) ∙ c.if-same.false))
+    (sym (compared (goal.at.loop-at-preserved c).After-eq) ∙ c.if-eq.false))
 
 pub returns : goal.returns
 returns c =

@@ -11,8 +11,8 @@ returns-then-rows-from-eq0 c =
       there = λ some. absurd (some c.if-rows-from-eq0.true);
     }
 
-pub returns : goal.returns
-returns c =
+pub returns-else-rows-from-eq0 : goal.returns-else-rows-from-eq0
+returns-else-rows-from-eq0 c =
     record {
       put = rw add-sub_cancel_left at c.put_row.ensures;
       gone = λ none. absurd (c.if-rows-from-eq0.false none);

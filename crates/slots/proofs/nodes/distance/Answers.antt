@@ -1,12 +1,11 @@
 -- The steps taken and those left from here are all.
-use Prim.Native.Nat.{◌-◌}
+use Rattle.std.proofs.Common.{◌-◌, arith}
 use native.Mathlib.Nat.{sub-zero}
-use native.Mathlib.Omega.{arith}
 use Rattle.slots.proofs.DistanceSteps.{distance_none, distance_above, distance_end}
 use Rattle.slots.proofs.nodes.distance.Goals as goal
 
 pub loop-up-init : goal.loop-up-init
-loop-up-init c = (omega arith, rw sub-zero (omega arith))
+loop-up-init c = rw sub-zero (omega arith)
 
 pub returns-then-tree-place : goal.returns-then-tree-place
 returns-then-tree-place c =

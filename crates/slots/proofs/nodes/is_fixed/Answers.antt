@@ -1,12 +1,11 @@
 -- Unfixed first, then empty.
-use mathlib.Core.Path.{sym, ◌∙◌}
 use Rattle.slots.specs.code.Numbers.{number_fixed}
 use Rattle.slots.proofs.nodes.is_fixed.Goals as goal
 
-pub returns-then-unfixed : goal.returns-then-unfixed
+pub returns-then-not-unfixed : goal.returns-then-not-unfixed
 unfolding number_fixed
-returns-then-unfixed c = rw (sym c.unfixed.ensures ∙ c.if-unfixed.true)
+returns-then-not-unfixed c = rw (← c.unfixed.ensures, c.if-not-unfixed.true, c.from.ensures)
 
-pub returns : goal.returns
+pub returns-else-not-unfixed : goal.returns-else-not-unfixed
 unfolding number_fixed
-returns c = rw (sym c.unfixed.ensures ∙ c.if-unfixed.false, c.wide.ensures.0)
+returns-else-not-unfixed c = rw (← c.unfixed.ensures, c.if-not-unfixed.false)

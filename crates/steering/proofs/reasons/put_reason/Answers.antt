@@ -1,4 +1,4 @@
--- The number of the refusal decides which line is put, and there is room for any.
+-- The refusal decides which line is put, and there is room for any.
 use native.Mathlib.Omega.{arith}
 use Rattle.fields.specs.Texts.{spelt}
 use Rattle.merging.specs.code.State.{history_of}
@@ -6,35 +6,30 @@ use Rattle.text.proofs.PrintedLines.{puts_none}
 use Rattle.steering.proofs.ReasonTold.{line_puts, due_told, closed_told, weight_told, nothing_told}
 use Rattle.steering.proofs.reasons.put_reason.Goals as goal
 
-pub returns-then-number-eq8 : goal.returns-then-number-eq8
-returns-then-number-eq8 c job holds =
+pub returns-in-StepNotNext : goal.returns-in-StepNotNext
+returns-in-StepNotNext c job holds =
     let args = c.args in
-    let put = c.put_value in
-    let made = c.merges.ensures in
-    rw (due_told job (history_of args.run) args.number args.triple c.if-number-eq8.true, ← made)
-    (line_puts (spelt "due") c.merges.result args.out.now _ _ (omega (arith, put.ensures.value.1, c.requires.out_len)) put.ensures.value.0
-    put.ensures.out_after)
+    let put = c.put_value.ensures in
+    rw (c.in-StepNotNext.is, due_told job (history_of args.run) args.triple c.in-StepNotNext.field-0, ← c.merges.ensures)
+    (line_puts (spelt "due") c.merges.result args.out.now _ _ (omega (arith, put.value.1)) put.value.0 put.out_after)
 
-pub returns-then-number-eq9 : goal.returns-then-number-eq9
-returns-then-number-eq9 c job holds =
+pub returns-in-ChildNotOpen : goal.returns-in-ChildNotOpen
+returns-in-ChildNotOpen c job holds =
     let args = c.args in
-    let put = c.put_value-then-number-eq9 in
-    let closed = c.first_closed.ensures job _ holds in
-    rw (closed_told job (history_of args.run) args.number args.triple c.if-number-eq9.true, ← closed)
-    (line_puts (spelt "closed") c.first_closed.result args.out.now _ _ (omega (arith, put.ensures.value.1, c.requires.out_len))
-    put.ensures.value.0 put.ensures.out_after)
+    let put = c.put_value-in-ChildNotOpen.ensures in
+    rw (c.in-ChildNotOpen.is, closed_told job (history_of args.run) args.triple c.in-ChildNotOpen.field-0, ← c.first_closed.ensures job _ holds)
+    (line_puts (spelt "closed") c.first_closed.result args.out.now _ _ (omega (arith, put.value.1)) put.value.0 put.out_after)
 
-pub returns-then-number-eq11 : goal.returns-then-number-eq11
-returns-then-number-eq11 c job holds =
+pub returns-in-WeightUntrue : goal.returns-in-WeightUntrue
+returns-in-WeightUntrue c job holds =
     let args = c.args in
-    let put = c.put_value-then-number-eq11 in
-    let weighs = c.weight_of.ensures job holds in
-    rw (weight_told job (history_of args.run) args.number args.triple c.if-number-eq11.true, ← weighs)
-    (line_puts (spelt "weight") c.weight_of.result args.out.now _ _ (omega (arith, put.ensures.value.1, c.requires.out_len))
-    put.ensures.value.0 put.ensures.out_after)
+    let put = c.put_value-in-WeightUntrue.ensures in
+    rw (c.in-WeightUntrue.is, weight_told job (history_of args.run) args.triple c.in-WeightUntrue.field-0, ← c.weight_of-weight.ensures job holds)
+    (line_puts (spelt "weight") c.weight_of-weight.result args.out.now _ _ (omega (arith, put.value.1)) put.value.0 put.out_after)
 
-pub returns : goal.returns
-returns c job holds =
+pub returns-in_default : goal.returns-in_default
+returns-in_default c job holds =
     let args = c.args in
-    rw (nothing_told job (history_of args.run) args.number args.triple c.if-number-eq8.false c.if-number-eq9.false c.if-number-eq11.false)
+    let told = c.in_default in
+    rw (nothing_told job (history_of args.run) args.triple args.why told.not-StepNotNext told.not-ChildNotOpen told.not-WeightUntrue)
     (puts_none args.out.now)

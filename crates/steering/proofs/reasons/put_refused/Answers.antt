@@ -4,18 +4,18 @@ use Rattle.steering.specs.Reasons.{reason_said, reason_in}
 use Rattle.text.proofs.PrintedLines.{puts_none}
 use Rattle.steering.proofs.reasons.put_refused.Goals as goal
 
-pub returns-in-Is : goal.returns-in-Is
+pub returns-in-Some : goal.returns-in-Some
 unfolding reason_in reason_said
-returns-in-Is c job holds =
+returns-in-Some c job holds =
     let line = c.line_at-line.ensures in
     let place = c.place.ensures in
-    rw (← place, ← line, sym c.read_merge.ensures ∙ c.in-Is.is, ← c.number.ensures)
+    rw (← place, ← line, sym c.read_merge.ensures ∙ c.in-Some.is)
     (c.put_reason.ensures job holds)
 
-pub returns-in-Broken : goal.returns-in-Broken
+pub returns-in-None : goal.returns-in-None
 unfolding reason_in reason_said
-returns-in-Broken c job holds =
+returns-in-None c job holds =
     let args = c.args in
     let line = c.line_at-line.ensures in
     let place = c.place.ensures in
-    rw (← place, ← line, sym c.read_merge.ensures ∙ c.in-Broken.is) (puts_none args.out.now)
+    rw (← place, ← line, sym c.read_merge.ensures ∙ c.in-None.is) (puts_none args.out.now)

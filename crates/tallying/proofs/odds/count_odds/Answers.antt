@@ -9,7 +9,7 @@ use Rattle.tallying.proofs.odds.count_odds.Goals as goal
 
 pub loop-place-init : goal.loop-place-init
 loop-place-init c =
-    let zero = filled_zero _ (length c.args.table.now) c.fill.ensures in (
+    let zero = filled_zero _ (length c.args.table.now) (c.fill.ensures.after (λ y e. e)) in (
       omega arith,
       refl,
       λ n h. omega (arith, zero n h),

@@ -12,6 +12,3 @@ invariant-loop-place l = (l.place ≤ l.count)
     × ((n : ℕ) → n < length l.initial.table → get_or l.table n 0 ≤ l.place)
     × ((n : ℕ) → n < length l.initial.table
     → get_or l.table n 0 + odds n (terms_of 8 (l.count - l.place) (drop (8 * l.place) l.rows)) ≡ odds n (terms_of 8 l.count l.rows))
-
-abbrev pub decreases-loop-place : goal.decreases-loop-place
-decreases-loop-place l = l.count - l.place

@@ -2,19 +2,18 @@
 use mathlib.Core.Path.{◌≡◌, refl, ap}
 use mathlib.Core.List.{List}
 use Prim.Native.Nat.{ℕ, ◌+◌, ◌%◌, ◌/◌, ◌<◌}
-use native.Mathlib.Nat.{sub-zero}
 use native.Mathlib.Omega.{arith}
 use lib.ListN.{length, get_or, take, set}
 use Rattle.lists.specs.Counting.{occurrences}
 use Rattle.tallying.specs.code.Pairs.{beside, PairTurned}
 use Rattle.tallying.proofs.PairsTurned.{Partners, pair_beyond, pair_idle, pair_here, goes_up, goes_down}
 use Rattle.tallying.proofs.pairs.turn_pair.Goals as goal
-use Rattle.tallying.proofs.pairs.turn_pair.Goals.{After-odd_in-2}
+use Rattle.tallying.proofs.pairs.turn_pair.Goals.{After-odd_in-2, then-table-mode-via-then-table-mode, then-table-mode-via-else-table-mode+then-odd_in-odd}
 
 -- Behind both parities, where the partner's is z's: what the mode's leaves weigh before and after, and the table with its entry changed so.
 module _ (d : After-odd_in-2) where
   abbrev number : ℕ
-  number = d.wide-mode.result
+  number = d.from-mode.result
 
   abbrev passed : List ℕ
   passed = take d.args.at d.args.term.now
@@ -27,40 +26,40 @@ module _ (d : After-odd_in-2) where
 
   partners : Partners number d.partner.result
   partners =
-      let is = d.wide-mode.ensures.0 in
+      let is = d.from-mode.ensures in
       let told = d.partner.ensures in
       (λ e. omega (arith, told.0 (omega arith)), λ e. omega (arith, told.1 (omega arith)))
 
   agree : occurrences d.partner.result passed % 2 ≡ d.args.odd
-  agree = let counted = rw sub-zero at d.odd_in.ensures.0 in omega arith
+  agree = let counted = d.odd_in.ensures.0 in omega arith
 
   own_is : d.odd_in-2.result ≡ occurrences number passed % 2
   own_is =
-      let counted = rw sub-zero at d.odd_in-2.ensures.0 in
-      omega (arith, ap (λ n. occurrences n passed) d.wide-mode.ensures.0)
+      let counted = d.odd_in-2.ensures.0 in
+      omega (arith, ap (λ n. occurrences n passed) d.from-mode.ensures)
 
   up : d.odd_in-2.result ≡ d.args.odd → (before ≡ 0) × (after ≡ 1)
   up e =
-      goes_up d.args.odd d.args.term.now d.args.at d.requires.at_in_bounds.0 number _ d.wide-mode.ensures.0 partners d.requires.at_in_bounds.1 agree
+      goes_up d.args.odd d.args.term.now d.args.at d.requires.at_in_bounds.0 number _ d.from-mode.ensures partners d.requires.at_in_bounds.1 agree
       (omega (arith, own_is))
 
   down : (d.odd_in-2.result ≡ d.args.odd → ⊥) → (before ≡ 1) × (after ≡ 0)
   down apart =
-      goes_down d.args.odd d.args.term.now d.args.at d.requires.at_in_bounds.0 number _ d.wide-mode.ensures.0 partners d.requires.at_in_bounds.1 agree
+      goes_down d.args.odd d.args.term.now d.args.at d.requires.at_in_bounds.0 number _ d.from-mode.ensures partners d.requires.at_in_bounds.1 agree
       (omega (arith, own_is, d.requires.at_in_bounds.1))
 
   put : (value : ℕ) → number / 2 < length d.args.table.now → value + before ≡ get_or d.args.table.now (number / 2) 0 + after
       → PairTurned d.args.odd d.args.term.now d.args.at d.args.table.now (set d.args.table.now (number / 2) value)
-  put = pair_here d.args.odd d.args.term.now d.args.at d.requires.at_in_bounds.0 d.args.table.now number _ d.wide-mode.ensures.0 partners
+  put = pair_here d.args.odd d.args.term.now d.args.at d.requires.at_in_bounds.0 d.args.table.now number _ d.from-mode.ensures partners
 
 pub returns-then-table-mode : goal.returns-then-table-mode
 returns-then-table-mode c =
-    pair_beyond c.args.odd c.args.term.now c.args.at c.requires.at_in_bounds.0 c.args.table.now (omega (arith, c.wide-mode.ensures.0))
-
-pub returns-then-odd_in-odd : goal.returns-then-odd_in-odd
-returns-then-odd_in-odd c =
-    pair_idle c.args.odd c.args.term.now c.args.at c.requires.at_in_bounds.0 c.args.table.now (get_or c.args.term.now c.args.at 0) c.partner.result refl c.partner.ensures
-    (let counted = rw sub-zero at c.odd_in.ensures.0 in omega arith)
+    let args = c.args in
+    let h = c.requires.at_in_bounds.0 in
+    elim c.then-table-mode.branch [
+      | then-table-mode-via-then-table-mode w ↦ pair_beyond args.odd args.term.now args.at h args.table.now (omega (arith, c.from-mode.ensures))
+      | then-table-mode-via-else-table-mode+then-odd_in-odd w ↦ pair_idle args.odd args.term.now args.at h args.table.now _ w.partner.result refl w.partner.ensures (omega arith)
+    ]
 
 pub overflow_add-table : goal.overflow_add-table
 overflow_add-table c =
@@ -80,9 +79,9 @@ overflow_sub-table c =
     let told = down d c.if-odd_in-odd-2.false in
     omega (arith, c.requires.by_index (number d / 2) (omega arith))
 
-pub returns : goal.returns
-returns c =
-    let d = (goal.at.returns c).After-odd_in-2 in
+pub returns-else-odd_in-odd-2 : goal.returns-else-odd_in-odd-2
+returns-else-odd_in-odd-2 c =
+    let d = (goal.at.returns-else-odd_in-odd-2 c).After-odd_in-2 in
     let told = down d c.if-odd_in-odd-2.false in
     let entry = c.requires.by_index (number d / 2) (omega arith) in
     put d _ (omega arith) (omega arith)

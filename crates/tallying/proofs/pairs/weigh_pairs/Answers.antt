@@ -7,7 +7,7 @@ use Rattle.tallying.proofs.pairs.weigh_pairs.Goals as goal
 
 pub loop-place-init : goal.loop-place-init
 loop-place-init c =
-    let filled = c.fill.ensures in
+    let filled = c.fill.ensures.after (λ y e. e) in
     weighing_starts _ _ _ _
     (λ k h. rw filled (get_or-replicate (length c.args.table.now) k c.args.count 0
     (omega (arith, ap length filled ∙ length-replicate (length c.args.table.now) c.args.count))))

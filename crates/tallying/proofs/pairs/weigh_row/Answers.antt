@@ -9,14 +9,14 @@ use Rattle.tallying.proofs.pairs.weigh_row.Goals as goal
 
 pub loop-at-init : goal.loop-at-init
 unfolding occurrences
-loop-at-init c = (omega arith, refl, λ k h. omega (arith, beside_none c.odd_in-odd.result k c.odd_in-odd.ensures.1), λ n h. refl)
+loop-at-init c = (refl, λ k h. omega (arith, beside_none c.odd_in-odd.result k c.odd_in-odd.ensures.1), λ n h. refl)
 
 pub turn_next-requires : goal.turn_next-requires
 turn_next-requires c =
     let low = c.odd_in-odd.ensures.1 in
     record {
-      at_in_bounds = (omega arith, c.loop-at.invariant.3, low);
-      by_index = λ k h. (let entry = c.loop-at.invariant.2 k (omega arith) in let room = c.requires k (omega arith) in (omega arith, omega arith));
+      at_in_bounds = (omega arith, c.loop-at.invariant.2, low);
+      by_index = λ k h. (let entry = c.loop-at.invariant.1 k (omega arith) in let room = c.requires k (omega arith) in (omega arith, omega arith));
     }
 
 pub loop-at-preserved : goal.loop-at-preserved
@@ -24,10 +24,9 @@ loop-at-preserved c =
     let called = c.turn_next.ensures in
     let term = c.args.term.now in
     let higher = c.bound_on-bound.ensures in (
-      omega arith,
       omega (arith, called.same_length),
-      λ k h. (let entry = c.loop-at.invariant.2 k h in let turned = called.turned k (omega arith) in omega arith),
-      below_on term c.loop-at.at c.loop-at.bound c.bound_on-bound.result (omega arith) c.loop-at.invariant.3 higher.0 higher.1,
+      λ k h. (let entry = c.loop-at.invariant.1 k h in let turned = called.turned k (omega arith) in omega arith),
+      below_on term c.loop-at.at c.loop-at.bound c.bound_on-bound.result (omega arith) c.loop-at.invariant.2 higher.0 higher.1,
     )
 
 pub returns : goal.returns
@@ -35,9 +34,9 @@ returns c =
     let args = c.args in
     let odd = c.odd_in-odd in
     let all = take_all c.loop-at.at args.term.now (omega arith) in
-    let passed = rw all at c.loop-at.invariant.2 in
+    let passed = rw all at c.loop-at.invariant.1 in
     record {
-      same_length = c.loop-at.invariant.1;
+      same_length = c.loop-at.invariant.0;
       odd_is = odd.ensures.0;
       weighs = λ k h. omega (arith, passed k h, beside_all odd.result args.z k args.term.now odd.ensures.0);
     }

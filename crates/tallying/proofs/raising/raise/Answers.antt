@@ -8,13 +8,13 @@ use Rattle.tallying.proofs.raising.raise.Goals as goal
 
 pub loop-at-init : goal.loop-at-init
 unfolding occurrences
-loop-at-init c = (omega arith, refl, λ n h. omega arith, λ n h. refl)
+loop-at-init c = (refl, λ n h. omega arith, λ n h. refl)
 
 pub turn-requires : goal.turn-requires
 turn-requires c =
     record {
-      at_in_bounds = (omega arith, c.loop-at.invariant.3);
-      by_index = λ n h. (let entry = c.loop-at.invariant.2 n (omega arith) in let room = c.requires n (omega arith) in omega arith);
+      at_in_bounds = (omega arith, c.loop-at.invariant.2);
+      by_index = λ n h. (let entry = c.loop-at.invariant.1 n (omega arith) in let room = c.requires n (omega arith) in omega arith);
     }
 
 pub loop-at-preserved : goal.loop-at-preserved
@@ -22,14 +22,13 @@ loop-at-preserved c =
     let called = c.turn.ensures in
     let term = c.args.term.now in
     let higher = c.bound_on-bound.ensures in (
-      omega arith,
       omega (arith, called.same_length),
-      λ n h. (let entry = c.loop-at.invariant.2 n h in let turned = called.turned n (omega arith) in omega arith),
-      below_on term c.loop-at.at c.loop-at.bound c.bound_on-bound.result (omega arith) c.loop-at.invariant.3 higher.0 higher.1,
+      λ n h. (let entry = c.loop-at.invariant.1 n h in let turned = called.turned n (omega arith) in omega arith),
+      below_on term c.loop-at.at c.loop-at.bound c.bound_on-bound.result (omega arith) c.loop-at.invariant.2 higher.0 higher.1,
     )
 
 pub returns : goal.returns
 returns c =
     let term = c.args.term.now in
     let all = take_all c.loop-at.at term (omega arith) in
-    record { same_length = c.loop-at.invariant.1; raised = rw all at c.loop-at.invariant.2 }
+    record { same_length = c.loop-at.invariant.0; raised = rw all at c.loop-at.invariant.1 }

@@ -1,7 +1,6 @@
 -- A number beyond the table is passed over; any other turns its entry.
 use mathlib.Core.Path.{◌≡◌}
 use Prim.Native.Nat.{◌%◌}
-use native.Mathlib.Nat.{sub-zero}
 use native.Mathlib.Omega.{arith}
 use lib.ListN.{take}
 use Rattle.lists.specs.Counting.{occurrences}
@@ -11,15 +10,15 @@ use Rattle.tallying.proofs.raising.turn.Goals.{After-odd_in-odd, Then-bound-plac
 
 -- Where those before are all below it, it is odd from now on.
 first : (d : Then-bound-place)
-    → (let args = d.args in 0 ≡ occurrences d.wide-place.result (take args.at args.term.now) % 2)
+    → (let args = d.args in 0 ≡ occurrences d.from-place.result (take args.at args.term.now) % 2)
 first d =
-    let none = d.requires.at_in_bounds.1 d.wide-place.result d.if-bound-place.true in
+    let none = d.requires.at_in_bounds.1 d.from-place.result d.if-bound-place.true in
     omega arith
 
 -- What was counted is the parity of the number in those before it.
 parity : (c : After-odd_in-odd)
-    → (let args = c.args in c.odd_in-odd.result ≡ occurrences c.wide-place.result (take args.at args.term.now) % 2)
-parity c = let counted = rw sub-zero at c.odd_in-odd.ensures.0 in rw c.wide-place.ensures.0 counted
+    → (let args = c.args in c.odd_in-odd.result ≡ occurrences c.from-place.result (take args.at args.term.now) % 2)
+parity c = let counted = c.odd_in-odd.ensures.0 in rw c.from-place.ensures counted
 
 pub returns-then-table-place : goal.returns-then-table-place
 returns-then-table-place c =
@@ -27,28 +26,28 @@ returns-then-table-place c =
 
 pub overflow_add-table : goal.overflow_add-table
 overflow_add-table c =
-    omega (arith, first (goal.at.overflow_add-table c).Then-bound-place, c.requires.by_index c.wide-place.result (omega arith))
+    omega (arith, first (goal.at.overflow_add-table c).Then-bound-place, c.requires.by_index c.from-place.result (omega arith))
 
 pub returns-then-bound-place : goal.returns-then-bound-place
 returns-then-bound-place c =
-    let number = c.wide-place in
+    let number = c.from-place in
     turned_here c.args.term.now c.args.at c.args.table.now c.requires.at_in_bounds.0
-    number.result _ 0 number.ensures.0 (omega arith) (first (goal.at.returns-then-bound-place c).Then-bound-place) (omega arith)
+    number.result _ 0 number.ensures (omega arith) (first (goal.at.returns-then-bound-place c).Then-bound-place) (omega arith)
 
 pub overflow_sub-table : goal.overflow_sub-table
 overflow_sub-table c =
     let odd = parity (goal.at.overflow_sub-table c).After-odd_in-odd in
-    omega (arith, c.requires.by_index c.wide-place.result (omega arith))
+    omega (arith, c.requires.by_index c.from-place.result (omega arith))
 
 pub overflow_add-table-2 : goal.overflow_add-table-2
 overflow_add-table-2 c =
     let odd = parity (goal.at.overflow_add-table-2 c).After-odd_in-odd in
-    omega (arith, c.requires.by_index c.wide-place.result (omega arith))
+    omega (arith, c.requires.by_index c.from-place.result (omega arith))
 
 pub returns : goal.returns
 returns c =
     let odd = parity (goal.at.returns c).After-odd_in-odd in
-    let number = c.wide-place in
+    let number = c.from-place in
     let entry = c.requires.by_index number.result (omega arith) in
     turned_here c.args.term.now c.args.at c.args.table.now c.requires.at_in_bounds.0
-    number.result _ _ number.ensures.0 (omega arith) odd (omega arith)
+    number.result _ _ number.ensures (omega arith) odd (omega arith)

@@ -9,7 +9,7 @@ use Rattle.tallying.proofs.tally.tally_couple.Goals.{After-slice_known-in-loop-p
 
 one_more : (c : After-slice_known-in-loop-place-1)
     → (let args = c.args in
-    Tallying args.count args.rows.now args.x args.y (length c.fill.new.numbers) c.tally_row-odd.new.less
+    Tallying args.count args.rows.now args.x args.y (length c.fill.new.self) c.tally_row-odd.new.less
     (c.loop-place.all + (c.tally_row-odd.result + 1) / 2) (c.loop-place.apart + c.tally_row-odd.result % 2) (c.loop-place.place + 1))
 one_more c =
     let args = c.args in
@@ -18,7 +18,7 @@ one_more c =
 
 pub loop-place-init : goal.loop-place-init
 loop-place-init c =
-    tallying_starts _ _ _ _ _ (filled_zero _ (length c.args.less.now) c.fill.ensures)
+    tallying_starts _ _ _ _ _ (filled_zero _ (length c.args.less.now) (c.fill.ensures.after (λ y e. e)))
 
 pub term_at-requires : goal.term_at-requires
 term_at-requires c =

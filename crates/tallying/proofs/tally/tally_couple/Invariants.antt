@@ -1,11 +1,7 @@
 -- The rows passed are tallied; the bound leaves the couple, or all rows are passed.
-use Prim.Native.Nat.{◌-◌}
 use lib.ListN.{length}
 use Rattle.tallying.proofs.RowsTallied.{Tallying}
 use Rattle.tallying.proofs.tally.tally_couple.Given as goal
 
 abbrev pub invariant-loop-place : goal.invariant-loop-place
 invariant-loop-place l = Tallying l.count l.rows l.x l.y (length l.initial.less) l.less l.all l.apart l.place
-
-abbrev pub decreases-loop-place : goal.decreases-loop-place
-decreases-loop-place l = l.count - l.place

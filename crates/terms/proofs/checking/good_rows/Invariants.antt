@@ -8,6 +8,3 @@ use Rattle.terms.proofs.checking.good_rows.Given as goal
 abbrev pub invariant-loop-place : goal.invariant-loop-place
 invariant-loop-place l = (l.place ≤ l.count)
     × (good_rows (2 * l.modes) l.count l.terms ≡ l.place + good_rows (2 * l.modes) (l.count - l.place) (drop (8 * l.place) l.terms))
-
-abbrev pub decreases-loop-place : goal.decreases-loop-place
-decreases-loop-place l = l.count - l.place

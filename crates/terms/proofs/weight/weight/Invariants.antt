@@ -10,6 +10,3 @@ abbrev pub invariant-loop-place : goal.invariant-loop-place
 invariant-loop-place l = (l.place ≤ l.count)
     × (l.sum ≤ l.place)
     × (l.sum + weight_of l.triple (terms_of l.width (l.count - l.place) (drop (l.width * l.place) l.rows)) ≡ weight_of l.triple (terms_of l.width l.count l.rows))
-
-abbrev pub decreases-loop-place : goal.decreases-loop-place
-decreases-loop-place l = l.count - l.place

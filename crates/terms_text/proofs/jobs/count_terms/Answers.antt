@@ -1,15 +1,14 @@
 -- The modes are looked at first, and then the terms.
-use mathlib.Core.Path.{◌∙◌}
-use native.Mathlib.Omega.{arith}
-use Rattle.terms_text.proofs.JobCounted.{no_modes, too_many_modes, modes_fine}
+use Rattle.refusal.proofs.Told.{handed_on}
+use Rattle.terms_text.specs.Jobs.{counted}
 use Rattle.terms_text.proofs.jobs.count_terms.Goals as goal
 
-pub returns-then-modes-lt1 : goal.returns-then-modes-lt1
-returns-then-modes-lt1 c = no_modes 256 _ c.args.numbers.now c.if-modes-lt1.true
-
-pub returns-then-modes-gt256 : goal.returns-then-modes-gt256
-returns-then-modes-gt256 c = too_many_modes 256 _ c.args.numbers.now (omega arith) c.if-modes-gt256.true
+pub returns-in_err-check_modes : goal.returns-in_err-check_modes
+unfolding counted
+returns-in_err-check_modes c =
+    let refused = c.in_err-check_modes.ensures.said in
+    rw (handed_on c.from_residual.ensures, refused.1, refused.0)
 
 pub returns : goal.returns
-returns c =
-    c.check_terms.ensures.answer ∙ modes_fine 256 _ c.args.numbers.now (omega arith) (omega arith)
+unfolding counted
+returns c = rw (c.in_ok-check_modes.ensures.said) c.check_terms.ensures.answer

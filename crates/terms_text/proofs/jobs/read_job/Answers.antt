@@ -4,37 +4,26 @@ use Prim.Native.Nat.{◌*◌, ◌≤◌}
 use native.Mathlib.Omega.{arith}
 use lib.ListN.{length}
 use lib.Seq.{length-take-le}
+use Rattle.refusal.proofs.Told.{handed_on}
 use Rattle.terms_text.specs.Jobs.{request, job_by, job_said}
-use Rattle.terms_text.proofs.InputSaid.{given_few, given_says, malformed_says}
-use Rattle.terms_text.proofs.JobsRead.{reads_refusal, reads_front}
+use Rattle.terms_text.proofs.JobsRead.{reads_front}
 use Rattle.terms_text.proofs.jobs.read_job.Goals as goal
-use Rattle.terms_text.proofs.jobs.read_job.Goals.{In-Given}
+use Rattle.terms_text.proofs.jobs.read_job.Goals.{In_ok-given}
 
 -- The numbers of the terms are within the room.
-room : (c : In-Given) → 8 * c.in-Given.count ≤ length c.read_input.new.numbers
-room c =
-    let read = c.read_input in
-    omega (arith, given_few 2048 c.args.text.now _ _ read.ensures _ _ c.in-Given.is, read.auto, c.requires)
-
-pub overflow_mul-end : goal.overflow_mul-end
-overflow_mul-end c =
-    let read = c.read_input in
-    omega (arith, given_few 2048 c.args.text.now _ _ read.ensures _ _ c.in-Given.is)
+room : (c : In_ok-given) → 8 * c.in_ok-given.given.count ≤ length c.read_input.new.numbers
+room c = omega (arith, c.in_ok-given.ensures.few)
 
 pub slice_bounds-count_job-end : goal.slice_bounds-count_job-end
-slice_bounds-count_job-end c = room (goal.at.slice_bounds-count_job-end c).In-Given
+slice_bounds-count_job-end c = sym (length-take-le _ _ (room (goal.at.slice_bounds-count_job-end c).In_ok-given))
 
-pub slice_bounds-count_job-end-in-Given : goal.slice_bounds-count_job-end-in-Given
-slice_bounds-count_job-end-in-Given c = sym (length-take-le _ _ (room (goal.at.slice_bounds-count_job-end-in-Given c).In-Given))
-
-pub returns-in-Malformed : goal.returns-in-Malformed
+pub returns-in_err-given : goal.returns-in_err-given
 unfolding job_said job_by
-returns-in-Malformed c rule =
-    reads_refusal rule (job_said 256 2048 (request rule c.args.text.now)) _ _
-    (rw (sym (malformed_says 2048 c.args.text.now _ _ c.read_input.ensures _ c.in-Malformed.is)))
+returns-in_err-given c rule =
+    let malformed = c.in_err-given.ensures in
+    rw (handed_on c.from_residual.ensures, malformed.1, ← malformed.0)
 
-pub returns-in-Given : goal.returns-in-Given
+pub returns : goal.returns
 unfolding job_said
-returns-in-Given c rule =
-    let says = given_says 2048 c.args.text.now _ _ c.read_input.ensures _ _ c.in-Given.is in
-    reads_front rule (job_said 256 2048 (request rule c.args.text.now)) _ _ _ (room (goal.at.returns-in-Given c).In-Given) (rw says at (c.count_job.ensures rule))
+returns c rule =
+    reads_front rule (job_said 256 2048 (request rule c.args.text.now)) _ _ _ (room (goal.at.returns c).In_ok-given) (rw (sym c.in_ok-given.ensures.says) at (c.count_job.ensures rule))

@@ -1,20 +1,22 @@
--- The run was refused and nothing was written, or its new lines stand where they are to be printed.
-use mathlib.Core.Path.{ap}
-use native.Mathlib.Omega.{arith}
+-- The run was refused and is printed so, or its new lines are copied to where they are to be printed.
+use Rattle.std.proofs.Common.{ap, arith}
+use lib.ListN.{length}
 use Rattle.text.specs.Output.{new_printed, continue_text}
-use Rattle.text.proofs.RunEnds.{run_refused, run_done}
+use Rattle.text.proofs.RunEnds.{new_stand}
 use Rattle.text.proofs.journals.print_new.Goals as goal
 
-pub returns-in-Refused : goal.returns-in-Refused
+pub returns-in-Err : goal.returns-in-Err
 unfolding continue_text new_printed
-returns-in-Refused c =
-    let run = c.run_front in
-    let known = run_refused 256 _ _ _ _ run.ensures _ c.in-Refused.is in
-    rw known.is (rw (ap (λ l. l.journal) known.leaves) at c.put_refusal.ensures)
+returns-in-Err c = rw c.in-Err.ensures.is c.put_refusal.ensures
 
-pub returns-in-Done : goal.returns-in-Done
+pub returns-in-Ok : goal.returns-in-Ok
 unfolding continue_text new_printed
-returns-in-Done c =
-    let run = c.run_front in
-    let known = run_done 256 _ _ _ _ run.ensures _ c.in-Done.is in
-    rw known.is (record { count = known.new; fits = omega (arith, known.new, known.fits); bytes = known.journal })
+returns-in-Ok c =
+    let known = c.in-Ok.ensures in
+    let front = new_stand known in
+    rw known.is
+    (record {
+      count = omega (arith, c.put_bytes.ensures.value, ap length front);
+      fits = omega (arith, known.new, known.fits);
+      bytes = rw front at c.put_bytes.ensures.out_after;
+    })

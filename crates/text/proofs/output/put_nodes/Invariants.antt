@@ -1,10 +1,11 @@
--- The lines of the rows passed stand behind the start; at the end they are all.
-use Prim.Native.Nat.{◌-◌}
+-- The lines of the rows passed are written, and those of the rows ahead are the others.
+use Rattle.std.proofs.Common.{◌≡◌}
+use Rattle.std.specs.Slice.Iter.{chunks_exact_rest, chunks_exact_size}
 use Rattle.text.proofs.PrintedLines.{PuttingRows}
 use Rattle.text.proofs.output.put_nodes.Given as goal
 
-abbrev pub invariant-loop-done : goal.invariant-loop-done
-invariant-loop-done l = PuttingRows l.start l.count l.rows l.initial.out l.out l.at l.done
-
-abbrev pub decreases-loop-done : goal.decreases-loop-done
-decreases-loop-done l = l.count - l.done
+abbrev pub invariant-loop-row : goal.invariant-loop-row
+invariant-loop-row l = record {
+  four : chunks_exact_size l.row-iterator ≡ 4;
+  putting : PuttingRows l.start l.rows l.initial.out l.out l.at (chunks_exact_rest l.row-iterator);
+}

@@ -1,10 +1,12 @@
 -- The answer is a refusal, or a run whose rows and new lines stand in front: either way it is what the definitions come to.
 use mathlib.Core.Path.{◌≡◌}
+use native.Mathlib.Omega.{arith}
 use mathlib.Core.List.{List}
 use Prim.Native.Nat.{ℕ}
 use lib.ListN.{length}
 use Rattle.terms.specs.Rules.{rule_number}
 use Rattle.journal.specs.Promises.{lent, rooms_of}
+use Rattle.refusal.proofs.Told.{handed_on}
 use Rattle.text.specs.Running.{program_rooms, ran_by}
 use Rattle.text.proofs.RunEnds.{drops_left, refused_runs, done_runs}
 use Rattle.text.proofs.running.run_terms.Goals as goal
@@ -14,26 +16,27 @@ same_rooms : (work rows journal drops : List ℕ) → length work ≡ 18432 → 
     → rooms_of 256 (lent work rows journal drops) ≡ program_rooms.run
 same_rooms work rows journal drops w r j d = rw (w, r, j, d)
 
-pub returns-in-Refused : goal.returns-in-Refused
+pub returns-in_err-found : goal.returns-in_err-found
 unfolding ran_by
-returns-in-Refused c =
+returns-in_err-found c =
     let args = c.args in
-    let rooms = same_rooms args.work.now args.rows.now args.journal.now args.drops.now c.requires.0 c.requires.1 c.requires.2 c.requires.3 in
-    let told = rw c.number.ensures at c.resume.ensures in
-    record {
-      runs = refused_runs args.modes (rule_number args.rule) args.numbers.now args.read.now _ _ _ rooms told c.in-Refused.refusal c.in-Refused.is;
+    let rooms = same_rooms args.work.now args.rows.now args.journal.now args.drops.now (omega arith) (omega arith) (omega arith) (omega arith) in
+    let told = rw c.from.ensures at c.resume.ensures in
+    rw (handed_on c.from_residual.ensures)
+    (record {
+      runs = refused_runs args.modes (rule_number args.rule) args.numbers.now args.read.now _ _ _ rooms told _ c.in_err-found.was;
       drops_after = drops_left args.modes (rule_number args.rule) args.numbers.now args.read.now _ _ _ rooms told;
-    }
+    })
 
-pub returns-in-Done : goal.returns-in-Done
+pub returns : goal.returns
 unfolding ran_by
-returns-in-Done c =
+returns c =
     let args = c.args in
-    let rooms = same_rooms args.work.now args.rows.now args.journal.now args.drops.now c.requires.0 c.requires.1 c.requires.2 c.requires.3 in
-    let told = rw c.number.ensures at c.resume.ensures in
+    let rooms = same_rooms args.work.now args.rows.now args.journal.now args.drops.now (omega arith) (omega arith) (omega arith) (omega arith) in
+    let told = rw c.from.ensures at c.resume.ensures in
     record {
       runs =
-          done_runs args.modes (rule_number args.rule) args.numbers.now args.read.now _ _ _ rooms told c.in-Done.found
-          c.resume.auto.journal c.in-Done.is;
+          done_runs args.modes (rule_number args.rule) args.numbers.now args.read.now _ _ _ rooms told _ c.resume.auto.journal
+          c.in_ok-found.was;
       drops_after = drops_left args.modes (rule_number args.rule) args.numbers.now args.read.now _ _ _ rooms told;
     }

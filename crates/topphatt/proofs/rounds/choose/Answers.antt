@@ -1,4 +1,5 @@
 -- The free modes, the round's nodes, and the best over them.
+use Rattle.slots.specs.Heuristics.{heuristic_number}
 use mathlib.Core.Path.{◌≡◌, sym, ap}
 use Prim.Native.Nat.{◌+◌, ◌*◌, ◌<◌}
 use native.Mathlib.Omega.{arith}
@@ -48,7 +49,7 @@ select-requires c =
       held = pre.held;
       count_le_most_terms = (pre.fits, pre.ready.few, pre.ready.pairs, pre.ready.whole);
       free_value = free.ensures.1;
-      active_value = rw nodes.ensures.1 (active_below c.args.modes c.args.tree.now c.args.heuristic c.args.assigned.now);
+      active_value = rw nodes.ensures.1 (active_below c.args.modes c.args.tree.now (heuristic_number c.args.heuristic) c.args.assigned.now);
     }
 
 pub returns : goal.returns
@@ -60,9 +61,9 @@ returns c =
     let nodes = c.fill_active-nodes in
     let few : 3 * args.modes + 2 < 65536 = omega (arith, c.requires.ready.few) in
     let found = rw (← rw nodes.ensures.1 at c.select.ensures) at
-    (over_chosen rows args.count (omega arith) args.modes few args.tree.now args.heuristic args.assigned.now) in
+    (over_chosen rows args.count (omega arith) args.modes few args.tree.now (heuristic_number args.heuristic) args.assigned.now) in
     record {
       right = found.right;
-      within = rw (ap (λ choice. choice.node) found.right) (chosen_below args.modes args.tree.now args.heuristic args.assigned.now rows c.requires.ready.some);
+      within = rw (ap (λ choice. choice.node) found.right) (chosen_below args.modes args.tree.now (heuristic_number args.heuristic) args.assigned.now rows c.requires.ready.some);
       weighs = found.weighs;
     }

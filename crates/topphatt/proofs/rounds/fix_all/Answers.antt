@@ -9,5 +9,5 @@ returns c =
     let one = c.fix.ensures in
     let two = c.fix-2.ensures in
     let three = c.fix-3.ensures in
-    let node = c.wide-node.ensures.0 in
+    let node = c.from-node.ensures in
     record { pairs = three.0; right = rw (← node, ← one.1, ← two.1) three.1 }

@@ -1,25 +1,18 @@
 -- The table so far and the rows ahead make the table of all rows.
-use mathlib.Core.Path.{refl, ap, sym, ◌∙◌}
-use native.Mathlib.Omega.{arith}
+use Rattle.std.proofs.Common.{◌∙◌, sym, ap, arith}
+use Rattle.std.specs.Slice.Iter.{chunks_exact_rest}
 use Rattle.tree.specs.Laying.{laid_over}
 use Rattle.tree.proofs.LayingRows.{laid_next, laid_ends}
 use Rattle.tree.proofs.laying.lay_rows.Goals as goal
 
-pub loop-done-init : goal.loop-done-init
-loop-done-init c = (refl, (omega arith, (refl, refl)))
-
-pub loop-done-preserved : goal.loop-done-preserved
-loop-done-preserved c =
-    let lay = c.lay_row in
-    let label = c.wide.ensures.0 in
-    let next = laid_next c.args.rows.now c.loop-done.done c.loop-done.table (omega (arith, c.loop-done.invariant.0)) in (
-      c.loop-done.invariant.0,
-      (omega arith, (lay.auto.table ∙ c.loop-done.invariant.1.1.0, rw lay.ensures (rw label (next ∙ c.loop-done.invariant.1.1.1)))),
-    )
+pub loop-row-preserved : goal.loop-row-preserved
+loop-row-preserved c =
+    let ahead = c.in-Some.ensures.steps.1 in
+    let next = laid_next c.loop-row.table c.in-Some.row.now (chunks_exact_rest c.next.new.self) (omega (arith, ahead.1)) in
+    (omega arith, rw (c.lay_row.ensures, c.from.ensures) (next ∙ rw ahead.0 at c.loop-row.invariant.1))
 
 pub returns : goal.returns
 returns c =
-    let clear = c.fill in
-    sym (laid_ends c.loop-done.table c.args.rows.now c.loop-done.done (omega (arith, c.loop-done.invariant.0)))
-    ∙ c.loop-done.invariant.1.1.1
-    ∙ ap (λ l. laid_over l c.args.rows.now) clear.ensures
+    sym (laid_ends c.loop-row.table (chunks_exact_rest c.loop-row.row-iterator) (omega (arith, c.in-None.ensures.steps.1.0)))
+    ∙ c.loop-row.invariant.1
+    ∙ ap (λ l. laid_over l c.args.rows.now) (c.fill.ensures.after (λ y e. e))

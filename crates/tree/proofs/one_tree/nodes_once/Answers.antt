@@ -1,33 +1,15 @@
--- What is left to test gives the answer: the loop passes a node that stands as often as it is to, and stops at any other.
-use mathlib.Core.Path.{◌∙◌, sym}
-use mathlib.Core.Path.{ap}
-use native.Mathlib.Omega.{arith}
-use borrow.Author.Tests.{eq-eqb, ne_eqb}
-use Rattle.lists.specs.Members.{every}
-use Rattle.lists.proofs.Ranges.{every_on, every_off, every_done}
-use Rattle.tree.proofs.TableSteps.{nodes_start}
+-- Every node stands as often as it is to.
+use Rattle.std.proofs.Common.{rules, refl, arith}
+use Rattle.std.proofs.lemmas.Iterator.{YieldsList-from_range}
+use Rattle.std.proofs.lemmas.Iterator.Search.{all_from_yields_List}
+use borrow.Author.Tests.{tests}
+use Rattle.lists.proofs.Standard.{every_is}
+use Rattle.tree.specs.Table.{nodes}
+use Rattle.tree.proofs.Chains.{counted_is}
 use Rattle.tree.proofs.one_tree.nodes_once.Goals as goal
 
-pub loop-node-init : goal.loop-node-init
-loop-node-init c =
-    let args = c.args in
-    (omega arith, ap (every _) (nodes_start args.modes))
-
-pub returns-then-count-times_due : goal.returns-then-count-times_due
-returns-then-count-times_due c =
-    sym
-    (c.loop-node.invariant.1
-    ∙ every_off _ (λ v. v) _ c.loop-node.node (omega arith)
-    (ne_eqb _ _ (λ e. c.if-count-times_due.true (c.count.ensures ∙ e ∙ sym c.times_due.ensures))))
-
-pub loop-node-preserved : goal.loop-node-preserved
-loop-node-preserved c = (
-  omega arith,
-  c.loop-node.invariant.1
-      ∙ every_on _ (λ v. v) _ c.loop-node.node (omega arith)
-      (eq-eqb _ _ (sym c.count.ensures ∙ c.if-count-times_due.false ∙ c.times_due.ensures)),
-)
-
 pub returns : goal.returns
+unfolding nodes
 returns c =
-    sym (c.loop-node.invariant.1 ∙ every_done _ (λ v. v) _ c.loop-node.node (omega arith))
+    rw (every_is, counted_is)
+    (all_from_yields_List _ _ _ _ c.all.ensures.ran (YieldsList-from_range 0 c.args.modes c.args.modes refl (omega arith)) (λ x b q k. search (rules, tests)))

@@ -1,24 +1,16 @@
--- What is left to search gives the answer: the loop passes a node without the pair, and stops at the first with it.
-use mathlib.Core.Path.{◌∙◌, sym, ap}
-use native.Mathlib.Omega.{arith}
-use Rattle.lists.specs.Members.{some_of}
-use Rattle.lists.proofs.Ranges.{some_on, some_found, some_done}
+-- Some node has the pair under it.
+use Rattle.std.proofs.Common.{rules, refl, arith}
+use Rattle.std.proofs.lemmas.Iterator.{YieldsList-from_range}
+use Rattle.std.proofs.lemmas.Iterator.Search.{any_from_yields_List}
+use borrow.Author.Tests.{tests}
+use Rattle.lists.proofs.Standard.{some_is}
+use Rattle.tree.specs.Table.{nodes}
 use Rattle.tree.specs.Pairs.{pair_right}
-use Rattle.tree.proofs.TableSteps.{nodes_start}
+use Rattle.tree.proofs.Chains.{counted_is}
 use Rattle.tree.proofs.pairs.pair_right.Goals as goal
 
-pub loop-node-init : goal.loop-node-init
-unfolding pair_right
-loop-node-init c = (omega arith, ap (some_of _) (nodes_start _))
-
-pub returns-then-pair_under : goal.returns-then-pair_under
-returns-then-pair_under c =
-    sym (c.loop-node.invariant.1 ∙ some_found _ (λ v. v) _ c.loop-node.node (omega arith) (sym c.pair_under.ensures ∙ c.if-pair_under.true))
-
-pub loop-node-preserved : goal.loop-node-preserved
-loop-node-preserved c =
-    (omega arith, c.loop-node.invariant.1 ∙ some_on _ (λ v. v) _ c.loop-node.node (omega arith) (sym c.pair_under.ensures ∙ c.if-pair_under.false))
-
 pub returns : goal.returns
+unfolding pair_right nodes
 returns c =
-    sym (c.loop-node.invariant.1 ∙ some_done _ (λ v. v) _ c.loop-node.node (omega arith))
+    rw (some_is, counted_is)
+    (any_from_yields_List _ _ _ _ c.any.ensures.ran (YieldsList-from_range 0 c.args.modes c.args.modes refl (omega arith)) (λ x b q k. search (rules, tests)))

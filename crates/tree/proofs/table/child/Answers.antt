@@ -6,4 +6,4 @@ use Rattle.tree.proofs.table.child.Goals as goal
 pub returns : goal.returns
 returns c =
     let args = c.args in
-    c.wide.ensures.0 ∙ child_read args.table.now args.node args.edge c.requires
+    c.from.ensures ∙ child_read args.table.now args.node args.edge c.requires

@@ -1,24 +1,21 @@
 -- The steps left from here arrive where all of them do.
-use mathlib.Core.Path.{◌≡◌, ◌∙◌, sym}
-use Prim.Native.Nat.{suc, ◌-◌}
-use native.Mathlib.Omega.{arith}
+use Rattle.std.proofs.Common.{◌≡◌, ◌∙◌, sym, suc, ◌+◌, ◌-◌, arith}
 use Rattle.tree.specs.Table.{climb}
 use Rattle.tree.proofs.TableSteps.{climb_rests}
 use Rattle.tree.proofs.table.climb.Goals as goal
 
 pub returns-then-above-at : goal.returns-then-above-at
 returns-then-above-at c =
-    let args = c.args in
-    sym (c.loop-left.invariant ∙ climb_rests args.table.now c.loop-left.left c.loop-left.at (sym c.parent_of-above.ensures ∙ c.if-above-at.true))
+    sym (c.loop.invariant ∙ climb_rests c.args.table.now (c.args.steps - c.loop.counter) c.loop.at (sym c.parent_of-above.ensures ∙ c.if-above-at.true))
 
-pub loop-left-preserved : goal.loop-left-preserved
+pub loop-preserved : goal.loop-preserved
 unfolding climb
-loop-left-preserved c =
-    let more : c.loop-left.left ≡ suc (c.loop-left.left - 1) = omega arith in
-    rw c.parent_of-above.ensures (rw more at c.loop-left.invariant)
+loop-preserved c =
+    let more : c.args.steps - c.loop.counter ≡ suc (c.args.steps - (c.loop.counter + 1)) = omega arith in
+    rw c.parent_of-above.ensures (rw more at c.loop.invariant)
 
 pub returns : goal.returns
 unfolding climb
 returns c =
-    let none : c.loop-left.left ≡ 0 = omega arith in
-    sym (rw none at c.loop-left.invariant)
+    let none : c.args.steps - c.loop.counter ≡ 0 = omega arith in
+    sym (rw none at c.loop.invariant)

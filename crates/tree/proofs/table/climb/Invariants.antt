@@ -1,10 +1,7 @@
 -- The steps left from here arrive where all of them do.
-use mathlib.Core.Path.{◌≡◌}
+use Rattle.std.proofs.Common.{◌≡◌, ◌-◌}
 use Rattle.tree.specs.Table.{climb}
 use Rattle.tree.proofs.table.climb.Given as goal
 
-abbrev pub invariant-loop-left : goal.invariant-loop-left
-invariant-loop-left l = climb l.table l.steps l.node ≡ climb l.table l.left l.at
-
-abbrev pub decreases-loop-left : goal.decreases-loop-left
-decreases-loop-left l = l.left
+abbrev pub invariant-loop : goal.invariant-loop
+invariant-loop l = climb l.table l.steps l.node ≡ climb l.table (l.steps - l.counter) l.at

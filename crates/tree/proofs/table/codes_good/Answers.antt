@@ -1,25 +1,17 @@
--- The good codes passed and those ahead are all that lead: the loop passes a good code, and stops at the first bad one.
-use mathlib.Core.Path.{◌∙◌, sym}
-use native.Mathlib.Omega.{arith}
-use Rattle.tree.proofs.TableSteps.{codes_pass, codes_stop, codes_end}
+-- The first bad code's place, or the length where all are good, is how many good codes lead.
+use Rattle.std.proofs.Common.{rules, ◌∙◌, refl, not, ◌||◌, ◌*◌, ltb, eqb}
+use Rattle.std.proofs.lemmas.Iterator.{YieldsList-from_slice}
+use Rattle.std.proofs.lemmas.Iterator.Search.{position_from_yields_List}
+use Rattle.entities.specs.Codes.{absent}
+use borrow.Author.Tests.{tests}
+use Rattle.tree.specs.Check.{codes_good}
+use Rattle.tree.proofs.Chains.{first_failing}
 use Rattle.tree.proofs.table.codes_good.Goals as goal
 
-pub returns-then-not-good_code : goal.returns-then-not-good_code
-returns-then-not-good_code c =
-    let args = c.args in
-    let bad = codes_stop args.modes args.table.now c.loop-at.at (omega arith)
-    (rw c.wide.ensures.0 at (sym c.good_code.ensures ∙ c.if-not-good_code.true)) in
-    omega arith
-
-pub loop-at-preserved : goal.loop-at-preserved
-loop-at-preserved c =
-    let args = c.args in
-    let good = codes_pass args.modes args.table.now c.loop-at.at (omega arith)
-    (rw c.wide.ensures.0 at (sym c.good_code.ensures ∙ c.if-not-good_code.false)) in
-    (omega arith, c.loop-at.invariant.1 ∙ good)
-
 pub returns : goal.returns
+unfolding codes_good
 returns c =
-    let args = c.args in
-    let done = codes_end args.modes args.table.now c.loop-at.at (omega arith) in
-    omega arith
+    let table = c.args.table.now in
+    c.unwrap_or.ensures
+    ∙ first_failing _ (λ v. not (ltb v (3 * c.args.modes) || eqb v absent)) (λ v. refl) table _
+    (position_from_yields_List _ _ _ _ c.position.ensures.ran (YieldsList-from_slice table cc) (λ x b q k. search (rules, tests)))

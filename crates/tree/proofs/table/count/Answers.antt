@@ -1,17 +1,8 @@
--- The occurrences counted and those ahead are all.
-use native.Mathlib.Omega.{arith}
-use Rattle.lists.proofs.Steps.{occurrences_step, occurrences_end}
+-- The codes that pass the test are counted, as each that is the code occurs.
+use Rattle.std.proofs.Common.{rules}
+use Rattle.std.proofs.iter.runs.Made.{chains}
+use Rattle.lists.proofs.Standard.{occurrences_is}
 use Rattle.tree.proofs.table.count.Goals as goal
 
-pub loop-at-preserved : goal.loop-at-preserved
-loop-at-preserved c =
-    let args = c.args in
-    let step = occurrences_step args.code args.table.now c.loop-at.at (omega arith) in
-    let e = rw c.wide.ensures.0 at c.same-times.ensures.0 in
-    omega arith
-
 pub returns : goal.returns
-returns c =
-    let args = c.args in
-    let done = occurrences_end args.code args.table.now c.loop-at.at (omega arith) in
-    omega arith
+returns c = rw occurrences_is (search (rules, chains))

@@ -1,24 +1,16 @@
--- The other codes passed and the place from here on are the place: the loop stops where the code stands.
-use mathlib.Core.Path.{◌∙◌, sym}
-use native.Mathlib.Omega.{arith}
-use Rattle.tree.proofs.TableSteps.{place_passes, place_found, place_ends}
+-- The place of the first code that is this one, or the length where none is, is how many other codes lead.
+use Rattle.std.proofs.Common.{rules, ◌∙◌, eqb, arith}
+use Rattle.std.proofs.lemmas.Iterator.{YieldsList-from_slice}
+use Rattle.std.proofs.lemmas.Iterator.Search.{position_from_yields_List}
+use borrow.Author.Tests.{tests}
+use Rattle.tree.specs.Table.{place_of_code}
+use Rattle.tree.proofs.Chains.{first_failing}
 use Rattle.tree.proofs.table.place_of.Goals as goal
 
-pub returns-then-wide-code : goal.returns-then-wide-code
-returns-then-wide-code c =
-    let args = c.args in
-    let found = place_found args.table.now args.code c.loop-at.at (omega arith) (sym c.wide.ensures.0 ∙ c.if-wide-code.true) in
-    omega arith
-
-pub loop-at-preserved : goal.loop-at-preserved
-loop-at-preserved c =
-    let args = c.args in
-    let other = place_passes args.table.now args.code c.loop-at.at (omega arith)
-    (λ e. c.if-wide-code.false (c.wide.ensures.0 ∙ e)) in
-    (omega arith, c.loop-at.invariant.1 ∙ other)
-
 pub returns : goal.returns
+unfolding place_of_code
 returns c =
-    let args = c.args in
-    let done = place_ends args.table.now args.code c.loop-at.at (omega arith) in
-    omega arith
+    let table = c.args.table.now in
+    c.unwrap_or.ensures
+    ∙ first_failing _ (λ v. eqb v c.args.code) (λ v. grind arith) table _
+    (position_from_yields_List _ _ _ _ c.position.ensures.ran (YieldsList-from_slice table cc) (λ x b q k. search (rules, tests)))

@@ -3,10 +3,10 @@ use Rattle.tree_text.specs.Answers.{check_printed}
 use Rattle.text.proofs.PrintedLines.{puts_none}
 use Rattle.tree_text.proofs.checked.put_checked.Goals as goal
 
-pub returns-in-Accepted : goal.returns-in-Accepted
+pub returns-in-Ok : goal.returns-in-Ok
 unfolding check_printed
-returns-in-Accepted c = rw c.in-Accepted.is (puts_none c.args.out.now)
+returns-in-Ok c = rw c.in-Ok.is (puts_none c.args.out.now)
 
-pub returns-in-Refused : goal.returns-in-Refused
+pub returns-in-Err : goal.returns-in-Err
 unfolding check_printed
-returns-in-Refused c = rw c.in-Refused.is c.put_refusal.ensures
+returns-in-Err c = rw c.in-Err.is c.put_refusal.ensures

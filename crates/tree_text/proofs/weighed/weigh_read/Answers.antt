@@ -1,30 +1,23 @@
 -- The terms' text is malformed, or its numbers stand in front.
 use mathlib.Core.Path.{sym, ◌∙◌}
+use Prim.Native.Nat.{◌*◌, ◌≤◌}
 use native.Mathlib.Omega.{arith}
+use lib.ListN.{length}
 use lib.Seq.{length-take-le}
-use Rattle.terms_text.proofs.InputSaid.{given_few, given_says, malformed_says}
+use Rattle.refusal.proofs.Told.{handed_on}
 use Rattle.tree_text.proofs.AnswersPrinted.{weighed_given, weighed_malformed}
 use Rattle.tree_text.proofs.weighed.weigh_read.Goals as goal
+use Rattle.tree_text.proofs.weighed.weigh_read.Goals.{In_ok-given}
 
-pub overflow_mul-end : goal.overflow_mul-end
-overflow_mul-end c = omega (arith, given_few 2048 c.args.input.now _ _ c.read_input.ensures _ _ c.in-Given.is)
+-- The numbers of the terms are within the room.
+room : (c : In_ok-given) → 8 * c.in_ok-given.given.count ≤ length c.read_input.new.numbers
+room c = omega (arith, c.in_ok-given.ensures.few)
 
 pub slice_bounds-tree_weight-end : goal.slice_bounds-tree_weight-end
-slice_bounds-tree_weight-end c = omega (arith, given_few 2048 c.args.input.now _ _ c.read_input.ensures _ _ c.in-Given.is, c.read_input.auto, c.requires)
+slice_bounds-tree_weight-end c = sym (length-take-le _ _ (room (goal.at.slice_bounds-tree_weight-end c).In_ok-given))
 
-pub slice_bounds-tree_weight-end-in-Given : goal.slice_bounds-tree_weight-end-in-Given
-slice_bounds-tree_weight-end-in-Given c =
-    let read = c.read_input in
-    let few = given_few 2048 c.args.input.now _ _ read.ensures _ _ c.in-Given.is in
-    sym (length-take-le _ read.new.numbers (omega (arith, few, read.auto, c.requires)))
+pub returns-in_err-given : goal.returns-in_err-given
+returns-in_err-given c = handed_on c.from_residual.ensures ∙ weighed_malformed c.args.table.now _ _ c.in_err-given.ensures
 
-pub returns-in-Malformed : goal.returns-in-Malformed
-returns-in-Malformed c =
-    let args = c.args in
-    weighed_malformed args.table.now _ _ (malformed_says 2048 args.input.now _ _ c.read_input.ensures _ c.in-Malformed.is)
-
-pub returns-in-Given : goal.returns-in-Given
-returns-in-Given c =
-    let args = c.args in
-    let says = given_says 2048 args.input.now _ _ c.read_input.ensures _ _ c.in-Given.is in
-    c.tree_weight.ensures.answer ∙ weighed_given args.table.now _ _ _ says
+pub returns : goal.returns
+returns c = c.tree_weight.ensures.answer ∙ weighed_given c.args.table.now _ _ _ c.in_ok-given.ensures.says

@@ -1,10 +1,6 @@
 -- Row behind row, as in SurvivingRows.
-use Prim.Native.Nat.{◌-◌}
 use Rattle.tree_weight.proofs.SurvivingRows.{Putting}
 use Rattle.tree_weight.proofs.operators.put_surviving.Given as goal
 
 abbrev pub invariant-loop-place : goal.invariant-loop-place
 invariant-loop-place l = Putting l.count l.terms l.initial.own l.own l.place
-
-abbrev pub decreases-loop-place : goal.decreases-loop-place
-decreases-loop-place l = l.count - l.place

@@ -2,7 +2,7 @@
 use native.Mathlib.Omega.{arith}
 use lib.Dec.{lit≤}
 use Rattle.merging.proofs.RowsHeld.{rows_worked}
-use Rattle.merging.proofs.StateMerged.{weight_bound, in_room, end_low, x_below, y_below, z_below, merged_went, same_run}
+use Rattle.merging.proofs.StateMerged.{weight_bound, dropped_bound, in_room, end_low, x_below, y_below, z_below, merged_went, same_run}
 use Rattle.merging.proofs.run.Run.merged.Goals as goal
 
 pub reduce_hamiltonian-dropped-requires : goal.reduce_hamiltonian-dropped-requires
@@ -39,6 +39,19 @@ entities_merged-requires c =
       modes_le_most_modes = (omega arith, omega (arith, ready.left), x, y, z);
       z_bound = omega arith;
     }
+
+pub overflow_cast-weight : goal.overflow_cast-weight
+overflow_cast-weight c =
+    let ready = c.requires.1 in
+    let light = weight_bound 769 256 c.requires.0 _ _ _ _ (lit≤ tt) ready in
+    omega (arith, ready.holds.light)
+
+pub overflow_cast-dropped : goal.overflow_cast-dropped
+overflow_cast-dropped c =
+    let ready = c.requires.1 in
+    let few = dropped_bound 769 256 c.requires.0 _ _ _ _ (lit≤ tt) ready _ _
+    (rw c.parent_number-parent.ensures at c.reduce_hamiltonian-dropped.ensures) in
+    omega (arith, ready.holds.light)
 
 pub returns : goal.returns
 returns c job ready =
