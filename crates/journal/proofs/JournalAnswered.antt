@@ -10,7 +10,6 @@ use Rattle.merging.specs.declared.run.Run.{Run}
 use Rattle.merging.specs.code.State.{history_of}
 use Rattle.obeying.specs.Obeying.{Obeyed}
 use Rattle.journal.specs.Resuming.{Outcome, done, refuses, ending, with_journal}
-use Rattle.obeying.specs.declared.Refused.{Refused}
 use Rattle.obeying.specs.code.Obeys.{came_to}
 use Rattle.journal.specs.Promises.{numbers_of, returned, Lent, lent_then, Answers}
 
@@ -27,10 +26,10 @@ module _ (meant : Lent → Outcome) (before : Lent) where
   answers_so same after r e told = answers after r (rw e told.answer) (rw e told.leaves)
 
 module _ (job : Job) (bytes : List ℕ) (answer : Obeyed) where
-  pub journal_refused : (stop : Refused) → came_to (Err stop) ≡ answer → with_journal job bytes answer ≡ refuses stop.why
+  pub journal_refused : (why : Refusal) (made : List Triple) → came_to (Err why) made ≡ answer → with_journal job bytes answer ≡ refuses why
   unfolding came_to with_journal
   journal_refused stop comes = rw (sym comes)
 
-  pub journal_obeyed : (run : Run) → came_to (Ok run) ≡ answer → with_journal job bytes answer ≡ done (ending job bytes (history_of run))
+  pub journal_obeyed : (made : List Triple) → came_to (Ok tt) made ≡ answer → with_journal job bytes answer ≡ done (ending job bytes made)
   unfolding came_to with_journal
   journal_obeyed run comes = rw (sym comes)

@@ -97,9 +97,10 @@ fn resume_own(
     ensures { (numbers : List ℕ) → Spread count numbers own.old → Answers (λ given. with_journal (job_of modes rule count numbers) read.now (obeyed (job_of modes rule count numbers) read.now))
         (lent work.old rows.old journal.old drops.old) (lent work.new rows.new journal.new drops.new) result }
 {
-    let run = obeying::obey(modes, rule, count, own, read)?;
+    let obeyed = obeying::obey(modes, rule, count, own, read);
+    obeyed.verdict?;
     let kept = lines::kept_bytes(read);
-    finish_lent(run, modes, count, own, kept, work, rows, journal, drops)
+    finish_lent(obeyed.run, modes, count, own, kept, work, rows, journal, drops)
 }
 
 // A run from good terms with room for all it writes: the journal is obeyed on rows of the call's own, so that a refusal alters nothing.

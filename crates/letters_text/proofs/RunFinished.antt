@@ -16,7 +16,6 @@ use Rattle.merging.specs.code.State.{history_of}
 use Rattle.merging.specs.code.Runs.{Holds, Went}
 use Rattle.merging.proofs.Runs.{merges_within, merges_lawful}
 use Rattle.obeying.specs.Obeying.{Obeyed}
-use Rattle.obeying.specs.declared.Refused.{Refused}
 use Rattle.obeying.specs.code.Obeys.{came_to}
 use Rattle.letters_text.specs.Lettering.{asked, refuses, lettered_at, lettered_after}
 use Rattle.letters_text.specs.code.Replaying.{Finished}
@@ -40,10 +39,10 @@ module _ (modes : ℕ) (rule : Rule) (count : ℕ) (numbers again now_own end_ow
       }
 
 module _ (job : Job) (word : List ℕ) (answer : Obeyed) where
-  pub refused_lettered : (stop : Refused) → came_to (Err stop) ≡ answer → lettered_after job word answer ≡ refuses stop.why
+  pub refused_lettered : (why : Refusal) (made : List Triple) → came_to (Err why) made ≡ answer → lettered_after job word answer ≡ refuses why
   unfolding came_to lettered_after
-  refused_lettered stop comes = rw (sym comes)
+  refused_lettered why made comes = rw (sym comes)
 
-  pub fine_lettered : (run : Run) → came_to (Ok run) ≡ answer → lettered_after job word answer ≡ lettered_at job (finished job (history_of run)) (asked job.modes word)
+  pub fine_lettered : (made : List Triple) → came_to (Ok tt) made ≡ answer → lettered_after job word answer ≡ lettered_at job (finished job made) (asked job.modes word)
   unfolding came_to lettered_after
-  fine_lettered run comes = rw (sym comes)
+  fine_lettered made comes = rw (sym comes)

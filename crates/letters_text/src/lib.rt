@@ -77,9 +77,10 @@ fn letters_own(
     requires by_index { (numbers : List ℕ) × (Spread count numbers own.old × Spread count numbers again.old) }
     ensures { (numbers : List ℕ) → Spread count numbers own.old → Spread count numbers again.old → Puts (letters_printed (lettered_after (job_of modes rule count numbers) word.now (obeyed (job_of modes rule count numbers) read.now))) out.old out.new result }
 {
-    match obeying::obey(modes, rule, count, own, read) {
-        Ok(run) => put_asked(run.finished(own), modes, count, again, word, out),
-        Err(refused) => output::put_refusal(out, refused.why),
+    let obeyed = obeying::obey(modes, rule, count, own, read);
+    match obeyed.verdict {
+        Ok(_) => put_asked(obeyed.run.finished(own), modes, count, again, word, out),
+        Err(why) => output::put_refusal(out, why),
     }
 }
 

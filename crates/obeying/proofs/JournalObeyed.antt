@@ -13,10 +13,10 @@ use Rattle.terms.specs.Job.{Job}
 use Rattle.merging.specs.declared.run.Run.{Run}
 use Rattle.merging.specs.code.State.{history_of}
 use Rattle.merging.specs.code.Runs.{Holds}
-use Rattle.obeying.specs.declared.Refused.{Refused}
+use Rattle.obeying.specs.declared.Obeying.{Obeying}
 use Rattle.obeying.specs.LineForms.{header_of}
 use Rattle.obeying.specs.Obeying.{went, obeyed_header, obeyed_lines, obeyed_texts, obeyed}
-use Rattle.obeying.specs.code.Obeys.{header_came, Obeys}
+use Rattle.obeying.specs.code.Obeys.{obeying, came_to, Obeys}
 use Rattle.obeying.proofs.LineObeyed.{refuses, stays}
 use Rattle.obeying.proofs.LinesObeyed.{refused_stays}
 
@@ -28,22 +28,22 @@ text_begins bytes end is_end more =
     rw e at (lines_next bytes 0 end is_end more)
 
 module _ (job : Job) (rows read : List ℕ) (run : Run) (holds : Holds job rows run) (none_yet : history_of run ≡ []) where
-  pub nothing_to_obey : lines read ≡ [] → Obeys job (obeyed job read) rows rows (Ok run)
+  pub nothing_to_obey : lines read ≡ [] → Obeys job (obeyed job read) rows rows (obeying (Ok tt) run)
   unfolding obeyed obeyed_texts
   nothing_to_obey e = stays job rows run holds (obeyed job read) (rw (e, none_yet))
 
   module _ (first : List ℕ) (rest : List (List ℕ)) (texts : lines read ≡ first ∷ rest) (verdict : Result (Unit {0}) Refusal)
-      (says : header_came verdict ≡ obeyed_header job (header_of first)) where
-    all_is : obeyed job read ≡ obeyed_lines false job (header_came verdict) rest
+      (says : came_to verdict [] ≡ obeyed_header job (header_of first)) where
+    all_is : obeyed job read ≡ obeyed_lines false job (came_to verdict []) rest
     unfolding obeyed obeyed_texts
     all_is = rw (texts, says)
 
-    pub header_refused : (why : Refusal) → verdict ≡ Err why → Obeys job (obeyed job read) rows rows (Err (record { why = why; run = run }))
-    unfolding header_came
+    pub header_refused : (why : Refusal) → verdict ≡ Err why → Obeys job (obeyed job read) rows rows (obeying (Err why) run)
+    unfolding came_to
     header_refused why e =
         refuses job rows run holds why (obeyed job read) (rw none_yet (sym ((rw e at all_is) ∙ refused_stays false job [] why rest)))
 
-    pub lines_behind : verdict ≡ Ok tt → (now_rows : List ℕ) (found : Result Run Refused)
+    pub lines_behind : verdict ≡ Ok tt → (now_rows : List ℕ) (found : Obeying)
         → Obeys job (obeyed_lines false job (went (history_of run)) rest) rows now_rows found → Obeys job (obeyed job read) rows now_rows found
-    unfolding header_came
+    unfolding came_to
     lines_behind e now_rows found obeys = let all = rw e at all_is in rw all (rw none_yet at obeys)

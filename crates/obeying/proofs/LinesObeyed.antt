@@ -11,9 +11,8 @@ use Rattle.merging.specs.declared.run.Run.{Run}
 use Rattle.merging.specs.code.State.{history_of}
 use Rattle.merging.specs.code.Runs.{Holds, Went}
 use Rattle.merging.proofs.Runs.{went_nowhere, went_on}
-use Rattle.obeying.specs.declared.Refused.{Refused}
 use Rattle.obeying.specs.Obeying.{Obeyed, went, refused, obeyed_next, obeyed_lines}
-use Rattle.obeying.specs.code.Obeys.{run_of, came_to, Obeys}
+use Rattle.obeying.specs.code.Obeys.{obeying, came_to, Obeys}
 
 -- Nothing is obeyed after a refusal.
 pub refused_stays : (by_hand : Bool) (job : Job) (made : List Triple) (why : Refusal) (ahead : List (List ℕ))
@@ -39,32 +38,30 @@ module _ (by_hand : Bool) (job : Job) (first_rows : List ℕ) (answer : Obeyed) 
   along_starts first holds ahead e = record { so_far = went_nowhere job first_rows first holds; comes = e }
 
   module _ (run : Run) (rows : List ℕ) where
-    pub along_ends : Along run rows [] → Obeys job answer first_rows rows (Ok run)
+    pub along_ends : Along run rows [] → Obeys job answer first_rows rows (obeying (Ok tt) run)
     unfolding came_to obeyed_lines
     along_ends along = record { comes_to = along.comes; went = along.so_far }
 
-    -- One line more.
-    module _ (bytes : List ℕ) (rest : List (List ℕ)) (along : Along run rows (bytes ∷ rest)) (found : Result Run Refused) (now_rows : List ℕ)
-        (obeys : Obeys job (obeyed_next by_hand job bytes (went (history_of run))) rows now_rows found) where
-      after : Went job (history_of (run_of found)) first_rows (run_of found) now_rows
-      after = went_on job _ (history_of (run_of found)) run (run_of found) first_rows rows now_rows along.so_far obeys.went
+    -- One line more, that is obeyed or refused.
+    module _ (bytes : List ℕ) (rest : List (List ℕ)) (along : Along run rows (bytes ∷ rest)) (now_rows : List ℕ) (next : Run) where
+      module _ (verdict : Result (Unit {0}) Refusal)
+          (obeys : Obeys job (obeyed_next by_hand job bytes (went (history_of run))) rows now_rows (obeying verdict next)) where
+        after : Went job (history_of next) first_rows next now_rows
+        after = went_on job _ (history_of next) run next first_rows rows now_rows along.so_far obeys.went
 
-      comes_on : obeyed_lines by_hand job (came_to found) rest ≡ answer
-      unfolding obeyed_lines
-      comes_on = rw obeys.comes_to along.comes
+        comes_on : obeyed_lines by_hand job (came_to verdict (history_of next)) rest ≡ answer
+        unfolding obeyed_lines
+        comes_on = rw obeys.comes_to along.comes
 
-    -- One line more that is obeyed, or refused.
-    module _ (bytes : List ℕ) (rest : List (List ℕ)) (along : Along run rows (bytes ∷ rest)) (now_rows : List ℕ) where
-      pub along_goes : (next : Run) → Obeys job (obeyed_next by_hand job bytes (went (history_of run))) rows now_rows (Ok next) → Along next now_rows rest
+      pub along_goes : Obeys job (obeyed_next by_hand job bytes (went (history_of run))) rows now_rows (obeying (Ok tt) next) → Along next now_rows rest
       unfolding came_to
-      along_goes next obeys =
-          record { so_far = after bytes rest along (Ok next) now_rows obeys; comes = comes_on bytes rest along (Ok next) now_rows obeys }
+      along_goes obeys = record { so_far = after (Ok tt) obeys; comes = comes_on (Ok tt) obeys }
 
-      pub along_stops : (stop : Refused) → Obeys job (obeyed_next by_hand job bytes (went (history_of run))) rows now_rows (Err stop)
-          → Obeys job answer first_rows now_rows (Err stop)
+      pub along_stops : (why : Refusal) → Obeys job (obeyed_next by_hand job bytes (went (history_of run))) rows now_rows (obeying (Err why) next)
+          → Obeys job answer first_rows now_rows (obeying (Err why) next)
       unfolding came_to
-      along_stops stop obeys =
+      along_stops why obeys =
           record {
-            comes_to = sym (refused_stays by_hand job (history_of stop.run) stop.why rest) ∙ comes_on bytes rest along (Err stop) now_rows obeys;
-            went = after bytes rest along (Err stop) now_rows obeys;
+            comes_to = sym (refused_stays by_hand job (history_of next) why rest) ∙ comes_on (Err why) obeys;
+            went = after (Err why) obeys;
           }

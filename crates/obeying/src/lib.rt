@@ -11,7 +11,7 @@ ghost use Rattle.merging.specs.code.Runs.{Holds};
 ghost use Rattle.obeying.specs.LineForms.{header_of};
 ghost use Rattle.obeying.specs.Obeying.{went, obeyed_next, obeyed_header, obeyed_lines, obeyed, obeyed_by_hand};
 ghost use Rattle.obeying.specs.code.Sized.{Sized};
-ghost use Rattle.obeying.specs.code.Obeys.{header_came, Obeys};
+ghost use Rattle.obeying.specs.code.Obeys.{came_to, obeying, Obeys};
 
 use fields::lines;
 use merging::run;
@@ -24,42 +24,32 @@ mod header;
 mod judging;
 pub mod merge_line;
 
-// Why a line is refused, and the run after the merges that were made before it.
+// Whether every line was obeyed, and the run after the merges that were made.
 #[derive(Clone, Copy)]
-pub struct Refused {
-    pub why: Refusal,
+pub struct Obeying {
+    pub verdict: Result<(), Refusal>,
     pub run: Run,
 }
 
-// For whoever asks for no more than why.
-impl From<Refused> for Refusal {
-    ghost from_gives = { λ refused why. why ≡ refused.why };
-
-    fn from(refused: Refused) -> Refusal {
-        refused.why
-    }
-}
-
-// One line after a run: its merge made, where it is judged good.
+// One line after a run: its merge made, where it is judged good; where it is refused, the run stays as it was.
 fn obey_line(
-    run: Run,
+    run: &mut Run,
     modes: usize,
     rows: &mut [u16],
     bytes: &[u8],
     by_hand: bool,
-) -> Result<Run, Refused>
-    requires { (job : Job) × (Holds job rows.old run × (job.modes ≡ modes)) }
-    ensures { (job : Job) → Holds job rows.old run → job.modes ≡ modes → Obeys job (obeyed_next by_hand job bytes.now (went (history_of run))) rows.old rows.new result }
+) -> Result<(), Refusal>
+    requires { (job : Job) × (Holds job rows.old run.old × (job.modes ≡ modes)) }
+    ensures { (job : Job) → Holds job rows.old run.old → job.modes ≡ modes → Obeys job (obeyed_next by_hand job bytes.now (went (history_of run.old))) rows.old rows.new (obeying result run.new) }
 {
-    match judging::judge_line(run, modes, rows, bytes, by_hand) {
-        Ok(said) => Ok(run.merged(rows, said.triple, usize::from(said.weight))),
-        Err(why) => Err(Refused { why, run }),
-    }
+    let said = judging::judge_line(*run, modes, rows, bytes, by_hand)?;
+    *run = run.merged(rows, said.triple, usize::from(said.weight));
+    Ok(())
 }
 
 // The header, which has to say the call's rule, modes and terms.
 fn obey_header(modes: usize, rule: Rule, count: usize, bytes: &[u8]) -> Result<(), Refusal>
-    ensures { (job : Job) → Sized job modes count → job.rule ≡ rule → header_came result ≡ obeyed_header job (header_of bytes.now) }
+    ensures { (job : Job) → Sized job modes count → job.rule ≡ rule → came_to result [] ≡ obeyed_header job (header_of bytes.now) }
 {
     let said = header::read_header(bytes).ok_or(Refusal::LineForm(0))?;
     if said.rule != rule {
@@ -74,45 +64,52 @@ fn obey_header(modes: usize, rule: Rule, count: usize, bytes: &[u8]) -> Result<(
     Ok(())
 }
 
-// The complete lines, one after the other.
+// The complete lines, one after the other, up to the first that is refused.
 fn obey_lines(
-    first: Run,
+    run: &mut Run,
     modes: usize,
     rows: &mut [u16],
     read: &[u8],
     by_hand: bool,
-) -> Result<Run, Refused>
-    requires { (job : Job) × (Holds job rows.old first × (job.modes ≡ modes)) }
-    ensures { (job : Job) → Holds job rows.old first → job.modes ≡ modes → Obeys job (obeyed_lines by_hand job (went (history_of first)) (lines read.now)) rows.old rows.new result }
+) -> Result<(), Refusal>
+    requires { (job : Job) × (Holds job rows.old run.old × (job.modes ≡ modes)) }
+    ensures { (job : Job) → Holds job rows.old run.old → job.modes ≡ modes → Obeys job (obeyed_lines by_hand job (went (history_of run.old)) (lines read.now)) rows.old rows.new (obeying result run.new) }
 {
-    let mut run = first;
     for line in lines::lines_of(read) {
-        run = obey_line(run, modes, rows, line, by_hand)?;
+        obey_line(run, modes, rows, line, by_hand)?;
     }
-    Ok(run)
+    Ok(())
 }
 
-// A journal obeyed from the first state on, on the work rows of input rows: the header, then the merges.
-pub fn obey(
+// A journal's bytes after the first state: the header, then the merges.
+fn obey_journal(
+    run: &mut Run,
     modes: usize,
     rule: Rule,
     count: usize,
     rows: &mut [u16],
     read: &[u8],
-) -> Result<Run, Refused>
+) -> Result<(), Refusal>
+    requires { (job : Job) × (Holds job rows.old run.old × ((history_of run.old ≡ []) × (Sized job modes count × (job.rule ≡ rule)))) }
+    ensures { (job : Job) → Holds job rows.old run.old → history_of run.old ≡ [] → Sized job modes count → job.rule ≡ rule → Obeys job (obeyed job read.now) rows.old rows.new (obeying result run.new) }
+{
+    let end = lines::line_end(read, 0);
+    if end == 0 {
+        return Ok(());
+    }
+    obey_header(modes, rule, count, &read[..end])?;
+    obey_lines(run, modes, rows, &read[end..], false)
+}
+
+// A journal obeyed from the first state on, on the work rows of input rows.
+pub fn obey(modes: usize, rule: Rule, count: usize, rows: &mut [u16], read: &[u8]) -> Obeying
     requires le_modes { (1 ≤ modes) × (modes ≤ most_modes) × (count ≤ most_terms) }
     requires by_index { (numbers : List ℕ) × Spread count numbers rows.old }
     ensures { (numbers : List ℕ) → Spread count numbers rows.old → Obeys (job_of modes rule count numbers) (obeyed (job_of modes rule count numbers) read.now) rows.old rows.new result }
 {
-    let first = run::fresh(modes, rule, count);
-    let end = lines::line_end(read, 0);
-    if end == 0 {
-        return Ok(first);
-    }
-    if let Err(why) = obey_header(modes, rule, count, &read[..end]) {
-        return Err(Refused { why, run: first });
-    }
-    obey_lines(first, modes, rows, &read[end..], false)
+    let mut run = run::fresh(modes, rule, count);
+    let verdict = obey_journal(&mut run, modes, rule, count, rows, read);
+    Obeying { verdict, run }
 }
 
 // Merges by hand obeyed from the first state on.
@@ -122,10 +119,12 @@ pub fn obey_by_hand(
     count: usize,
     rows: &mut [u16],
     read: &[u8],
-) -> Result<Run, Refused>
+) -> Obeying
     requires le_modes { (1 ≤ modes) × (modes ≤ most_modes) × (count ≤ most_terms) }
     requires by_index { (numbers : List ℕ) × Spread count numbers rows.old }
     ensures { (numbers : List ℕ) → Spread count numbers rows.old → Obeys (job_of modes rule count numbers) (obeyed_by_hand (job_of modes rule count numbers) read.now) rows.old rows.new result }
 {
-    obey_lines(run::fresh(modes, rule, count), modes, rows, read, true)
+    let mut run = run::fresh(modes, rule, count);
+    let verdict = obey_lines(&mut run, modes, rows, read, true);
+    Obeying { verdict, run }
 }

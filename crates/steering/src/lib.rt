@@ -58,9 +58,10 @@ fn steer_job(
     requires by_index { (numbers : List ℕ) × Spread count numbers rows.old }
     ensures { (numbers : List ℕ) → Spread count numbers rows.old → Puts (steer_printed (steered_as (job_of modes rule count numbers) merges.now (obeyed_by_hand (job_of modes rule count numbers) merges.now))) out.old out.new result }
 {
-    match obeying::obey_by_hand(modes, rule, count, rows, merges) {
-        Ok(run) => put_journal(run, modes, count, rows, merges, out),
-        Err(refused) => output::put_refusal(out, refused.why),
+    let obeyed = obeying::obey_by_hand(modes, rule, count, rows, merges);
+    match obeyed.verdict {
+        Ok(_) => put_journal(obeyed.run, modes, count, rows, merges, out),
+        Err(why) => output::put_refusal(out, why),
     }
 }
 

@@ -80,9 +80,10 @@ fn reason_job(
     requires by_index { (numbers : List ℕ) × Spread count numbers rows.old }
     ensures { (numbers : List ℕ) → Spread count numbers rows.old → Puts (reason_in (job_of modes rule count numbers) read.now (obeyed (job_of modes rule count numbers) read.now)) out.old out.new result }
 {
-    match obeying::obey(modes, rule, count, rows, read) {
+    let obeyed = obeying::obey(modes, rule, count, rows, read);
+    match obeyed.verdict {
         Ok(_) => 0,
-        Err(refused) => put_refused(refused.run, rows, refused.why, read, out),
+        Err(why) => put_refused(obeyed.run, rows, why, read, out),
     }
 }
 
