@@ -5,6 +5,7 @@ use mathlib.Core.Path.{◌≡◌, ap, sym}
 use mathlib.Core.List.{List}
 use Prim.Native.Nat.{ℕ}
 use Rattle.refusal.specs.declared.Refusal.{Refusal}
+use Rattle.entities.specs.declared.Triple.{Triple}
 use Rattle.terms.specs.Job.{Job}
 use Rattle.merging.specs.declared.run.Run.{Run}
 use Rattle.merging.specs.code.State.{history_of}
@@ -28,8 +29,8 @@ module _ (meant : Lent → Outcome) (before : Lent) where
 module _ (job : Job) (bytes : List ℕ) (answer : Obeyed) where
   pub journal_refused : (why : Refusal) (made : List Triple) → came_to (Err why) made ≡ answer → with_journal job bytes answer ≡ refuses why
   unfolding came_to with_journal
-  journal_refused stop comes = rw (sym comes)
+  journal_refused why made comes = rw (sym comes)
 
   pub journal_obeyed : (made : List Triple) → came_to (Ok tt) made ≡ answer → with_journal job bytes answer ≡ done (ending job bytes made)
   unfolding came_to with_journal
-  journal_obeyed run comes = rw (sym comes)
+  journal_obeyed made comes = rw (sym comes)

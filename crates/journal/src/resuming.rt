@@ -100,7 +100,9 @@ fn resume_own(
     let obeyed = obeying::obey(modes, rule, count, own, read);
     obeyed.verdict?;
     let kept = lines::kept_bytes(read);
-    finish_lent(obeyed.run, modes, count, own, kept, work, rows, journal, drops)
+    finish_lent(
+        obeyed.run, modes, count, own, kept, work, rows, journal, drops,
+    )
 }
 
 // A run from good terms with room for all it writes: the journal is obeyed on rows of the call's own, so that a refusal alters nothing.

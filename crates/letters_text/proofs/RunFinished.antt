@@ -5,6 +5,8 @@ use mathlib.Core.List.{List}
 use Prim.Native.Nat.{ℕ}
 use lib.ListN.{length}
 use Rattle.terms.specs.declared.rules.Rule.{Rule}
+use Rattle.refusal.specs.declared.Refusal.{Refusal}
+use Rattle.entities.specs.declared.Triple.{Triple}
 use Rattle.terms.specs.Job.{Job, job_of}
 use Rattle.terms.specs.code.Held.{Spread}
 use Rattle.terms.proofs.RowSteps.{length_terms}

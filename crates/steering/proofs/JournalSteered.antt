@@ -7,6 +7,7 @@ use native.Mathlib.Omega.{arith}
 use borrow.Author.Tests.{eq-eqb, ne_eqb}
 use lib.ListN.{length}
 use Rattle.lists.specs.Written.{written_at}
+use Rattle.refusal.specs.declared.Refusal.{Refusal}
 use Rattle.refusal.specs.declared.Refusal.TheVariants.{LineForm}
 use Rattle.entities.specs.declared.Triple.{Triple}
 use Rattle.fields.specs.Lines.{kept_of}
@@ -17,7 +18,6 @@ use Rattle.merging.specs.code.Runs.{Holds}
 use Rattle.merging.proofs.Runs.{merges_within, merges_lawful}
 use Rattle.obeying.specs.Obeying.{line_after, Obeyed, went}
 use Rattle.obeying.specs.code.Sized.{Sized}
-use Rattle.obeying.specs.declared.Refused.{Refused}
 use Rattle.obeying.specs.code.Obeys.{came_to}
 use Rattle.journal.specs.Writing.{journal_text}
 use Rattle.journal.specs.code.NewLines.{noted_behind, TextFits}
@@ -37,13 +37,13 @@ module _ (job : Job) (merges : List ℕ) where
     ended all = rw (eq-eqb _ _ all)
 
   module _ (answer : Obeyed) where
-    pub refused_steered : (stop : Refused) → came_to (Err stop) ≡ answer → steered_as job merges answer ≡ refuses stop.why
+    pub refused_steered : (why : Refusal) (made : List Triple) → came_to (Err why) made ≡ answer → steered_as job merges answer ≡ refuses why
     unfolding came_to steered_as
-    refused_steered stop comes = rw (sym comes)
+    refused_steered why made comes = rw (sym comes)
 
-    pub fine_steered : (run : Run) → came_to (Ok run) ≡ answer → steered_as job merges answer ≡ steered_as job merges (went (history_of run))
+    pub fine_steered : (made : List Triple) → came_to (Ok tt) made ≡ answer → steered_as job merges answer ≡ steered_as job merges (went made)
     unfolding came_to
-    fine_steered run comes = rw (sym comes)
+    fine_steered made comes = rw (sym comes)
 
 -- A run's journal fits where the longest does, and is what is written.
 module _ (job : Job) (own : List ℕ) (run : Run) (modes count : ℕ) (holds : Holds job own run) (sized : Sized job modes count) where

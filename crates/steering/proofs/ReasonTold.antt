@@ -42,7 +42,6 @@ use Rattle.history.specs.Choice.{weight_in}
 use Rattle.merging.specs.declared.run.Run.{Run}
 use Rattle.merging.specs.code.State.{history_of}
 use Rattle.obeying.specs.Obeying.{Obeyed, refused}
-use Rattle.obeying.specs.declared.Refused.{Refused}
 use Rattle.obeying.specs.code.Obeys.{came_to}
 use Rattle.text.specs.Output.{line_of}
 use Rattle.text.specs.code.Printing.{Puts}
@@ -104,10 +103,10 @@ module _ (job : Job) (made : List Triple) (triple : Triple) where
   nothing_told (WeightUntrue line) a b d = absurd (d line refl)
 
 module _ (job : Job) (read : List ℕ) (answer : Obeyed) where
-  pub refused_told : (stop : Refused) → came_to (Err stop) ≡ answer → reason_in job read (refused (history_of stop.run) stop.why) ≡ reason_in job read answer
+  pub refused_told : (why : Refusal) (made : List Triple) → came_to (Err why) made ≡ answer → reason_in job read (refused made why) ≡ reason_in job read answer
   unfolding came_to
-  refused_told stop comes = rw (← comes)
+  refused_told why made comes = rw (← comes)
 
-  pub fine_told : (run : Run) → came_to (Ok run) ≡ answer → [] ≡ reason_in job read answer
+  pub fine_told : (made : List Triple) → came_to (Ok tt) made ≡ answer → [] ≡ reason_in job read answer
   unfolding came_to reason_in
-  fine_told run comes = rw (← comes)
+  fine_told made comes = rw (← comes)

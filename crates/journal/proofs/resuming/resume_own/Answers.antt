@@ -30,32 +30,32 @@ accepted modes rule count numbers now_own run given holds few light room =
       room = room;
     }
 
-pub obey-requires : goal.obey-requires
-obey-requires c = record { le_modes = c.requires.le_modes; by_index = c.requires.by_index }
+pub obey-obeyed-requires : goal.obey-obeyed-requires
+obey-obeyed-requires c = record { le_modes = c.requires.le_modes; by_index = c.requires.by_index }
 
 pub finish_lent-requires : goal.finish_lent-requires
 finish_lent-requires c =
     let args = c.args in
     let numbers = c.requires.by_index.0 in
-    let obey = rw c.in_ok-run.was at (c.obey.ensures numbers c.requires.by_index.1) in (
+    let obey = rw c.in_ok-obeyed.was at (c.obey-obeyed.ensures numbers c.requires.by_index.1) in (
       job_of args.modes args.rule args.count numbers,
       accepted args.modes args.rule args.count numbers _ _ _ obey.went.holds c.requires.le_modes.1 c.requires.le_modes.2 c.requires.count_value,
     )
 
-pub returns-in_err-run : goal.returns-in_err-run
-returns-in_err-run c numbers spread =
+pub returns-in_err-obeyed : goal.returns-in_err-obeyed
+returns-in_err-obeyed c numbers spread =
     let args = c.args in
     let job = job_of args.modes args.rule args.count numbers in
-    let told = rw c.in_err-run.was at (c.obey.ensures numbers spread) in
+    let told = rw c.in_err-obeyed.was at (c.obey-obeyed.ensures numbers spread) in
     rw (handed_on c.from_residual.ensures)
     (nothing_altered _ (lent args.work.now args.rows.now args.journal.now args.drops.now) _
-    (journal_refused job args.read.now (obeyed job args.read.now) _ told.comes_to))
+    (journal_refused job args.read.now (obeyed job args.read.now) _ _ told.comes_to))
 
 pub returns : goal.returns
 returns c numbers spread =
     let args = c.args in
     let job = job_of args.modes args.rule args.count numbers in
-    let told = rw c.in_ok-run.was at (c.obey.ensures numbers spread) in
+    let told = rw c.in_ok-obeyed.was at (c.obey-obeyed.ensures numbers spread) in
     let from = accepted args.modes args.rule args.count numbers _ _ _ told.went.holds c.requires.le_modes.1 c.requires.le_modes.2 c.requires.count_value in
     answers_so _ (lent args.work.now args.rows.now args.journal.now args.drops.now) _ _ _
     (journal_obeyed job args.read.now (obeyed job args.read.now) _ told.comes_to)
