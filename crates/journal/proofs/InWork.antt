@@ -19,30 +19,27 @@ use Rattle.journal.specs.Promises.{Lent, lent, rooms_of, lent_then, Answers}
 use Rattle.journal.specs.code.Finishing.{FromOwn, Finishing}
 use Rattle.journal.proofs.CallDone.{rooms_say}
 
-module _ (job : Job) (run : Run) (modes count : ℕ) (own : List ℕ) (given : Lent) (from : FromOwn job run modes count own given) where
+module _ (job : Job) (run : Run) (own : List ℕ) (given : Lent) (from : FromOwn job run own given) where
   abbrev front : List ℕ
-  front = take (9 * count) own
+  front = take (9 * length job.terms) own
 
   abbrev zeros : List ℕ
   zeros = replicate (9 * length job.terms) 0
 
-  pub front_length : length (take (9 * count) own) ≡ 9 * count
-  front_length = length-take-le (9 * count) own (omega (arith, rows_room job own run from.holds, from.sized.count_is))
+  pub front_length : length (take (9 * length job.terms) own) ≡ 9 * length job.terms
+  front_length = length-take-le (9 * length job.terms) own (omega (arith, rows_room job own run from.holds))
 
-  pub front_fits : length (take (9 * count) own) ≤ length given.work
-  front_fits = omega (arith, front_length, (rooms_say (rooms_of 256 given) modes count from.room).0)
+  pub front_fits : length (take (9 * length job.terms) own) ≤ length given.work
+  front_fits = omega (arith, front_length, (rooms_say (rooms_of 256 given) job.modes (length job.terms) from.room).0)
 
   module _ (put : List ℕ) (written : put ≡ written_at 0 front given.work) (there : take (length front) put ≡ front) where
-    pub in_work : Finishing job run modes count (lent put given.rows given.journal given.drops)
+    pub in_work : Finishing job run (lent put given.rows given.journal given.drops)
     in_work =
-        let said = rooms_say (rooms_of 256 given) modes count from.room in
+        let said = rooms_say (rooms_of 256 given) job.modes (length job.terms) from.room in
         let same : length put ≡ length given.work = rw written (length_written 0 front given.work (omega (arith, front_fits))) in
         record {
           holds =
-              moved job own run from.holds put (omega (arith, said.0, from.sized.count_is)) (rw (front_length, ← from.sized.count_is) at there);
-          sized = from.sized;
-          few = from.few;
-          light = from.light;
+              moved job own run from.holds put (omega (arith, said.0)) (rw front_length at there);
           rows_room = said.1;
           journal_room = said.2;
           drops_room = said.3;
@@ -52,7 +49,7 @@ module _ (job : Job) (run : Run) (modes count : ℕ) (own : List ℕ) (given : L
     behind : drop (length zeros) put ≡ drop (length zeros) given.work
     behind =
         rw (length-replicate, written)
-        (drop_written 0 front given.work (omega (arith, front_fits)) (9 * length job.terms) (omega (arith, front_length, from.sized.count_is)))
+        (drop_written 0 front given.work (omega (arith, front_fits)) (9 * length job.terms) (omega (arith, front_length)))
 
     pub answers_lent : (bytes : List ℕ) (after : Lent) (r : Result Numbers Refusal)
         → Answers (λ any. done (ending job bytes (history_of run))) (lent put given.rows given.journal given.drops) after r

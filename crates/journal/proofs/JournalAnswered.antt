@@ -7,8 +7,6 @@ use Prim.Native.Nat.{ℕ}
 use Rattle.refusal.specs.declared.Refusal.{Refusal}
 use Rattle.entities.specs.declared.Triple.{Triple}
 use Rattle.terms.specs.Job.{Job}
-use Rattle.merging.specs.declared.run.Run.{Run}
-use Rattle.merging.specs.code.State.{history_of}
 use Rattle.obeying.specs.Obeying.{Obeyed}
 use Rattle.journal.specs.Resuming.{Outcome, done, refuses, ending, with_journal}
 use Rattle.obeying.specs.code.Obeys.{came_to}

@@ -91,7 +91,7 @@ noted_all job history kept =
     rw e (ap (λ l. header_behind job kept ++ flat_map (λ line. line) l) (noted_greedy job history steps steps (omega arith)))
 
 -- Room for all that is to be written is room for the header, and behind it for the lines.
-module _ (job : Job) (own : List ℕ) (run : Run) (modes count from kept room : ℕ) (text : TextFits job own run modes count from kept room) where
+module _ (job : Job) (own : List ℕ) (run : Run) (from kept room : ℕ) (text : TextFits job own run from kept room) where
   both_fit : length (header_behind job kept) + length (noted_from job (history_of run) from) ≤ room
   both_fit = omega (arith, text.fits, length-append (header_behind job kept) (noted_from job (history_of run) from))
 
@@ -103,12 +103,12 @@ module _ (job : Job) (own : List ℕ) (run : Run) (modes count from kept room : 
       record {
         holds = text.holds;
         begun = text.begun;
-        small = omega (arith, merges_within job own run text.holds, text.sized.modes_are, text.few);
+        small = omega (arith, merges_within job own run text.holds, text.holds.few);
         fits = omega (arith, both_fit);
       }
 
 -- A run at its end writes the new text.
-module _ (job : Job) (history : List Triple) (modes count from : ℕ) (run : Run) (ended : Ended job history modes count from run) (kept : ℕ) where
+module _ (job : Job) (history : List Triple) (from : ℕ) (run : Run) (ended : Ended job history from run) (kept : ℕ) where
   pub ended_text : noted_behind job kept (history_of run) from ≡ new_text job kept history
   ended_text = rw (ended.merges, ← ended.from_is) (noted_all job history kept)
 
@@ -116,14 +116,10 @@ module _ (job : Job) (history : List Triple) (modes count from : ℕ) (run : Run
   unfolding finished
   all_merges = rw (ended.merges, ← ended.from_is) (greedy_length job (job.modes - length history) history)
 
-  pub ended_fits : modes < 65536 → count < 65536 → (room : ℕ) → length (new_text job kept history) ≤ room
-      → TextFits job ended.own run modes count from kept room
-  ended_fits few light room fits =
+  pub ended_fits : (room : ℕ) → length (new_text job kept history) ≤ room → TextFits job ended.own run from kept room
+  ended_fits room fits =
       record {
         holds = ended.holds;
-        sized = ended.sized;
-        few = few;
-        light = light;
         begun = omega (arith, all_merges);
         fits = rw ended_text fits;
       }

@@ -10,7 +10,6 @@ use lib.ListN.{length, replicate, length-replicate}
 use Rattle.lists.specs.Written.{written_at}
 use Rattle.lists.proofs.Written.{written_front}
 use Rattle.fields.specs.Lines.{kept_of}
-use Rattle.entities.specs.Limits.{most_modes, most_terms}
 use Rattle.terms.specs.Job.{Job}
 use Rattle.history.specs.Run.{run_weight}
 use Rattle.history.specs.Drops.{drops as drops_of}
@@ -26,7 +25,6 @@ use Rattle.merging.proofs.Runs.{merges_within, merges_lawful}
 use Rattle.journal.specs.computed.NewText.{new_text}
 use Rattle.journal.specs.Resuming.{done, ending}
 use Rattle.journal.specs.Promises.{lent, Answers, returned, lent_then}
-use Rattle.obeying.specs.code.Sized.{Sized}
 use Rattle.journal.specs.code.NewLines.{noted_behind, TextFits, Ended}
 use Rattle.journal.proofs.NotedLines.{ended_text, ended_fits}
 use Rattle.journal.proofs.JournalRoom.{new_fits}
@@ -45,34 +43,30 @@ module _ (job : Job) (work now_work : List ℕ) (run after : Run) (holds : Holds
   new_has_room kept few light =
       omega (arith, new_fits job few light kept (history_of run) (merges_lawful job work run holds) within)
 
-  module _ (modes count from : ℕ) (sized : Sized job modes count) (from_is : from ≡ length (history_of run)) where
-    has_ended : Ended job (history_of run) modes count from after
+  module _ (from : ℕ) (from_is : from ≡ length (history_of run)) where
+    has_ended : Ended job (history_of run) from after
     has_ended =
         record {
           own = now_work;
           holds = gone.holds;
-          sized = sized;
           merges = gone.merges;
           from_is = sym from_is;
-          within = omega (arith, within, sized.modes_are);
+          within = omega (arith, within);
         }
 
-    pub text_fits : (kept room : ℕ) → job.modes ≤ most_modes → length job.terms ≤ most_terms → 16 + 21 * modes ≤ room
-        → TextFits job now_work after modes count from kept room
+    pub text_fits : (kept room : ℕ) → 16 + 21 * job.modes ≤ room → TextFits job now_work after from kept room
     unfolding has_ended
-    text_fits kept room few light fits =
-        ended_fits job (history_of run) modes count from after has_ended kept (omega (arith, sized.modes_are)) (omega (arith, sized.count_is)) room
-        (omega (arith, new_has_room kept (omega arith) (omega arith), sized.modes_are))
+    text_fits kept room fits =
+        ended_fits job (history_of run) from after has_ended kept room
+        (omega (arith, new_has_room kept (omega (arith, holds.few)) (omega (arith, holds.light))))
 
-    trials_are : trial_total (modes - from) ≡ trials job (job.modes - length (history_of run)) (history_of run)
+    trials_are : trial_total (job.modes - from) ≡ trials job (job.modes - length (history_of run)) (history_of run)
     trials_are =
-        let e : modes - from ≡ job.modes - length (history_of run) = omega (arith, sized.modes_are) in
-        ap trial_total e
+        ap (λ steps. trial_total (job.modes - steps)) from_is
         ∙ sym (trials_total job (job.modes - length (history_of run)) (history_of run) (merges_lawful job work run holds) (omega (arith, within)))
 
-    cleared : written_at 0 (replicate (9 * count) 0) now_work ≡ written_at 0 (replicate (9 * length job.terms) 0) work
+    cleared : written_at 0 (replicate (9 * length job.terms) 0) now_work ≡ written_at 0 (replicate (9 * length job.terms) 0) work
     cleared =
-        rw (← sized.count_is)
         (written_front (replicate (9 * length job.terms) 0) now_work work (rw length-replicate gone.rest))
 
     pub ends : (weight total kept new : ℕ) (bytes rows journal drops end_work end_rows end_journal end_drops : List ℕ) → kept ≡ length (kept_of bytes)
@@ -81,14 +75,14 @@ module _ (job : Job) (work now_work : List ℕ) (run after : Run) (holds : Holds
         → (new ≡ length (noted_behind job kept (history_of after) from))
         × (end_journal ≡ written_at 0 (noted_behind job kept (history_of after) from) journal)
         → end_drops ≡ written_at 0 (drops_of job (history_of after)) drops
-        → end_work ≡ written_at 0 (replicate (9 * count) 0) now_work
-        → total ≡ trial_total (modes - from)
+        → end_work ≡ written_at 0 (replicate (9 * length job.terms) 0) now_work
+        → total ≡ trial_total (job.modes - from)
         → Answers (λ given. done (ending job bytes (history_of run))) (lent work rows journal drops) (lent end_work end_rows end_journal end_drops)
         (Ok (record { weight = weight; trials = total; kept = kept; new = new }))
     unfolding ending returned lent_then
     ends weight total kept new bytes rows journal drops end_work end_rows end_journal end_drops kept_is weighs rows_put lines_put drops_put work_put totalled =
         let text : noted_behind job kept (history_of after) from ≡ new_text job (length (kept_of bytes)) (history_of run) =
-        ended_text job (history_of run) modes count from after has_ended kept ∙ ap (λ k. new_text job k (history_of run)) kept_is in
+        ended_text job (history_of run) from after has_ended kept ∙ ap (λ k. new_text job k (history_of run)) kept_is in
         answers (λ given. done (ending job bytes (history_of run))) (lent work rows journal drops) _ _
         (same_answer (weighs ∙ ap (run_weight job) gone.merges) (totalled ∙ trials_are) kept_is (lines_put.0 ∙ ap length text))
         (same_lent (work_put ∙ cleared) (rows_put ∙ ap (λ h. written_at 0 (flatpack job.modes h) rows) gone.merges)

@@ -1,16 +1,15 @@
 // What is written of a run: the header if nothing was kept, and a line for each merge that was not kept.
-ghost use Rattle.std.specs.Prelude.{◌≡◌, List, ℕ, ◌+◌, ◌≤◌, ◌<◌, length};
+ghost use Rattle.std.specs.Prelude.{◌≡◌, List, ℕ, ◌+◌, ◌≤◌, length};
 ghost use Rattle.lists.specs.Written.{written_at};
 ghost use Rattle.terms.specs.Job.{Job};
 ghost use Rattle.merging.specs.code.State.{history_of};
+ghost use Rattle.merging.specs.code.Runs.{Holds};
 ghost use Rattle.journal.specs.Writing.{header_behind};
-ghost use Rattle.obeying.specs.code.Sized.{Sized};
 ghost use Rattle.journal.specs.code.NewLines.{noted_line, noted_from, noted_behind, StepFits, StepsFit, TextFits};
 
 use crate::writing;
 use merging::asked;
 use merging::run::Run;
-use terms::rules::Rule;
 
 // The line of one step written at this place; the place after it.
 fn put_step(run: Run, step: usize, journal: &mut [u8], at: usize) -> usize
@@ -34,30 +33,28 @@ fn put_steps(run: Run, from: usize, journal: &mut [u8], start: usize) -> usize
     at
 }
 
-// The header, if nothing was kept; how many bytes it has.
-fn put_first(rule: Rule, modes: usize, count: usize, kept: usize, journal: &mut [u8]) -> usize
-    requires modes_bound { (modes < 65536) × (count < 65536) }
-    requires sized { (job : Job) × (Sized job modes count × ((job.rule ≡ rule) × (length (header_behind job kept) ≤ length journal.old))) }
-    ensures { (job : Job) → Sized job modes count → job.rule ≡ rule → (result ≡ length (header_behind job kept)) × (journal.new ≡ written_at 0 (header_behind job kept) journal.old) }
+// The header of the run's job, if nothing was kept; how many bytes it has.
+fn put_first(run: Run, kept: usize, journal: &mut [u8]) -> usize
+    requires { (job : Job) × ((own : List ℕ) × (Holds job own run × (length (header_behind job kept) ≤ length journal.old))) }
+    ensures { (job : Job) (own : List ℕ) → Holds job own run → (result ≡ length (header_behind job kept)) × (journal.new ≡ written_at 0 (header_behind job kept) journal.old) }
 {
     if kept != 0 {
         return 0;
     }
-    writing::put_header(journal, rule, modes as u16, count as u16)
+    let modes = asked::modes(run) as u16;
+    writing::put_header(
+        journal,
+        asked::rule_of(run),
+        modes,
+        asked::count(run) as u16,
+    )
 }
 
 // The lines of a run's merges from one on, behind the header if nothing was kept, written over the front; how many bytes that is.
-pub fn write_new(
-    run: Run,
-    modes: usize,
-    count: usize,
-    from: usize,
-    kept: usize,
-    journal: &mut [u8],
-) -> usize
-    requires { (job : Job) × ((own : List ℕ) × TextFits job own run modes count from kept (length journal.old)) }
-    ensures { (job : Job) (own : List ℕ) → TextFits job own run modes count from kept (length journal.old) → (result ≡ length (noted_behind job kept (history_of run) from)) × (journal.new ≡ written_at 0 (noted_behind job kept (history_of run) from) journal.old) }
+pub fn write_new(run: Run, from: usize, kept: usize, journal: &mut [u8]) -> usize
+    requires { (job : Job) × ((own : List ℕ) × TextFits job own run from kept (length journal.old)) }
+    ensures { (job : Job) (own : List ℕ) → TextFits job own run from kept (length journal.old) → (result ≡ length (noted_behind job kept (history_of run) from)) × (journal.new ≡ written_at 0 (noted_behind job kept (history_of run) from) journal.old) }
 {
-    let start = put_first(asked::rule_of(run), modes, count, kept, journal);
+    let start = put_first(run, kept, journal);
     put_steps(run, from, journal, start)
 }

@@ -1,9 +1,10 @@
 // The calls `hatt` and `resume`: a journal obeyed, the run that goes on from it, and what it leaves in the lent slices.
-ghost use Rattle.std.specs.Prelude.{◌≡◌, true, List, ℕ, ◌≤◌, length, Ok};
-ghost use Rattle.entities.specs.Limits.{most_modes, most_terms};
+ghost use Rattle.std.specs.Prelude.{◌≡◌, true, List, ℕ, length, Ok};
+ghost use Rattle.entities.specs.Limits.{most_modes};
 ghost use Rattle.fields.specs.Lines.{kept_of};
 ghost use Rattle.terms.specs.code.Held.{Spread};
-ghost use Rattle.terms.specs.Job.{Job, job_of};
+ghost use Rattle.terms.specs.code.Sized.{job_sized};
+ghost use Rattle.terms.specs.Job.{Job};
 ghost use Rattle.terms.specs.Good.{checked};
 ghost use Rattle.merging.specs.code.State.{history_of};
 ghost use Rattle.obeying.specs.Obeying.{obeyed};
@@ -17,6 +18,7 @@ use history::trials;
 use merging::asked;
 use merging::run::Run;
 use refusal::Refusal;
+use terms::job::JobSize;
 use terms::rules::Rule;
 use terms::{checking, counted, row, slices};
 
@@ -32,27 +34,25 @@ pub struct Numbers {
 // The steps that are left, in the lent work, and then the rows, the drops, the new lines and the zeros; nothing can refuse any more.
 fn finish_run(
     run: Run,
-    modes: usize,
-    count: usize,
     kept: usize,
     work: &mut [u16],
     rows: &mut [u16],
     journal: &mut [u8],
     drops: &mut [u16],
 ) -> Result<Numbers, Refusal>
-    requires { (job : Job) × Finishing job run modes count (lent work.old rows.old journal.old drops.old) }
-    ensures { (job : Job) (bytes : List ℕ) → Finishing job run modes count (lent work.old rows.old journal.old drops.old) → kept ≡ length (kept_of bytes) → Answers (λ given. done (ending job bytes (history_of run)))
+    requires { (job : Job) × Finishing job run (lent work.old rows.old journal.old drops.old) }
+    ensures { (job : Job) (bytes : List ℕ) → Finishing job run (lent work.old rows.old journal.old drops.old) → kept ≡ length (kept_of bytes) → Answers (λ given. done (ending job bytes (history_of run)))
         (lent work.old rows.old journal.old drops.old) (lent work.new rows.new journal.new drops.new) result }
 {
     let from = asked::merges(run);
     let end = run.finished(work);
     flatpack::write_flatpack(end, rows);
     asked::put_drops(end, drops);
-    let new = new_lines::write_new(end, modes, count, from, kept, journal);
-    slices::clear_front(work, row::WORK_WIDTH * count);
+    let new = new_lines::write_new(end, from, kept, journal);
+    slices::clear_front(work, row::WORK_WIDTH * asked::count(run));
     Ok(Numbers {
         weight: asked::greedy_weight(end) as u64,
-        trials: trials::trial_total(modes - from),
+        trials: trials::trial_total(asked::modes(run) - from),
         kept: kept,
         new: new,
     })
@@ -61,8 +61,6 @@ fn finish_run(
 // The run's own rows put into the lent work, and the run finished there.
 fn finish_lent(
     run: Run,
-    modes: usize,
-    count: usize,
     own: &[u16],
     kept: usize,
     work: &mut [u16],
@@ -70,20 +68,18 @@ fn finish_lent(
     journal: &mut [u8],
     drops: &mut [u16],
 ) -> Result<Numbers, Refusal>
-    requires { (job : Job) × FromOwn job run modes count own.now (lent work.old rows.old journal.old drops.old) }
-    ensures { (job : Job) (bytes : List ℕ) → FromOwn job run modes count own.now (lent work.old rows.old journal.old drops.old) → kept ≡ length (kept_of bytes) → Answers (λ given. done (ending job bytes (history_of run)))
+    requires { (job : Job) × FromOwn job run own.now (lent work.old rows.old journal.old drops.old) }
+    ensures { (job : Job) (bytes : List ℕ) → FromOwn job run own.now (lent work.old rows.old journal.old drops.old) → kept ≡ length (kept_of bytes) → Answers (λ given. done (ending job bytes (history_of run)))
         (lent work.old rows.old journal.old drops.old) (lent work.new rows.new journal.new drops.new) result }
 {
-    let end = row::WORK_WIDTH * count;
+    let end = row::WORK_WIDTH * asked::count(run);
     slices::put_front(&own[..end], work);
-    finish_run(run, modes, count, kept, work, rows, journal, drops)
+    finish_run(run, kept, work, rows, journal, drops)
 }
 
 // The journal obeyed on rows of the call's own, and the run that goes on from it.
 fn resume_own(
-    modes: usize,
-    rule: Rule,
-    count: usize,
+    size: JobSize,
     own: &mut [u16],
     read: &[u8],
     work: &mut [u16],
@@ -91,25 +87,20 @@ fn resume_own(
     journal: &mut [u8],
     drops: &mut [u16],
 ) -> Result<Numbers, Refusal>
-    requires le_modes { (1 ≤ modes) × (modes ≤ most_modes) × (count ≤ most_terms) }
-    requires by_index { (numbers : List ℕ) × Spread count numbers own.old }
-    requires count_value { roomy (rooms_of most_modes (lent work.old rows.old journal.old drops.old)) modes count ≡ true }
-    ensures { (numbers : List ℕ) → Spread count numbers own.old → Answers (λ given. with_journal (job_of modes rule count numbers) read.now (obeyed (job_of modes rule count numbers) read.now))
+    requires by_index { (numbers : List ℕ) × Spread size.count numbers own.old }
+    requires room { roomy (rooms_of most_modes (lent work.old rows.old journal.old drops.old)) size.modes size.count ≡ true }
+    ensures { (numbers : List ℕ) → Spread size.count numbers own.old → Answers (λ given. with_journal (job_sized size numbers) read.now (obeyed (job_sized size numbers) read.now))
         (lent work.old rows.old journal.old drops.old) (lent work.new rows.new journal.new drops.new) result }
 {
-    let obeyed = obeying::obey(modes, rule, count, own, read);
+    let obeyed = obeying::obey(size, own, read);
     obeyed.verdict?;
     let kept = lines::kept_bytes(read);
-    finish_lent(
-        obeyed.run, modes, count, own, kept, work, rows, journal, drops,
-    )
+    finish_lent(obeyed.run, own, kept, work, rows, journal, drops)
 }
 
 // A run from good terms with room for all it writes: the journal is obeyed on rows of the call's own, so that a refusal alters nothing.
 fn resume_copy(
-    modes: usize,
-    rule: Rule,
-    count: usize,
+    size: JobSize,
     terms: &[u16],
     read: &[u8],
     work: &mut [u16],
@@ -117,22 +108,18 @@ fn resume_copy(
     journal: &mut [u8],
     drops: &mut [u16],
 ) -> Result<Numbers, Refusal>
-    requires le_modes { (1 ≤ modes) × (modes ≤ most_modes) × (checked modes terms.now ≡ Ok count) }
-    requires count_value { roomy (rooms_of most_modes (lent work.old rows.old journal.old drops.old)) modes count ≡ true }
-    ensures { Answers (λ given. with_journal (job_of modes rule count terms.now) read.now (obeyed (job_of modes rule count terms.now) read.now))
+    requires checked { checked size.modes terms.now ≡ Ok size.count }
+    requires room { roomy (rooms_of most_modes (lent work.old rows.old journal.old drops.old)) size.modes size.count ≡ true }
+    ensures { Answers (λ given. with_journal (job_sized size terms.now) read.now (obeyed (job_sized size terms.now) read.now))
         (lent work.old rows.old journal.old drops.old) (lent work.new rows.new journal.new drops.new) result }
 {
-    let mut own = counted::own_rows(terms, count);
-    resume_own(
-        modes, rule, count, &mut own, read, work, rows, journal, drops,
-    )
+    let mut own = counted::own_rows(terms, size.count);
+    resume_own(size, &mut own, read, work, rows, journal, drops)
 }
 
 // Good terms: the rooms, and then the run.
 fn resume_good(
-    modes: usize,
-    rule: Rule,
-    count: usize,
+    size: JobSize,
     terms: &[u16],
     read: &[u8],
     work: &mut [u16],
@@ -140,23 +127,23 @@ fn resume_good(
     journal: &mut [u8],
     drops: &mut [u16],
 ) -> Result<Numbers, Refusal>
-    requires { (1 ≤ modes) × (modes ≤ most_modes) × (checked modes terms.now ≡ Ok count) }
-    ensures { Answers (λ given. with_terms (rooms_of most_modes given) modes rule terms.now read.now (Ok count))
+    requires { checked size.modes terms.now ≡ Ok size.count }
+    ensures { Answers (λ given. with_terms (rooms_of most_modes given) size.modes size.rule terms.now read.now (Ok size.count))
         (lent work.old rows.old journal.old drops.old) (lent work.new rows.new journal.new drops.new) result }
 {
-    if work.len() < row::WORK_WIDTH * count {
+    if work.len() < row::WORK_WIDTH * size.count {
         return Err(Refusal::Room);
     }
-    if rows.len() < 4 * modes {
+    if rows.len() < 4 * size.modes {
         return Err(Refusal::Room);
     }
-    if journal.len() < 16 + 21 * modes {
+    if journal.len() < 16 + 21 * size.modes {
         return Err(Refusal::Room);
     }
-    if drops.len() < modes {
+    if drops.len() < size.modes {
         return Err(Refusal::Room);
     }
-    resume_copy(modes, rule, count, terms, read, work, rows, journal, drops)
+    resume_copy(size, terms, read, work, rows, journal, drops)
 }
 
 // The run by this rule that a journal leads to, from its last complete line to the end.
@@ -177,7 +164,8 @@ pub fn resume(
     checking::check_modes(modes)?;
     let rule = Rule::try_from(rule)?;
     let count = checking::check_terms(modes, terms)?;
-    resume_good(modes, rule, count, terms, read, work, rows, journal, drops)
+    let size = JobSize { modes, rule, count };
+    resume_good(size, terms, read, work, rows, journal, drops)
 }
 
 // An unbroken run by this rule: resuming from an empty journal.

@@ -1,13 +1,14 @@
 -- The run that an accepted journal leads to, brought to its end, and what the command makes of it.
 use Rattle.std.specs.Prelude.{Err, Ok}
-use mathlib.Core.Path.{◌≡◌, refl, sym, ◌∙◌, ap}
+use mathlib.Core.Path.{◌≡◌, sym, ◌∙◌, ap}
 use mathlib.Core.List.{List}
 use Prim.Native.Nat.{ℕ}
 use lib.ListN.{length}
-use Rattle.terms.specs.declared.rules.Rule.{Rule}
+use Rattle.terms.specs.declared.job.JobSize.{JobSize}
+use Rattle.terms.specs.code.Sized.{job_sized}
 use Rattle.refusal.specs.declared.Refusal.{Refusal}
 use Rattle.entities.specs.declared.Triple.{Triple}
-use Rattle.terms.specs.Job.{Job, job_of}
+use Rattle.terms.specs.Job.{Job}
 use Rattle.terms.specs.code.Held.{Spread}
 use Rattle.terms.proofs.RowSteps.{length_terms}
 use Rattle.history.specs.Drops.{counted_after}
@@ -23,21 +24,19 @@ use Rattle.letters_text.specs.Lettering.{asked, refuses, lettered_at, lettered_a
 use Rattle.letters_text.specs.code.Replaying.{Finished}
 
 -- Finished on rows of its own, while other numbers begin with the work rows of the same terms.
-module _ (modes : ℕ) (rule : Rule) (count : ℕ) (numbers again now_own end_own : List ℕ) (run end : Run) where
-  pub run_finished : Holds (job_of modes rule count numbers) now_own run
-      → Went (job_of modes rule count numbers) (finished (job_of modes rule count numbers) (history_of run)) now_own end end_own
-      → Spread count numbers again → Finished (job_of modes rule count numbers) end_own end modes count again
+module _ (size : JobSize) (numbers again now_own end_own : List ℕ) (run end : Run) where
+  pub run_finished : Holds (job_sized size numbers) now_own run
+      → Went (job_sized size numbers) (finished (job_sized size numbers) (history_of run)) now_own end end_own
+      → Spread size.count numbers again → Finished (job_sized size numbers) end_own end again
   unfolding counted_after
   run_finished holds went spread =
-      let job = job_of modes rule count numbers in
+      let job = job_sized size numbers in
       record {
         holds = went.holds;
-        modes_are = refl;
-        count_is = length_terms 8 count numbers;
         all =
             ap length went.merges
             ∙ finished_length job (history_of run) (merges_lawful job now_own run holds) (merges_within job now_own run holds);
-        rows_are = record { held = rw (length_terms 8 count numbers) spread.held; rows_are = rw (length_terms 8 count numbers) spread.rows_are };
+        rows_are = record { held = rw (length_terms 8 size.count numbers) spread.held; rows_are = rw (length_terms 8 size.count numbers) spread.rows_are };
       }
 
 module _ (job : Job) (word : List ℕ) (answer : Obeyed) where

@@ -1,9 +1,9 @@
 // The answer of `letters` to the text of terms, a journal and a step, from bytes to bytes: which letter each live row gets there.
 #![tactic(auto)]
 
-ghost use Rattle.std.specs.Prelude.{◌≡◌, List, ℕ, ◌≤◌, ◌<◌, Ok};
-ghost use Rattle.entities.specs.Limits.{most_modes, most_terms};
-ghost use Rattle.terms.specs.Job.{Job, job_of};
+ghost use Rattle.std.specs.Prelude.{◌≡◌, List, ℕ, ◌<◌, Ok};
+ghost use Rattle.terms.specs.Job.{Job};
+ghost use Rattle.terms.specs.code.Sized.{job_sized};
 ghost use Rattle.terms.specs.Good.{checked};
 ghost use Rattle.terms.specs.code.Held.{Spread};
 ghost use Rattle.merging.specs.code.State.{history_of};
@@ -18,6 +18,7 @@ ghost use Rattle.letters_text.specs.code.Replaying.{Finished};
 use merging::asked;
 use merging::run::Run;
 use refusal::Refusal;
+use terms::job::JobSize;
 use terms::rules::Rule;
 use terms::{counted, row};
 use terms_text::jobs;
@@ -28,78 +29,60 @@ mod row_lines;
 mod steps;
 
 // The lines of a step of a finished run printed over the front, from the work rows of the job's terms.
-fn put_step(
-    run: Run,
-    modes: usize,
-    count: usize,
-    rows: &mut [u16],
-    step: usize,
-    out: &mut [u8; 16384],
-) -> usize
-    requires { (job : Job) × ((own : List ℕ) × (Finished job own run modes count rows.old × (step < modes))) }
-    ensures { (job : Job) (own : List ℕ) → Finished job own run modes count rows.old → Puts (letters_printed (shows (step_lines job (history_of run) step))) out.old out.new result }
+fn put_step(run: Run, rows: &mut [u16], step: usize, out: &mut [u8; 16384]) -> usize
+    requires { (job : Job) × ((own : List ℕ) × (Finished job own run rows.old × (step < job.modes))) }
+    ensures { (job : Job) (own : List ℕ) → Finished job own run rows.old → Puts (letters_printed (shows (step_lines job (history_of run) step))) out.old out.new result }
 {
     let triple = asked::merge_of(run, step);
-    replay::rows_before(run, modes, count, rows, step);
-    row_lines::put_letters(rows, count, triple, out)
+    replay::rows_before(run, rows, step);
+    row_lines::put_letters(rows, asked::count(run), triple, out)
 }
 
 // The lines of the step that a word asks for, or how many steps there are.
-fn put_asked(
-    run: Run,
-    modes: usize,
-    count: usize,
-    rows: &mut [u16],
-    word: &[u8],
-    out: &mut [u8; 16384],
-) -> usize
-    requires { (job : Job) × ((own : List ℕ) × Finished job own run modes count rows.old) }
-    ensures { (job : Job) (own : List ℕ) → Finished job own run modes count rows.old → Puts (letters_printed (lettered_at job (history_of run) (step_asked job.modes word.now))) out.old out.new result }
+fn put_asked(run: Run, rows: &mut [u16], word: &[u8], out: &mut [u8; 16384]) -> usize
+    requires { (job : Job) × ((own : List ℕ) × Finished job own run rows.old) }
+    ensures { (job : Job) (own : List ℕ) → Finished job own run rows.old → Puts (letters_printed (lettered_at job (history_of run) (step_asked job.modes word.now))) out.old out.new result }
 {
+    let modes = asked::modes(run);
     match steps::asked_step(word, modes) {
-        Some(step) => put_step(run, modes, count, rows, step, out),
+        Some(step) => put_step(run, rows, step, out),
         None => output::put_value(out, 0, b"steps\t", modes as u64),
     }
 }
 
 // A journal obeyed on the work rows of the terms, the run finished there, and the answer printed over the front from such rows again.
 fn letters_own(
-    modes: usize,
-    rule: Rule,
-    count: usize,
+    size: JobSize,
     own: &mut [u16],
     again: &mut [u16],
     read: &[u8],
     word: &[u8],
     out: &mut [u8; 16384],
 ) -> usize
-    requires le_modes { (1 ≤ modes) × (modes ≤ most_modes) × (count ≤ most_terms) }
-    requires by_index { (numbers : List ℕ) × (Spread count numbers own.old × Spread count numbers again.old) }
-    ensures { (numbers : List ℕ) → Spread count numbers own.old → Spread count numbers again.old → Puts (letters_printed (lettered_after (job_of modes rule count numbers) word.now (obeyed (job_of modes rule count numbers) read.now))) out.old out.new result }
+    requires { (numbers : List ℕ) × (Spread size.count numbers own.old × Spread size.count numbers again.old) }
+    ensures { (numbers : List ℕ) → Spread size.count numbers own.old → Spread size.count numbers again.old → Puts (letters_printed (lettered_after (job_sized size numbers) word.now (obeyed (job_sized size numbers) read.now))) out.old out.new result }
 {
-    let obeyed = obeying::obey(modes, rule, count, own, read);
+    let obeyed = obeying::obey(size, own, read);
     match obeyed.verdict {
-        Ok(_) => put_asked(obeyed.run.finished(own), modes, count, again, word, out),
+        Ok(_) => put_asked(obeyed.run.finished(own), again, word, out),
         Err(why) => output::put_refusal(out, why),
     }
 }
 
 // The same of good terms: their work rows twice, since the journal's run ends in the first.
 fn letters_job(
-    modes: usize,
-    rule: Rule,
-    count: usize,
+    size: JobSize,
     terms: &[u16],
     read: &[u8],
     word: &[u8],
     out: &mut [u8; 16384],
 ) -> usize
-    requires { (1 ≤ modes) × (modes ≤ most_modes) × (checked modes terms.now ≡ Ok count) }
-    ensures { Puts (letters_printed (lettered_after (job_of modes rule count terms.now) word.now (obeyed (job_of modes rule count terms.now) read.now))) out.old out.new result }
+    requires { checked size.modes terms.now ≡ Ok size.count }
+    ensures { Puts (letters_printed (lettered_after (job_sized size terms.now) word.now (obeyed (job_sized size terms.now) read.now))) out.old out.new result }
 {
-    let mut own = counted::own_rows(terms, count);
-    let mut again = counted::own_rows(terms, count);
-    letters_own(modes, rule, count, &mut own, &mut again, read, word, out)
+    let mut own = counted::own_rows(terms, size.count);
+    let mut again = counted::own_rows(terms, size.count);
+    letters_own(size, &mut own, &mut again, read, word, out)
 }
 
 // The same for a text's terms, in lent room for their numbers.
@@ -113,11 +96,11 @@ fn print_letters(
 ) -> usize
     ensures { Puts (letters_text program_rooms (request rule input.now) read.now word.now) out.old out.new result }
 {
-    match jobs::read_job(input, numbers) {
+    match jobs::read_job(rule, input, numbers) {
         Err(why) => output::put_refusal(out, why),
-        Ok(job) => {
-            let end = row::WIDTH * job.count;
-            letters_job(job.modes, rule, job.count, &numbers[..end], read, word, out)
+        Ok(size) => {
+            let end = row::WIDTH * size.count;
+            letters_job(size, &numbers[..end], read, word, out)
         }
     }
 }

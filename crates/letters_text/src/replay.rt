@@ -10,13 +10,15 @@ use merging::asked;
 use merging::run::Run;
 
 // The work rows of the job's terms become its rows before a step of the run.
-pub fn rows_before(run: Run, modes: usize, count: usize, rows: &mut [u16], step: usize)
-    requires { (job : Job) × ((own : List ℕ) × (Finished job own run modes count rows.old × (step ≤ modes))) }
-    ensures { (job : Job) (own : List ℕ) → Finished job own run modes count rows.old → RowsAre job (history_before (history_of run) step) rows.new }
+pub fn rows_before(run: Run, rows: &mut [u16], step: usize)
+    requires { (job : Job) × ((own : List ℕ) × (Finished job own run rows.old × (step ≤ job.modes))) }
+    ensures { (job : Job) (own : List ℕ) → Finished job own run rows.old → RowsAre job (history_before (history_of run) step) rows.new }
 {
+    let modes = asked::modes(run);
+    let count = asked::count(run);
+    let rule = asked::rule_of(run);
     for at in 0..step {
         let parent = parents::parent_number(modes, at);
-        let rule = asked::rule_of(run);
         reduction::reduce_hamiltonian(rows, count, rule, parent, asked::merge_of(run, at));
     }
 }

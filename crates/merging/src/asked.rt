@@ -22,6 +22,20 @@ pub fn merges(run: Run) -> usize
     run.step
 }
 
+// How many modes its job has.
+pub fn modes(run: Run) -> usize
+    ensures { (job : Job) (rows : List ℕ) → Holds job rows run → result ≡ job.modes }
+{
+    run.modes
+}
+
+// How many rows its job has.
+pub fn count(run: Run) -> usize
+    ensures { (job : Job) (rows : List ℕ) → Holds job rows run → result ≡ length job.terms }
+{
+    run.count
+}
+
 // The rule by which it reduces its rows.
 pub fn rule_of(run: Run) -> Rule
     ensures { (job : Job) (rows : List ℕ) → Holds job rows run → result ≡ job.rule }

@@ -1,9 +1,10 @@
 // The state of a run, the merge, and the steps to the end.
 ghost use Rattle.std.specs.Prelude.{◌≡◌, List, [], ◌∷◌, ℕ, ◌+◌, ◌*◌, ◌≤◌, ◌<◌, get_or};
 ghost use Rattle.lists.specs.Ranges.{listed};
-ghost use Rattle.entities.specs.Limits.{most_modes, most_terms, entity_room};
+ghost use Rattle.entities.specs.Limits.{most_modes, entity_room};
 ghost use Rattle.terms.specs.code.Held.{Spread};
-ghost use Rattle.terms.specs.Job.{Job, job_of};
+ghost use Rattle.terms.specs.code.Sized.{job_sized};
+ghost use Rattle.terms.specs.Job.{Job};
 ghost use Rattle.history.specs.History.{is_open};
 ghost use Rattle.history.specs.computed.Choosing.{chosen};
 ghost use Rattle.history.specs.computed.Greedy.{finished as finished_from};
@@ -15,6 +16,7 @@ use choosing::entity_tables::Tables;
 use entities::{Triple, parents};
 use reduction::live_rows;
 use std::array;
+use terms::job::JobSize;
 use terms::rules::Rule;
 
 // What a run holds: its modes, its rule and how many rows it has, the tables of the entities, and every merge, its weight and how many input rows
@@ -49,19 +51,18 @@ fn leaves(modes: usize) -> [bool; 769]
     opens
 }
 
-// The state before the first step, of so many modes and rows, by this rule.
-pub fn fresh(modes: usize, rule: Rule, count: usize) -> Run
-    requires { (1 ≤ modes) × (modes ≤ most_modes) × (count ≤ most_terms) }
-    ensures { (numbers rows : List ℕ) → Spread count numbers rows → Holds (job_of modes rule count numbers) rows result × (history_of result ≡ []) }
+// The state before the first step of a job of this size.
+pub fn fresh(size: JobSize) -> Run
+    ensures { (numbers rows : List ℕ) → Spread size.count numbers rows → Holds (job_sized size numbers) rows result × (history_of result ≡ []) }
 {
     Run {
-        modes,
-        rule,
+        modes: size.modes,
+        rule: size.rule,
         step: 0,
-        count,
+        count: size.count,
         weight: 0,
         tables: Tables {
-            opens: leaves(modes),
+            opens: leaves(size.modes),
             ends: identity(),
             holders: identity(),
         },

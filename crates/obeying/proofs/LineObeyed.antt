@@ -8,7 +8,7 @@ use Prim.Native.Nat.{ℕ}
 use borrow.Author.Tests.{eq-eqb, ne_eqb}
 use Rattle.refusal.specs.declared.Refusal.{Refusal}
 use Rattle.refusal.specs.declared.Refusal.TheVariants.{LineForm, Header as OtherHeader}
-use Rattle.terms.specs.declared.rules.Rule.{Rule}
+use Rattle.terms.specs.declared.job.JobSize.{JobSize}
 use Rattle.terms.specs.Rules.{rule_number}
 use Rattle.terms.specs.Job.{Job}
 use Rattle.merging.specs.declared.run.Run.{Run}
@@ -17,7 +17,7 @@ use Rattle.merging.specs.code.Runs.{Holds, Ready, Went}
 use Rattle.merging.proofs.Runs.{went_nowhere, went_here, ready}
 use Rattle.obeying.specs.declared.merge_line.MergeLine.{MergeLine}
 use Rattle.obeying.specs.Obeying.{Obeyed, went, refused, judged_line, obeyed_as, obeyed_next, obeyed_header}
-use Rattle.obeying.specs.code.Sized.{Sized}
+use Rattle.terms.specs.code.Sized.{Sized}
 use Rattle.obeying.specs.code.Obeys.{obeying, came_to, Obeys}
 use Rattle.obeying.proofs.LineJudged.{says_next}
 
@@ -50,28 +50,28 @@ module _ (job : Job) (rows : List ℕ) (run : Run) (holds : Holds job rows run) 
       line_made after now_rows gone =
           record { comes_to = rw (← judged) (ap went gone.merges); went = went_here job _ after rows now_rows gone }
 
-module _ (job : Job) (modes count : ℕ) (sized : Sized job modes count) (rule : Rule) (ruled : job.rule ≡ rule) where
+module _ (job : Job) (size : JobSize) (sized : Sized job size) where
   pub header_broken : (found : Option HeaderLine) → found ≡ None → came_to (Err (LineForm 0)) [] ≡ obeyed_header job found
   unfolding came_to obeyed_header
   header_broken found e = rw e
 
   module _ (said : HeaderLine) (found : Option HeaderLine) (says : found ≡ Some said) where
-    pub other_rule : (rule_number said.rule ≡ rule_number rule → ⊥) → came_to (Err OtherHeader) [] ≡ obeyed_header job found
+    pub other_rule : (rule_number said.rule ≡ rule_number size.rule → ⊥) → came_to (Err OtherHeader) [] ≡ obeyed_header job found
     unfolding came_to obeyed_header
-    other_rule other = rw (says, ruled, ne_eqb _ _ other)
+    other_rule other = rw (says, sized.rule_is, ne_eqb _ _ other)
 
-    module _ (same_rule : rule_number said.rule ≡ rule_number rule) where
-      pub other_modes : (said.modes ≡ modes → ⊥) → came_to (Err OtherHeader) [] ≡ obeyed_header job found
+    module _ (same_rule : rule_number said.rule ≡ rule_number size.rule) where
+      pub other_modes : (said.modes ≡ size.modes → ⊥) → came_to (Err OtherHeader) [] ≡ obeyed_header job found
       unfolding came_to obeyed_header
-      other_modes other = rw (says, ruled, eq-eqb _ _ same_rule, sized.modes_are, ne_eqb _ _ other)
+      other_modes other = rw (says, sized.rule_is, eq-eqb _ _ same_rule, sized.modes_are, ne_eqb _ _ other)
 
-      module _ (same : said.modes ≡ modes) where
-        pub other_terms : (said.terms ≡ count → ⊥) → came_to (Err OtherHeader) [] ≡ obeyed_header job found
+      module _ (same : said.modes ≡ size.modes) where
+        pub other_terms : (said.terms ≡ size.count → ⊥) → came_to (Err OtherHeader) [] ≡ obeyed_header job found
         unfolding came_to obeyed_header
         other_terms other =
-            rw (says, ruled, eq-eqb _ _ same_rule, sized.modes_are, eq-eqb _ _ same, sized.count_is, ne_eqb _ _ other)
+            rw (says, sized.rule_is, eq-eqb _ _ same_rule, sized.modes_are, eq-eqb _ _ same, sized.count_is, ne_eqb _ _ other)
 
-        pub same_header : said.terms ≡ count → came_to (Ok tt) [] ≡ obeyed_header job found
+        pub same_header : said.terms ≡ size.count → came_to (Ok tt) [] ≡ obeyed_header job found
         unfolding came_to obeyed_header
         same_header counted =
-            rw (says, ruled, eq-eqb _ _ same_rule, sized.modes_are, eq-eqb _ _ same, sized.count_is, eq-eqb _ _ counted)
+            rw (says, sized.rule_is, eq-eqb _ _ same_rule, sized.modes_are, eq-eqb _ _ same, sized.count_is, eq-eqb _ _ counted)

@@ -1,4 +1,3 @@
 -- How the code obeys lines: no promise needs it.
 pub mod Openings
-pub mod Sized
 pub mod Obeys

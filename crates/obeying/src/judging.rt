@@ -41,18 +41,12 @@ fn judge_merge(run: Run, rows: &[u16], said: MergeLine, line: usize) -> Result<M
 }
 
 // One line after a run; a line after the last merge is refused unread.
-pub fn judge_line(
-    run: Run,
-    modes: usize,
-    rows: &[u16],
-    bytes: &[u8],
-    by_hand: bool,
-) -> Result<MergeLine, Refusal>
+pub fn judge_line(run: Run, rows: &[u16], bytes: &[u8], by_hand: bool) -> Result<MergeLine, Refusal>
     requires { (job : Job) × Holds job rows.now run }
-    ensures { (job : Job) → Holds job rows.now run → job.modes ≡ modes → result ≡ judged_line by_hand job (history_of run) bytes.now }
+    ensures { (job : Job) → Holds job rows.now run → result ≡ judged_line by_hand job (history_of run) bytes.now }
 {
     let line = line_after(run, rows);
-    if modes <= asked::merges(run) {
+    if asked::modes(run) <= asked::merges(run) {
         return Err(Refusal::LineAfterLast(line));
     }
     let said = by_hand::read_said(run, rows, bytes, by_hand).ok_or(Refusal::LineForm(line))?;

@@ -17,7 +17,6 @@ use Rattle.merging.specs.code.State.{history_of}
 use Rattle.merging.specs.code.Runs.{Holds}
 use Rattle.merging.proofs.Runs.{merges_within, merges_lawful}
 use Rattle.obeying.specs.Obeying.{line_after, Obeyed, went}
-use Rattle.obeying.specs.code.Sized.{Sized}
 use Rattle.obeying.specs.code.Obeys.{came_to}
 use Rattle.journal.specs.Writing.{journal_text}
 use Rattle.journal.specs.code.NewLines.{noted_behind, TextFits}
@@ -46,7 +45,7 @@ module _ (job : Job) (merges : List ℕ) where
     fine_steered made comes = rw (sym comes)
 
 -- A run's journal fits where the longest does, and is what is written.
-module _ (job : Job) (own : List ℕ) (run : Run) (modes count : ℕ) (holds : Holds job own run) (sized : Sized job modes count) where
+module _ (job : Job) (own : List ℕ) (run : Run) (holds : Holds job own run) where
   journal_short : length (journal_text job (history_of run)) ≤ 5392
   journal_short =
       omega (
@@ -56,13 +55,10 @@ module _ (job : Job) (own : List ℕ) (run : Run) (modes count : ℕ) (holds : H
             (merges_within job own run holds),
       )
 
-  pub text_fits : (room : ℕ) → 5392 ≤ room → TextFits job own run modes count 0 0 room
+  pub text_fits : (room : ℕ) → 5392 ≤ room → TextFits job own run 0 0 room
   text_fits room enough =
       record {
         holds = holds;
-        sized = sized;
-        few = omega (arith, holds.few, sized.modes_are);
-        light = omega (arith, holds.light, sized.count_is);
         begun = omega arith;
         fits = rw (journal_noted job (history_of run)) (omega (arith, journal_short));
       }

@@ -39,8 +39,6 @@ use Rattle.fields.specs.Decimal.{decimal}
 use Rattle.fields.specs.Fields.{tabbed}
 use Rattle.terms.specs.Job.{Job}
 use Rattle.history.specs.Choice.{weight_in}
-use Rattle.merging.specs.declared.run.Run.{Run}
-use Rattle.merging.specs.code.State.{history_of}
 use Rattle.obeying.specs.Obeying.{Obeyed, refused}
 use Rattle.obeying.specs.code.Obeys.{came_to}
 use Rattle.text.specs.Output.{line_of}

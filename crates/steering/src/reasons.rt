@@ -1,8 +1,8 @@
 // What a refused line of a journal lacks, for whoever has to mend it.
-ghost use Rattle.std.specs.Prelude.{◌≡◌, List, ℕ, ◌≤◌};
+ghost use Rattle.std.specs.Prelude.{◌≡◌, List, ℕ};
 ghost use Rattle.refusal.specs.Numbers.{number_of};
-ghost use Rattle.entities.specs.Limits.{most_modes, most_terms};
-ghost use Rattle.terms.specs.Job.{Job, job_of};
+ghost use Rattle.terms.specs.Job.{Job};
+ghost use Rattle.terms.specs.code.Sized.{job_sized};
 ghost use Rattle.terms.specs.code.Held.{Spread};
 ghost use Rattle.merging.specs.code.State.{history_of};
 ghost use Rattle.merging.specs.code.Runs.{Holds};
@@ -19,6 +19,7 @@ use merging::asked;
 use merging::run::Run;
 use obeying::merge_line;
 use refusal::Refusal;
+use terms::job::JobSize;
 use terms::rules::Rule;
 use terms::{counted, row};
 use terms_text::jobs;
@@ -68,19 +69,11 @@ fn put_refused(run: Run, rows: &[u16], why: Refusal, read: &[u8], out: &mut [u8;
 }
 
 // A journal obeyed on the work rows of good terms, and what its refused line lacks.
-fn reason_job(
-    modes: usize,
-    rule: Rule,
-    count: usize,
-    rows: &mut [u16],
-    read: &[u8],
-    out: &mut [u8; 16384],
-) -> usize
-    requires le_modes { (1 ≤ modes) × (modes ≤ most_modes) × (count ≤ most_terms) }
-    requires by_index { (numbers : List ℕ) × Spread count numbers rows.old }
-    ensures { (numbers : List ℕ) → Spread count numbers rows.old → Puts (reason_in (job_of modes rule count numbers) read.now (obeyed (job_of modes rule count numbers) read.now)) out.old out.new result }
+fn reason_job(size: JobSize, rows: &mut [u16], read: &[u8], out: &mut [u8; 16384]) -> usize
+    requires { (numbers : List ℕ) × Spread size.count numbers rows.old }
+    ensures { (numbers : List ℕ) → Spread size.count numbers rows.old → Puts (reason_in (job_sized size numbers) read.now (obeyed (job_sized size numbers) read.now)) out.old out.new result }
 {
-    let obeyed = obeying::obey(modes, rule, count, rows, read);
+    let obeyed = obeying::obey(size, rows, read);
     match obeyed.verdict {
         Ok(_) => 0,
         Err(why) => put_refused(obeyed.run, rows, why, read, out),
@@ -97,12 +90,12 @@ fn print_reason(
 ) -> usize
     ensures { Puts (reason_text program_rooms (request rule input.now) read.now) out.old out.new result }
 {
-    match jobs::read_job(input, numbers) {
+    match jobs::read_job(rule, input, numbers) {
         Err(_) => 0,
-        Ok(job) => {
-            let end = row::WIDTH * job.count;
-            let mut own = counted::own_rows(&numbers[..end], job.count);
-            reason_job(job.modes, rule, job.count, &mut own, read, out)
+        Ok(size) => {
+            let end = row::WIDTH * size.count;
+            let mut own = counted::own_rows(&numbers[..end], size.count);
+            reason_job(size, &mut own, read, out)
         }
     }
 }

@@ -3,6 +3,7 @@
 
 pub mod checking;
 pub mod counted;
+pub mod job;
 pub mod letters;
 pub mod row;
 pub mod rules;

@@ -11,9 +11,9 @@ use Rattle.refusal.specs.declared.Refusal.TheVariants.{Malformed}
 use Rattle.refusal.specs.Numbers.{number_of}
 use Rattle.entities.specs.Limits.{most_modes}
 use Rattle.terms.specs.declared.rules.Rule.{Rule}
+use Rattle.terms.specs.declared.job.JobSize.{JobSize}
 use Rattle.terms.proofs.GoodTerms.{accepted}
 use Rattle.terms_text.specs.Input.{Said, given, malformed, said}
-use Rattle.terms_text.specs.declared.Given.{Given}
 use Rattle.terms_text.specs.Jobs.{Request, JobSaid, no_job, counted, job_with, job_by, job_said}
 use Rattle.terms_text.specs.code.JobsRead.{JobRead, ReadsJob}
 use Rattle.terms_text.proofs.JobCounted.{counted_good, counted_refusal}
@@ -24,29 +24,31 @@ module _ (rule : Rule) (modes : ℕ) (numbers : List ℕ) where
   reads_bad why e = rw e
 
   pub reads_good : (count : ℕ) → counted most_modes modes numbers ≡ Ok count
-      → JobRead rule (job_by most_modes rule (given modes numbers)) numbers (record { modes = modes; count = count })
+      → (size : JobSize) → size.modes ≡ modes → size.rule ≡ rule → size.count ≡ count
+      → JobRead (job_by most_modes rule (given modes numbers)) numbers size
   unfolding job_by job_with
-  reads_good count e =
+  reads_good count e size modes_are rule_is count_is =
       let good = counted_good most_modes modes numbers count e in
       let whole = (accepted modes numbers count good.2).whole in
       let all : take (8 * count) numbers ≡ numbers = take_all (8 * count) numbers (omega (arith, whole)) in
       record {
-        within = omega (arith, whole);
-        fits = rw all (record { some = good.0; few = good.1; good = good.2 });
-        is = rw (all, e);
+        within = rw count_is (omega (arith, whole));
+        good = rw (modes_are, count_is, all) good.2;
+        is = rw (modes_are, rule_is, count_is, all, e);
       }
 
 -- The job of the front of some numbers is that of the numbers.
-pub reads_front : (rule : Rule) (meant : JobSaid) (numbers : List ℕ) (end : ℕ) (r : Result Given Refusal) → end ≤ length numbers → ReadsJob rule meant (take end numbers) r → ReadsJob rule meant numbers r
-reads_front rule meant numbers end (Ok read) within known =
+pub reads_front : (meant : JobSaid) (numbers : List ℕ) (end : ℕ) (r : Result JobSize Refusal) → end ≤ length numbers
+    → ReadsJob meant (take end numbers) r → ReadsJob meant numbers r
+reads_front meant numbers end (Ok read) within known =
     let few : 8 * read.count ≤ end = omega (arith, known.within, length-take-le end numbers within) in
     let same : take (8 * read.count) (take end numbers) ≡ take (8 * read.count) numbers = take-take (8 * read.count) end numbers few in
     record {
       within = omega (arith, few);
-      fits = rw same at known.fits;
+      good = rw same at known.good;
       is = rw same at known.is;
     }
-reads_front rule meant numbers end (Err why) within known = known
+reads_front meant numbers end (Err why) within known = known
 
 -- A text and its terms are refused by 18, or by 1 to 4: never by 5.
 pub job_not_five : (most most_terms : ℕ) (asks : Request) (why : Refusal) → job_said most most_terms asks ≡ no_job why → number_of why ≡ 5 → ⊥

@@ -10,7 +10,6 @@ use Rattle.merging.specs.declared.run.Run.{Run}
 use Rattle.merging.specs.code.State.{history_of}
 use Rattle.merging.specs.code.Runs.{Holds}
 use Rattle.journal.specs.Writing.{line_of, header_behind}
-use Rattle.obeying.specs.code.Sized.{Sized}
 
 -- The line of one step.
 unfoldable pub noted_line : Job → List Triple → ℕ → List ℕ
@@ -43,19 +42,15 @@ abbrev pub noted_behind : Job → ℕ → List Triple → ℕ → List ℕ
 noted_behind job kept history from = header_behind job kept ++ noted_from job history from
 
 -- A run whose merges from one on are to be written, and room for that.
-pub record TextFits (job : Job) (own : List ℕ) (run : Run) (modes count from kept room : ℕ) : Type 0 where
+pub record TextFits (job : Job) (own : List ℕ) (run : Run) (from kept room : ℕ) : Type 0 where
   pub holds : Holds job own run
-  pub sized : Sized job modes count
-  pub few : modes < 65536
-  pub light : count < 65536
   pub begun : from ≤ length (history_of run)
   pub fits : length (noted_behind job kept (history_of run) from) ≤ room
 
 -- A run that went on to its end by the greedy rule, from a history of so many merges.
-pub record Ended (job : Job) (history : List Triple) (modes count from : ℕ) (run : Run) : Type 0 where
+pub record Ended (job : Job) (history : List Triple) (from : ℕ) (run : Run) : Type 0 where
   pub own : List ℕ
   pub holds : Holds job own run
-  pub sized : Sized job modes count
   pub merges : history_of run ≡ finished job history
   pub from_is : length history ≡ from
-  pub within : from ≤ modes
+  pub within : from ≤ job.modes

@@ -4,21 +4,19 @@ use Rattle.letters_text.proofs.letters_job.Goals as goal
 
 pub own_rows-own-requires : goal.own_rows-own-requires
 own_rows-own-requires c =
-    let good = accepted c.args.modes c.args.terms.now c.args.count c.requires.2 in
+    let size = c.args.size in
+    let good = accepted size.modes c.args.terms.now size.count c.requires in
     (good.given, good.at_most)
 
 pub own_rows-again-requires : goal.own_rows-again-requires
 own_rows-again-requires c =
-    let good = accepted c.args.modes c.args.terms.now c.args.count c.requires.2 in
+    let size = c.args.size in
+    let good = accepted size.modes c.args.terms.now size.count c.requires in
     (good.given, good.at_most)
 
 pub letters_own-requires : goal.letters_own-requires
 letters_own-requires c =
-    let good = accepted c.args.modes c.args.terms.now c.args.count c.requires.2 in
-    record {
-      le_modes = (c.requires.0, c.requires.1, good.at_most);
-      by_index = (c.args.terms.now, (c.own_rows-own.ensures.1, c.own_rows-again.ensures.1));
-    }
+    (c.args.terms.now, (c.own_rows-own.ensures.1, c.own_rows-again.ensures.1))
 
 pub returns : goal.returns
 returns c =

@@ -7,7 +7,7 @@ use Rattle.letters_text.proofs.put_step.Goals as goal
 pub merge_of-triple-requires : goal.merge_of-triple-requires
 merge_of-triple-requires c =
     let finished = c.requires.1.1.0 in
-    (c.requires.0, (c.requires.1.0, (finished.holds, omega (arith, finished.all, finished.modes_are, c.requires.1.1.1))))
+    (c.requires.0, (c.requires.1.0, (finished.holds, omega (arith, finished.all, c.requires.1.1.1))))
 
 pub rows_before-requires : goal.rows_before-requires
 rows_before-requires c =
@@ -18,10 +18,10 @@ pub put_letters-requires : goal.put_letters-requires
 put_letters-requires c =
     let finished = c.requires.1.1.0 in
     let rows = c.rows_before.ensures c.requires.0 c.requires.1.0 finished in
-    (rw finished.count_is at rows.held, omega (arith, finished.holds.light, finished.count_is))
+    rw (c.count.ensures _ _ finished.holds) (rows.held, finished.holds.light)
 
 pub returns : goal.returns
 unfolding letters_printed step_lines
 returns c job own finished =
     let rows = c.rows_before.ensures job own finished in
-    rw (← c.merge_of-triple.ensures, ← terms_replayed job _ _ rows, finished.count_is) c.put_letters.ensures
+    rw (← c.merge_of-triple.ensures, ← terms_replayed job _ _ rows, ← c.count.ensures job own finished.holds) c.put_letters.ensures

@@ -16,9 +16,7 @@ pub record RowsAre (job : Job) (history : List Triple) (numbers : List ℕ) : Ty
   pub rows_are : counted_of (length job.terms) numbers ≡ counted_after job history
 
 -- A run of the job that has made all its merges, whatever rows it has, and numbers that begin with the work rows of the job's terms.
-pub record Finished (job : Job) (own : List ℕ) (run : Run) (modes count : ℕ) (numbers : List ℕ) : Type 0 where
+pub record Finished (job : Job) (own : List ℕ) (run : Run) (numbers : List ℕ) : Type 0 where
   pub holds : Holds job own run
-  pub modes_are : job.modes ≡ modes
-  pub count_is : length job.terms ≡ count
   pub all : length (history_of run) ≡ job.modes
   pub rows_are : RowsAre job [] numbers

@@ -19,37 +19,37 @@ said_there c =
     sym c.read_header.ensures ∙ there
 
 pub returns-then-ne : goal.returns-then-ne
-returns-then-ne c job sized ruled =
+returns-then-ne c job sized =
     let args = c.args in
-    let other : c.in_ok-said.said.rule ≡ args.rule → ⊥ = search rules in
-    other_rule job args.modes args.count sized args.rule ruled _ _ (said_there (goal.at.returns-then-ne c).In_ok-said)
-    (λ e. other (same_rule c.in_ok-said.said.rule args.rule e))
+    let other : c.in_ok-said.said.rule ≡ args.size.rule → ⊥ = search rules in
+    other_rule job args.size sized _ _ (said_there (goal.at.returns-then-ne c).In_ok-said)
+    (λ e. other (same_rule c.in_ok-said.said.rule args.size.rule e))
 
-pub returns-then-from-modes : goal.returns-then-from-modes
-returns-then-from-modes c job sized ruled =
+pub returns-then-from-size : goal.returns-then-from-size
+returns-then-from-size c job sized =
     let args = c.args in
-    let same : c.in_ok-said.said.rule ≡ args.rule = search rules in
-    other_modes job args.modes args.count sized args.rule ruled _ _ (said_there (goal.at.returns-then-from-modes c).In_ok-said)
-    (ap rule_number same) (λ e. c.if-from-modes.true (c.from.ensures ∙ e))
+    let same : c.in_ok-said.said.rule ≡ args.size.rule = search rules in
+    other_modes job args.size sized _ _ (said_there (goal.at.returns-then-from-size c).In_ok-said)
+    (ap rule_number same) (λ e. c.if-from-size.true (c.from.ensures ∙ e))
 
-pub returns-then-from-count : goal.returns-then-from-count
-returns-then-from-count c job sized ruled =
+pub returns-then-from-size-2 : goal.returns-then-from-size-2
+returns-then-from-size-2 c job sized =
     let args = c.args in
-    let same : c.in_ok-said.said.rule ≡ args.rule = search rules in
-    other_terms job args.modes args.count sized args.rule ruled _ _ (said_there (goal.at.returns-then-from-count c).In_ok-said)
-    (ap rule_number same) (sym c.from.ensures ∙ c.if-from-modes.false) (λ e. c.if-from-count.true (c.from-2.ensures ∙ e))
+    let same : c.in_ok-said.said.rule ≡ args.size.rule = search rules in
+    other_terms job args.size sized _ _ (said_there (goal.at.returns-then-from-size-2 c).In_ok-said)
+    (ap rule_number same) (sym c.from.ensures ∙ c.if-from-size.false) (λ e. c.if-from-size-2.true (c.from-2.ensures ∙ e))
 
 pub returns : goal.returns
-returns c job sized ruled =
+returns c job sized =
     let args = c.args in
-    let same : c.in_ok-said.said.rule ≡ args.rule = search rules in
-    same_header job args.modes args.count sized args.rule ruled _ _ (said_there (goal.at.returns c).In_ok-said)
-    (ap rule_number same) (sym c.from.ensures ∙ c.if-from-modes.false) (sym c.from-2.ensures ∙ c.if-from-count.false)
+    let same : c.in_ok-said.said.rule ≡ args.size.rule = search rules in
+    same_header job args.size sized _ _ (said_there (goal.at.returns c).In_ok-said)
+    (ap rule_number same) (sym c.from.ensures ∙ c.if-from-size.false) (sym c.from-2.ensures ∙ c.if-from-size-2.false)
 
 pub returns-in_err-said : goal.returns-in_err-said
-returns-in_err-said c job sized ruled =
+returns-in_err-said c job sized =
     let args = c.args in
     let none : c.read_header.result ≡ None = grind arith in
     let why : c.in_err-said.field-0.0 ≡ LineForm 0 = grind arith in
     rw (handed_on c.from_residual.ensures, why)
-    (header_broken job args.modes args.count sized args.rule ruled _ (sym c.read_header.ensures ∙ none))
+    (header_broken job args.size sized _ (sym c.read_header.ensures ∙ none))

@@ -6,31 +6,31 @@ use Rattle.obeying.proofs.LinesObeyed.{along_starts, along_ends, along_goes, alo
 use Rattle.obeying.proofs.obey_lines.Goals as goal
 
 pub loop-line-init : goal.loop-line-init
-loop-line-init c job holds same =
+loop-line-init c job holds =
     let all = ap lines_left c.into_iter-line-iterator.ensures.into_iter_gives ∙ c.lines_of-line-items.ensures in
     along_starts c.args.by_hand job c.args.rows.now _ c.args.run.now holds _ (rw all)
 
 pub obey_line-requires : goal.obey_line-requires
 obey_line-requires c =
     let pre = c.requires in
-    (pre.0, ((c.loop-line.invariant pre.0 pre.1.0 pre.1.1).so_far.holds, pre.1.1))
+    (pre.0, (c.loop-line.invariant pre.0 pre.1).so_far.holds)
 
 pub returns-in_err-obey_line : goal.returns-in_err-obey_line
-returns-in_err-obey_line c job holds same =
+returns-in_err-obey_line c job holds =
     let obeyed = c.obey_line in
-    let along = c.loop-line.invariant job holds same in
+    let along = c.loop-line.invariant job holds in
     rw (handed_on c.from_residual.ensures)
     (along_stops c.args.by_hand job c.args.rows.now _ c.loop-line.run c.loop-line.rows _ _
-    (rw c.in-Some.ensures.steps at along) obeyed.new.rows obeyed.new.run _ (rw c.in_err-obey_line.was at (obeyed.ensures job along.so_far.holds same)))
+    (rw c.in-Some.ensures.steps at along) obeyed.new.rows obeyed.new.run _ (rw c.in_err-obey_line.was at (obeyed.ensures job along.so_far.holds)))
 
 pub loop-line-preserved : goal.loop-line-preserved
-loop-line-preserved c job holds same =
+loop-line-preserved c job holds =
     let obeyed = c.obey_line in
-    let along = c.loop-line.invariant job holds same in
+    let along = c.loop-line.invariant job holds in
     along_goes c.args.by_hand job c.args.rows.now _ c.loop-line.run c.loop-line.rows _ _
-    (rw c.in-Some.ensures.steps at along) obeyed.new.rows obeyed.new.run (rw c.in_ok-obey_line.was at (obeyed.ensures job along.so_far.holds same))
+    (rw c.in-Some.ensures.steps at along) obeyed.new.rows obeyed.new.run (rw c.in_ok-obey_line.was at (obeyed.ensures job along.so_far.holds))
 
 pub returns : goal.returns
-returns c job holds same =
+returns c job holds =
     along_ends c.args.by_hand job c.args.rows.now _ c.loop-line.run c.loop-line.rows
-    (rw c.in-None.ensures.steps.0 at (c.loop-line.invariant job holds same))
+    (rw c.in-None.ensures.steps.0 at (c.loop-line.invariant job holds))

@@ -2,7 +2,6 @@
 use Rattle.fields.specs.Lines.{lines}
 use Rattle.fields.specs.code.LinesLeft.{lines_left}
 use Rattle.terms.specs.Job.{Job}
-use Rattle.std.proofs.Common.{◌≡◌}
 use Rattle.merging.specs.code.State.{history_of}
 use Rattle.merging.specs.code.Runs.{Holds}
 use Rattle.obeying.specs.Obeying.{went, obeyed_lines}
@@ -11,5 +10,5 @@ use Rattle.obeying.proofs.obey_lines.Given as goal
 
 abbrev pub invariant-loop-line : goal.invariant-loop-line
 invariant-loop-line l =
-    (job : Job) → Holds job l.initial.rows l.initial.run → job.modes ≡ l.modes
+    (job : Job) → Holds job l.initial.rows l.initial.run
     → Along l.by_hand job l.initial.rows (obeyed_lines l.by_hand job (went (history_of l.initial.run)) (lines l.read)) l.run l.rows (lines_left l.line-iterator)

@@ -6,14 +6,24 @@ use Rattle.journal.proofs.new_lines.put_first.Goals as goal
 
 pub returns-then-kept-ne0 : goal.returns-then-kept-ne0
 unfolding written_at
-returns-then-kept-ne0 c job sized ruled = rw (no_header job c.args.kept c.if-kept-ne0.true) (refl, refl)
+returns-then-kept-ne0 c job own holds = rw (no_header job c.args.kept c.if-kept-ne0.true) (refl, refl)
 
 pub put_header-requires : goal.put_header-requires
 put_header-requires c =
-    let job = c.requires.sized.0 in
-    let sized = c.requires.sized.1.0 in
-    rw (header_first job c.args.kept c.if-kept-ne0.false, c.requires.sized.1.1.0, sized.modes_are, sized.count_is) at c.requires.sized.1.1.1
+    let run = c.requires.1.1.0 in
+    rw (
+      header_first c.requires.0 c.args.kept c.if-kept-ne0.false,
+      ← c.rule_of.ensures _ _ run,
+      ← c.modes-modes.ensures _ _ run,
+      ← c.count.ensures _ _ run,
+    ) at c.requires.1.1.1
 
 pub returns : goal.returns
-returns c job sized ruled =
-    rw (header_first job c.args.kept c.if-kept-ne0.false, ruled, sized.modes_are, sized.count_is) (c.put_header.ensures.value, c.put_header.ensures.out_after)
+returns c job own run =
+    rw (
+      header_first job c.args.kept c.if-kept-ne0.false,
+      ← c.rule_of.ensures job own run,
+      ← c.modes-modes.ensures job own run,
+      ← c.count.ensures job own run,
+    )
+    (c.put_header.ensures.value, c.put_header.ensures.out_after)

@@ -1,5 +1,5 @@
 -- The header and the lines behind it are all that is written.
-use mathlib.Core.Path.{◌∙◌, sym}
+use mathlib.Core.Path.{◌∙◌}
 use native.Mathlib.Omega.{arith}
 use lib.ListN.{length-append}
 use Rattle.lists.proofs.Behind.{written_behind_front}
@@ -12,19 +12,14 @@ use Rattle.journal.proofs.new_lines.write_new.Goals as goal
 pub put_first-start-requires : goal.put_first-start-requires
 put_first-start-requires c =
     let text = c.requires.1.1 in
-    let ruled = sym (c.rule_of.ensures _ _ text.holds) in
-    record {
-      modes_bound = (text.few, text.light);
-      sized = (c.requires.0, (text.sized, (ruled, header_fits _ _ c.args.run _ _ _ _ _ text)));
-    }
+    (c.requires.0, (c.requires.1.0, (text.holds, header_fits _ _ c.args.run _ _ _ text)))
 
 pub put_steps-requires : goal.put_steps-requires
 put_steps-requires c =
     let text = c.requires.1.1 in
     let put = c.put_first-start in
-    let ruled = sym (c.rule_of.ensures _ _ text.holds) in
-    let first = put.ensures c.requires.0 text.sized ruled in
-    (c.requires.0, (c.requires.1.0, rw put.auto.journal (steps_fit _ _ c.args.run _ _ _ _ _ text _ first.0)))
+    let first = put.ensures c.requires.0 _ text.holds in
+    (c.requires.0, (c.requires.1.0, rw put.auto.journal (steps_fit _ _ c.args.run _ _ _ text _ first.0)))
 
 pub returns : goal.returns
 returns c job own text =
@@ -32,9 +27,8 @@ returns c job own text =
     let put = c.put_first-start in
     let front = header_behind job args.kept in
     let rest = noted_from job (history_of args.run) args.from in
-    let ruled = sym (c.rule_of.ensures job own text.holds) in
-    let first = put.ensures job text.sized ruled in
-    let fits = steps_fit job own args.run _ _ _ _ _ text _ first.0 in
+    let first = put.ensures job own text.holds in
+    let fits = steps_fit job own args.run _ _ _ text _ first.0 in
     let steps = c.put_steps.ensures job own (rw put.auto.journal fits) in (
       steps.0 ∙ omega (arith, first.0, length-append front rest),
       steps.1 ∙ rw (first.0, first.1) (written_behind_front front rest args.journal.now),

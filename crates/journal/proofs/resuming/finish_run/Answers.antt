@@ -15,7 +15,7 @@ write_flatpack-requires c =
     let given = c.requires.1 in
     let finished = c.finished-end in
     let gone = finished.ensures job given.holds in
-    (job, (_, (gone.holds, at_the_end job c.args.work.now _ c.args.run finished.result given.holds gone, omega (arith, given.rows_room, given.sized.modes_are))))
+    (job, (_, (gone.holds, at_the_end job c.args.work.now _ c.args.run finished.result given.holds gone, omega (arith, given.rows_room))))
 
 pub put_drops-requires : goal.put_drops-requires
 put_drops-requires c =
@@ -24,7 +24,7 @@ put_drops-requires c =
     let finished = c.finished-end in
     let gone = finished.ensures job given.holds in
     let all = at_the_end job c.args.work.now _ c.args.run finished.result given.holds gone in
-    (job, (_, (gone.holds, omega (arith, all, given.drops_room, given.sized.modes_are))))
+    (job, (_, (gone.holds, omega (arith, all, given.drops_room))))
 
 pub write_new-new-requires : goal.write_new-new-requires
 write_new-new-requires c =
@@ -32,30 +32,25 @@ write_new-new-requires c =
     let given = c.requires.1 in
     let finished = c.finished-end in
     let gone = finished.ensures job given.holds in
-    let from = c.merges-from.ensures in (
-      job,
-      (
-        _,
-        text_fits job c.args.work.now _ c.args.run finished.result given.holds gone _ _ _ given.sized from _ _
-            (omega (arith, given.few, given.sized.modes_are)) (omega (arith, given.light, given.sized.count_is)) given.journal_room,
-      ),
-    )
+    let from = c.merges-from.ensures in
+    (job, (_, text_fits job c.args.work.now _ c.args.run finished.result given.holds gone _ from _ _ given.journal_room))
 
 pub clear_front-requires : goal.clear_front-requires
 clear_front-requires c =
     let pre = c.requires in
     let finished = c.finished-end in
     let gone = finished.ensures pre.0 pre.1.holds in
-    omega (arith, rows_room pre.0 _ finished.result gone.holds, pre.1.sized.count_is)
+    omega (arith, rows_room pre.0 _ finished.result gone.holds, c.count.ensures pre.0 _ pre.1.holds)
 
 pub overflow_sub-modes : goal.overflow_sub-modes
 overflow_sub-modes c =
-    let given = c.requires.1 in
-    omega (arith, c.merges-from.ensures, merges_within c.requires.0 _ c.args.run given.holds, given.sized.modes_are)
+    let pre = c.requires in
+    omega (arith, c.merges-from.ensures, merges_within pre.0 _ c.args.run pre.1.holds, c.modes.ensures pre.0 _ pre.1.holds)
 
 pub trial_total-requires : goal.trial_total-requires
 trial_total-requires c =
-    omega (arith, c.requires.1.few)
+    let pre = c.requires in
+    omega (arith, pre.1.holds.few, c.modes.ensures pre.0 _ pre.1.holds)
 
 pub returns : goal.returns
 returns c job bytes given kept_is =
@@ -63,11 +58,11 @@ returns c job bytes given kept_is =
     let finished = c.finished-end in
     let gone = finished.ensures job given.holds in
     let from = c.merges-from.ensures in
-    let text = text_fits job args.work.now _ args.run finished.result given.holds gone _ _ _ given.sized from args.kept _
-    (omega (arith, given.few, given.sized.modes_are)) (omega (arith, given.light, given.sized.count_is)) given.journal_room in
-    ends job args.work.now _ args.run finished.result given.holds gone args.modes args.count _ given.sized from _ _ args.kept _ bytes
+    let text = text_fits job args.work.now _ args.run finished.result given.holds gone _ from args.kept _ given.journal_room in
+    ends job args.work.now _ args.run finished.result given.holds gone _ from _ _ args.kept _ bytes
     args.rows.now args.journal.now args.drops.now _ _ _ _ kept_is (c.greedy_weight.ensures job _ gone.holds)
     (c.write_flatpack.ensures job _ gone.holds)
     (c.write_new-new.ensures job _ text)
     (c.put_drops.ensures job _ gone.holds)
-    c.clear_front.ensures c.trial_total.ensures
+    (rw (c.count.ensures job _ given.holds) at c.clear_front.ensures)
+    (rw (c.modes.ensures job _ given.holds) at c.trial_total.ensures)

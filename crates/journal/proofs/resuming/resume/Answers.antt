@@ -1,5 +1,6 @@
 -- Each return is one arm of the meaning, by the modes, the rule and what the check of the terms answered.
 use mathlib.Core.Path.{◌∙◌, sym}
+use Rattle.terms.proofs.GoodTerms.{accepted}
 use Rattle.journal.specs.Resuming.{with_terms, resumed}
 use Rattle.journal.specs.Promises.{lent}
 use Rattle.journal.proofs.JournalAnswered.{nothing_altered}
@@ -23,10 +24,15 @@ returns-in_err-rule c =
     (nothing_altered _ (lent args.work.now args.rows.now args.journal.now args.drops.now) _
     (rw (c.in_ok-check_modes.ensures.said, refused.0)))
 
+pub invariant_of-size : goal.invariant_of-size
+invariant_of-size c =
+    let between = c.in_ok-check_modes.ensures.between in
+    let counted = sym c.check_terms.ensures.answer ∙ c.in_ok-count.was in
+    record { some = between.0; few = between.1; light = (accepted c.args.modes c.args.terms.now c.in_ok-count.count counted).at_most }
+
 pub resume_good-requires : goal.resume_good-requires
 resume_good-requires c =
-    let between = c.in_ok-check_modes.ensures.between in
-    (between.0, between.1, sym c.check_terms.ensures.answer ∙ c.in_ok-count.was)
+    sym c.check_terms.ensures.answer ∙ c.in_ok-count.was
 
 pub returns-in_err-count : goal.returns-in_err-count
 unfolding resumed with_terms

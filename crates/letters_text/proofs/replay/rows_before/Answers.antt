@@ -1,5 +1,5 @@
 -- The rows before each step in turn: a merge takes them to those before the next.
-use mathlib.Core.Path.{◌≡◌, ap, ◌∙◌, sym}
+use mathlib.Core.Path.{◌≡◌, ap, ◌∙◌}
 use Prim.Native.Nat.{◌<◌}
 use native.Mathlib.Omega.{arith}
 use lib.ListN.{length}
@@ -13,31 +13,30 @@ loop-at-init c job own finished = replay_starts job (history_of c.args.run) _ fi
 
 pub parent_number-parent-requires : goal.parent_number-parent-requires
 parent_number-parent-requires c =
-    let finished = c.requires.1.1.0 in
-    (omega (arith, finished.holds.few, finished.modes_are), omega (arith, finished.holds.few, finished.modes_are, c.requires.1.1.1))
+    let holds = c.requires.1.1.0.holds in
+    let modes = c.modes-modes.ensures _ _ holds in
+    (omega (arith, holds.few, modes), omega (arith, holds.few, modes, c.requires.1.1.1))
 
 pub merge_of-requires : goal.merge_of-requires
 merge_of-requires c =
     let finished = c.requires.1.1.0 in
-    (c.requires.0, (c.requires.1.0, (finished.holds, omega (arith, finished.all, finished.modes_are, c.requires.1.1.1))))
+    (c.requires.0, (c.requires.1.0, (finished.holds, omega (arith, finished.all, c.requires.1.1.1))))
 
 pub reduce_hamiltonian-requires : goal.reduce_hamiltonian-requires
 reduce_hamiltonian-requires c =
     let job = c.requires.0 in
     let finished = c.requires.1.1.0 in
     let rows = c.loop-at.invariant job c.requires.1.0 finished in
-    record {
-      worked = rw finished.count_is at (worked_replayed job _ _ rows finished.holds.light);
-      count_le_most_terms = rw finished.count_is at finished.holds.light;
-    }
+    rw (c.count-count.ensures job _ finished.holds)
+    (record { worked = worked_replayed job _ _ rows finished.holds.light; count_le_most_terms = finished.holds.light })
 
 pub loop-at-preserved : goal.loop-at-preserved
 loop-at-preserved c job own finished =
     let history = history_of c.args.run in
-    let made : c.loop-at.at < length history = omega (arith, finished.all, finished.modes_are, c.requires.1.1.1, c.loop-at-test.true) in
+    let made : c.loop-at.at < length history = omega (arith, finished.all, c.requires.1.1.1, c.loop-at-test.true) in
     replay_goes job history c.loop-at.at _ _ _ _ _ _ made (c.rule_of-rule.ensures job own finished.holds) c.merge_of.ensures
-    (c.parent_number-parent.ensures ∙ ap (λ n. parent_number n c.loop-at.at) (sym finished.modes_are)) (c.loop-at.invariant job own finished)
-    (rw (← finished.count_is) at c.reduce_hamiltonian.ensures)
+    (c.parent_number-parent.ensures ∙ ap (λ n. parent_number n c.loop-at.at) (c.modes-modes.ensures job own finished.holds)) (c.loop-at.invariant job own finished)
+    (rw (c.count-count.ensures job own finished.holds) at c.reduce_hamiltonian.ensures)
 
 pub returns : goal.returns
 returns c job own finished =

@@ -8,4 +8,4 @@ use Rattle.letters_text.specs.code.Replaying.{RowsAre, Finished}
 use Rattle.letters_text.proofs.replay.rows_before.Given as goal
 
 abbrev pub invariant-loop-at : goal.invariant-loop-at
-invariant-loop-at l = (job : Job) (own : List ℕ) → Finished job own l.run l.modes l.count l.initial.rows → RowsAre job (history_before (history_of l.run) l.at) l.rows
+invariant-loop-at l = (job : Job) (own : List ℕ) → Finished job own l.run l.initial.rows → RowsAre job (history_before (history_of l.run) l.at) l.rows

@@ -8,35 +8,29 @@ use Rattle.steering.specs.Reasons.{reason_by, reason_text}
 use Rattle.steering.proofs.reasons.print_reason.Goals as goal
 
 pub overflow_mul-end : goal.overflow_mul-end
-overflow_mul-end c = omega (arith, (c.in-Ok.ensures c.args.rule).within)
+overflow_mul-end c = omega (arith, c.in-Ok.ensures.within)
 
 pub shared_ref_as_front-own_rows : goal.shared_ref_as_front-own_rows
-shared_ref_as_front-own_rows c = omega (arith, (c.in-Ok.ensures c.args.rule).within)
+shared_ref_as_front-own_rows c = omega (arith, c.in-Ok.ensures.within)
 
 pub slice_bounds-own_rows-end : goal.slice_bounds-own_rows-end
-slice_bounds-own_rows-end c = sym (length-take-le _ _ (c.in-Ok.ensures c.args.rule).within)
+slice_bounds-own_rows-end c = sym (length-take-le _ _ c.in-Ok.ensures.within)
 
 pub own_rows-own-requires : goal.own_rows-own-requires
 own_rows-own-requires c =
-    let fits = (c.in-Ok.ensures c.args.rule).fits in
-    let terms = accepted _ _ _ fits.good in
+    let terms = accepted _ _ _ c.in-Ok.ensures.good in
     (terms.given, terms.at_most)
 
 pub reason_job-requires : goal.reason_job-requires
 reason_job-requires c =
-    let fits = (c.in-Ok.ensures c.args.rule).fits in
-    let terms = accepted _ _ _ fits.good in
-    record {
-      le_modes = (fits.some, fits.few, terms.at_most);
-      by_index = (_, c.own_rows-own.ensures.1);
-    }
+    (_, c.own_rows-own.ensures.1)
 
 pub returns-in-Err : goal.returns-in-Err
 unfolding reason_text reason_by
 returns-in-Err c =
-    rw (c.in-Err.ensures c.args.rule) (puts_none _)
+    rw c.in-Err.ensures (puts_none _)
 
 pub returns-in-Ok : goal.returns-in-Ok
 unfolding reason_text reason_by
 returns-in-Ok c =
-    rw (c.in-Ok.ensures c.args.rule).is (c.reason_job.ensures _ c.own_rows-own.ensures.1)
+    rw c.in-Ok.ensures.is (c.reason_job.ensures _ c.own_rows-own.ensures.1)

@@ -19,11 +19,11 @@ slice_bounds-count_job-end c = sym (length-take-le _ _ (room (goal.at.slice_boun
 
 pub returns-in_err-given : goal.returns-in_err-given
 unfolding job_said job_by
-returns-in_err-given c rule =
+returns-in_err-given c =
     let malformed = c.in_err-given.ensures in
     rw (handed_on c.from_residual.ensures, malformed.1, ← malformed.0)
 
 pub returns : goal.returns
 unfolding job_said
-returns c rule =
-    reads_front rule (job_said 256 2048 (request rule c.args.text.now)) _ _ _ (room (goal.at.returns c).In_ok-given) (rw (sym c.in_ok-given.ensures.says) at (c.count_job.ensures rule))
+returns c =
+    reads_front (job_said 256 2048 (request c.args.rule c.args.text.now)) _ _ _ (room (goal.at.returns c).In_ok-given) (rw (sym c.in_ok-given.ensures.says) at c.count_job.ensures)
