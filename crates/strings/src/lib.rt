@@ -10,6 +10,7 @@ ghost use Rattle.strings.specs.Text.{strings_text, strings_written};
 
 use refusal::Refusal;
 use tree_weight::climbing;
+use tree_weight::climbing::PlacedTree;
 
 mod length;
 mod lines;
@@ -26,7 +27,12 @@ fn put_strings(text: &mut [u8], modes: usize, tree: &[u16]) -> Result<usize, Ref
     }
     let mut places = [0usize; 768];
     climbing::fill_places(tree, &mut places);
-    lines::put_lines(text, modes, tree, &places);
+    let placed = PlacedTree {
+        modes,
+        tree,
+        places: &places,
+    };
+    lines::put_lines(text, &placed);
     Ok(length)
 }
 

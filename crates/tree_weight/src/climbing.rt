@@ -1,5 +1,7 @@
 // The way up from a code: the place of each code, and the edge of a node under which a code stands.
-ghost use Rattle.std.specs.Prelude.{◌≡◌, ◌≤◌, ◌<◌, length};
+ghost use Rattle.std.specs.Prelude.{◌≡◌, ◌+◌, ◌*◌, ◌≤◌, ◌<◌, length};
+ghost use Rattle.std.proofs.Props.{props};
+ghost use Rattle.entities.specs.Limits.{most_modes};
 ghost use Rattle.tree_weight.specs.code.Promises.{Places};
 ghost use Rattle.tree_weight.specs.Weight.{edge_under};
 
@@ -33,4 +35,26 @@ pub fn edge_under(tree: &[u16], places: &[usize], steps: usize, node: usize, cod
         }
     }
     3
+}
+
+// The table of a tree, with the place of each of its codes.
+#[derive(Clone, Copy)]
+pub struct PlacedTree<'a> {
+    pub modes: usize,
+    pub tree: &'a [u16],
+    pub places: &'a [usize],
+    pub ghost few: { modes ≤ most_modes },
+    pub ghost whole: { length tree.now ≡ 3 * modes },
+    pub ghost placed: { Places tree.now places.now } by { Prim.hlevel props },
+}
+
+impl<'a> PlacedTree<'a> {
+    // The edge of a node under which a Majorana's leaf stands; 3 where it stands under none.
+    pub fn majorana_edge(&self, node: usize, majorana: usize) -> usize
+        requires { majorana < 2 * self.now.modes }
+        ensures { result ≡ edge_under self.now.tree.now (self.now.modes + 1) node (self.now.modes + majorana) }
+    {
+        let leaf = self.modes + majorana;
+        edge_under(self.tree, self.places, self.modes + 1, node, leaf)
+    }
 }

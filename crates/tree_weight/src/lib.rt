@@ -6,9 +6,10 @@ ghost use Rattle.lists.specs.Members.{every};
 ghost use Rattle.refusal.specs.Numbers.{Tells};
 ghost use Rattle.entities.specs.Limits.{most_modes, row_width, work_width};
 ghost use Rattle.terms.specs.Rows.{terms_of};
-ghost use Rattle.tree_weight.specs.code.Promises.{Places, GoodRows, RowsBelow, own_weight, OperatorsOf};
+ghost use Rattle.tree_weight.specs.code.Promises.{GoodRows, RowsBelow, own_weight, OperatorsOf};
 ghost use Rattle.tree_weight.specs.Weight.{node_letter, row_weight, listed_weight, tree_weight, tree_weighed, weight_numbers};
 
+use crate::climbing::PlacedTree;
 use refusal::Refusal;
 use terms::letters::Letter;
 use terms::{checking, letters, row};
@@ -17,17 +18,15 @@ pub mod climbing;
 mod operators;
 
 // The letter of the term at the node: that of how many of its indices stand under X, Y and Z.
-fn node_letter(modes: usize, tree: &[u16], places: &[usize], term: &[u16], node: usize) -> Letter
-    requires places { Places tree.now places.now }
-    requires tree_len { length tree.now ≡ 3 * modes }
-    requires term_value { every (λ index. ltb index (2 * modes)) term.now ≡ true }
-    ensures { result ≡ node_letter modes tree.now term.now node }
+fn node_letter(placed: &PlacedTree<'_>, term: &[u16], node: usize) -> Letter
+    requires { every (λ index. ltb index (2 * placed.now.modes)) term.now ≡ true }
+    ensures { result ≡ node_letter placed.now.modes placed.now.tree.now term.now node }
 {
     let mut xs: usize = 0;
     let mut ys: usize = 0;
     let mut zs: usize = 0;
     for index in term {
-        let edge = climbing::edge_under(tree, places, modes + 1, node, modes + usize::from(*index));
+        let edge = placed.majorana_edge(node, usize::from(*index));
         xs += usize::from(edge == 0);
         ys += usize::from(edge == 1);
         zs += usize::from(edge == 2);
@@ -36,34 +35,25 @@ fn node_letter(modes: usize, tree: &[u16], places: &[usize], term: &[u16], node:
 }
 
 // The term's weight over every node.
-fn row_weight(modes: usize, tree: &[u16], places: &[usize], term: &[u16]) -> u64
-    requires places { Places tree.now places.now }
-    requires tree_len { length tree.now ≡ 3 * modes }
-    requires term_value { every (λ index. ltb index (2 * modes)) term.now ≡ true }
-    ensures { (result ≡ row_weight modes tree.now term.now) × (result ≤ modes) }
+fn row_weight(placed: &PlacedTree<'_>, term: &[u16]) -> u64
+    requires { every (λ index. ltb index (2 * placed.now.modes)) term.now ≡ true }
+    ensures { (result ≡ row_weight placed.now.modes placed.now.tree.now term.now) × (result ≤ placed.now.modes) }
 {
     let mut sum: u64 = 0;
-    for node in 0..modes {
-        sum += letters::not_none(node_letter(modes, tree, places, term, node)) as u64;
+    for node in 0..placed.modes {
+        sum += letters::not_none(node_letter(placed, term, node)) as u64;
     }
     sum
 }
 
 // The weight of the first work rows, each counted.
-fn rows_weight(modes: usize, tree: &[u16], places: &[usize], terms: &[u16], count: usize) -> u64
-    requires places { Places tree.now places.now }
-    requires tree_len { (length tree.now ≡ 3 * modes) × (modes ≤ most_modes) }
-    requires rows_below { RowsBelow modes count terms.now }
-    ensures { result ≡ listed_weight modes tree.now (terms_of work_width count terms.now) }
+fn rows_weight(placed: &PlacedTree<'_>, terms: &[u16], count: usize) -> u64
+    requires { RowsBelow placed.now.modes count terms.now }
+    ensures { result ≡ listed_weight placed.now.modes placed.now.tree.now (terms_of work_width count terms.now) }
 {
     let mut sum: u64 = 0;
     for place in 0..count {
-        sum += row_weight(
-            modes,
-            tree,
-            places,
-            row::term_at(terms, row::WORK_WIDTH, place),
-        );
+        sum += row_weight(placed, row::term_at(terms, row::WORK_WIDTH, place));
     }
     sum
 }
@@ -85,7 +75,12 @@ pub fn operators_weight(modes: usize, tree: &[u16], own: &[u16], count: usize) -
 {
     let mut places = [0usize; 768];
     climbing::fill_places(tree, &mut places);
-    rows_weight(modes, tree, &places, own, count)
+    let placed = PlacedTree {
+        modes,
+        tree,
+        places: &places,
+    };
+    rows_weight(&placed, own, count)
 }
 
 // The weight of the operators of the first `count` rows, all good, in an accepted tree.

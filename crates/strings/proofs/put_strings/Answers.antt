@@ -31,13 +31,14 @@ returns-then-text-length c =
 pub fill_places-requires : goal.fill_places-requires
 fill_places-requires c = omega (arith, (parts (goal.at.fill_places-requires c).Start).few, (parts (goal.at.fill_places-requires c).Start).whole)
 
+pub invariant_of-placed : goal.invariant_of-placed
+invariant_of-placed c =
+    let known = parts (goal.at.invariant_of-placed c).Start in
+    record { few = known.few; whole = known.whole; placed = c.fill_places.ensures }
+
 pub put_lines-requires : goal.put_lines-requires
 put_lines-requires c =
-    record {
-      places = c.fill_places.ensures;
-      tree_len = ((parts (goal.at.put_lines-requires c).Start).whole, (parts (goal.at.put_lines-requires c).Start).few);
-      tree_in_bounds = omega (arith, size (goal.at.put_lines-requires c).Start, c.strings_length-length.ensures);
-    }
+    omega (arith, size (goal.at.put_lines-requires c).Start, c.strings_length-length.ensures)
 
 pub returns : goal.returns
 unfolding text_after

@@ -7,17 +7,11 @@ use Rattle.tree_weight.specs.Weight.{edges, node_letter}
 use Rattle.tree_weight.proofs.TreeWeighing.{edges_step, edges_end}
 use Rattle.tree_weight.proofs.node_letter.Goals as goal
 
-pub overflow_add-modes-in-loop-index : goal.overflow_add-modes-in-loop-index
-overflow_add-modes-in-loop-index c =
-    let below = below_at (2 * c.args.modes) c.args.term.now c.loop-index.index-index 0 (omega arith) c.requires.term_value in
+pub majorana_edge-edge-requires : goal.majorana_edge-edge-requires
+majorana_edge-edge-requires c =
+    let below = below_at (2 * c.args.placed.now.modes) c.args.term.now c.loop-index.index-index 0 (omega arith) c.requires in
     let e = c.from.ensures in
     omega arith
-
-pub edge_under-edge-requires : goal.edge_under-edge-requires
-edge_under-edge-requires c =
-    let below = below_at (2 * c.args.modes) c.args.term.now c.loop-index.index-index 0 (omega arith) c.requires.term_value in
-    let e = c.from.ensures in
-    record { places = c.requires.places; code_in_bounds = omega arith }
 
 pub loop-index-preserved : goal.loop-index-preserved
 loop-index-preserved c =
@@ -25,15 +19,15 @@ loop-index-preserved c =
     let term = args.term.now in
     let at = c.loop-index.index-index in
     let h : at < length term = omega arith in
-    let x = edges_step args.modes args.tree.now args.node term at 0 h in
-    let y = edges_step args.modes args.tree.now args.node term at 1 h in
-    let z = edges_step args.modes args.tree.now args.node term at 2 h in
-    let found : c.edge_under-edge.result ≡ _ = rw (c.from.ensures, add-one) at c.edge_under-edge.ensures in
-    let own_x = same_is c.edge_under-edge.result 0 in
+    let x = edges_step args.placed.now.modes args.placed.now.tree.now args.node term at 0 h in
+    let y = edges_step args.placed.now.modes args.placed.now.tree.now args.node term at 1 h in
+    let z = edges_step args.placed.now.modes args.placed.now.tree.now args.node term at 2 h in
+    let found : c.majorana_edge-edge.result ≡ _ = rw (c.from.ensures, add-one) at c.majorana_edge-edge.ensures in
+    let own_x = same_is c.majorana_edge-edge.result 0 in
     let ex = c.from-xs.ensures ∙ own_x.0 ∙ ap (λ v. same v 0) found in
-    let own_y = same_is c.edge_under-edge.result 1 in
+    let own_y = same_is c.majorana_edge-edge.result 1 in
     let ey = c.from-ys.ensures ∙ own_y.0 ∙ ap (λ v. same v 1) found in
-    let own_z = same_is c.edge_under-edge.result 2 in
+    let own_z = same_is c.majorana_edge-edge.result 2 in
     let ez = c.from-zs.ensures ∙ own_z.0 ∙ ap (λ v. same v 2) found in
     omega arith
 
@@ -44,10 +38,10 @@ returns c =
     let term = args.term.now in
     let at = c.loop-index.index-index in
     let h : length term ≤ at = omega arith in
-    let x = edges_end args.modes args.tree.now args.node term at 0 h in
-    let y = edges_end args.modes args.tree.now args.node term at 1 h in
-    let z = edges_end args.modes args.tree.now args.node term at 2 h in
-    let ex : c.loop-index.xs ≡ occurrences 0 (edges args.modes args.tree.now args.node term) = omega arith in
-    let ey : c.loop-index.ys ≡ occurrences 1 (edges args.modes args.tree.now args.node term) = omega arith in
-    let ez : c.loop-index.zs ≡ occurrences 2 (edges args.modes args.tree.now args.node term) = omega arith in
+    let x = edges_end args.placed.now.modes args.placed.now.tree.now args.node term at 0 h in
+    let y = edges_end args.placed.now.modes args.placed.now.tree.now args.node term at 1 h in
+    let z = edges_end args.placed.now.modes args.placed.now.tree.now args.node term at 2 h in
+    let ex : c.loop-index.xs ≡ occurrences 0 (edges args.placed.now.modes args.placed.now.tree.now args.node term) = omega arith in
+    let ey : c.loop-index.ys ≡ occurrences 1 (edges args.placed.now.modes args.placed.now.tree.now args.node term) = omega arith in
+    let ez : c.loop-index.zs ≡ occurrences 2 (edges args.placed.now.modes args.placed.now.tree.now args.node term) = omega arith in
     rw (← ex, ← ey, ← ez) c.counted_letter.ensures

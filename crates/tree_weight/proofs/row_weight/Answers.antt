@@ -9,23 +9,22 @@ use Rattle.tree_weight.proofs.row_weight.Goals as goal
 pub loop-node-init : goal.loop-node-init
 loop-node-init c =
     let args = c.args in
-    (omega arith, zero-add _ ∙ sym (row_start args.modes args.tree.now args.term.now))
+    (omega arith, zero-add _ ∙ sym (row_start args.placed.now.modes args.placed.now.tree.now args.term.now))
 
 pub node_letter-requires : goal.node_letter-requires
-node_letter-requires c =
-    record { places = c.requires.places; tree_len = c.requires.tree_len; term_value = c.requires.term_value }
+node_letter-requires c = c.requires
 
 pub loop-node-preserved : goal.loop-node-preserved
 unfolding node_weight
 loop-node-preserved c =
     let args = c.args in
-    let e : c.not_none.result ≡ node_weight args.modes args.tree.now args.term.now c.loop-node.node =
+    let e : c.not_none.result ≡ node_weight args.placed.now.modes args.placed.now.tree.now args.term.now c.loop-node.node =
     c.not_none.ensures.0 ∙ ap not_none c.node_letter.ensures in
-    let step = sum_on (node_weight args.modes args.tree.now args.term.now) (λ v. v) args.modes c.loop-node.node (omega arith) in
+    let step = sum_on (node_weight args.placed.now.modes args.placed.now.tree.now args.term.now) (λ v. v) args.placed.now.modes c.loop-node.node (omega arith) in
     omega arith
 
 pub returns : goal.returns
 returns c =
     let args = c.args in
-    let done = sum_done (node_weight args.modes args.tree.now args.term.now) (λ v. v) args.modes c.loop-node.node (omega arith) in
+    let done = sum_done (node_weight args.placed.now.modes args.placed.now.tree.now args.term.now) (λ v. v) args.placed.now.modes c.loop-node.node (omega arith) in
     omega arith

@@ -7,4 +7,4 @@ use Rattle.tree_weight.proofs.row_weight.Given as goal
 
 abbrev pub invariant-loop-node : goal.invariant-loop-node
 invariant-loop-node l = (l.sum ≤ l.node)
-    × (l.sum + total (map (node_weight l.modes l.tree l.term) (listed (λ v. v) l.node (l.modes - l.node))) ≡ row_weight l.modes l.tree l.term)
+    × (l.sum + total (map (node_weight l.placed.modes l.placed.tree.now l.term) (listed (λ v. v) l.node (l.placed.modes - l.node))) ≡ row_weight l.placed.modes l.placed.tree.now l.term)

@@ -11,29 +11,29 @@ loop-place-init c = (omega arith, zero-add _ ∙ sym (ap (listed_weight _ _) (te
 
 pub term_at-requires : goal.term_at-requires
 term_at-requires c =
-    let rows = c.requires.rows_below in
+    let rows = c.requires in
     (omega (arith, rows.held.room), omega (arith, rows.held.within c.loop-place.place (omega arith)))
 
 pub row_weight-sum-requires : goal.row_weight-sum-requires
 row_weight-sum-requires c =
     let args = c.args in
-    let below = every_term_at (every (λ index. ltb index (2 * args.modes))) 9 args.count c.loop-place.place args.terms.now c.requires.rows_below.below (omega arith) in
-    record { places = c.requires.places; tree_len = c.requires.tree_len.0; term_value = rw c.term_at.ensures below }
+    let below = every_term_at (every (λ index. ltb index (2 * args.placed.now.modes))) 9 args.count c.loop-place.place args.terms.now c.requires.below (omega arith) in
+    rw c.term_at.ensures below
 
 pub overflow_add-sum : goal.overflow_add-sum
 overflow_add-sum c =
-    let few = c.requires.rows_below.few in
+    let few = c.requires.few in
     search rules
 
 pub loop-place-preserved : goal.loop-place-preserved
 loop-place-preserved c =
     let args = c.args in
-    let step = tree_step args.modes args.tree.now args.count c.loop-place.place args.terms.now (omega arith) in
-    let e = c.row_weight-sum.ensures.0 ∙ ap (row_weight args.modes args.tree.now) c.term_at.ensures in
+    let step = tree_step args.placed.now.modes args.placed.now.tree.now args.count c.loop-place.place args.terms.now (omega arith) in
+    let e = c.row_weight-sum.ensures.0 ∙ ap (row_weight args.placed.now.modes args.placed.now.tree.now) c.term_at.ensures in
     omega arith
 
 pub returns : goal.returns
 returns c =
     let args = c.args in
-    let done = tree_end args.modes args.tree.now args.count c.loop-place.place args.terms.now (omega arith) in
+    let done = tree_end args.placed.now.modes args.placed.now.tree.now args.count c.loop-place.place args.terms.now (omega arith) in
     omega arith

@@ -8,5 +8,5 @@ pub returns : goal.returns
 unfolding string_sign majorana_letter
 returns c =
     let letter = c.edge_letter.ensures in
-    let edge = c.edge_under-edge.ensures in
+    let edge = c.majorana_edge.ensures in
     rw (letter, edge, add-one) at c.byte.ensures

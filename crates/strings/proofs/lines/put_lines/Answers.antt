@@ -6,30 +6,29 @@ use Rattle.strings.proofs.lines.put_lines.Goals as goal
 pub loop-majorana-init : goal.loop-majorana-init
 loop-majorana-init c =
     let args = c.args in
-    λ room. lines_start args.modes args.tree.now args.text.now room
+    λ room. lines_start args.placed.now.modes args.placed.now.tree.now args.text.now room
 
 pub put_line-at-requires : goal.put_line-at-requires
 put_line-at-requires c =
     let args = c.args in
-    let room = c.requires.tree_in_bounds in
+    let room = c.requires in
     record {
-      places = c.requires.places;
-      tree_len = (c.requires.tree_len.0, c.requires.tree_len.1, omega arith);
-      majorana_in_bounds = line_room args.modes args.tree.now args.text.now room c.loop-majorana.majorana (c.loop-majorana.invariant room) (omega arith);
+      majorana_bound = omega arith;
+      majorana_in_bounds = line_room args.placed.now.modes args.placed.now.tree.now args.text.now room c.loop-majorana.majorana (c.loop-majorana.invariant room) (omega arith);
     }
 
 pub loop-majorana-preserved : goal.loop-majorana-preserved
 loop-majorana-preserved c =
     let args = c.args in
     let put = c.put_line-at.ensures in
-    λ room. lines_next args.modes args.tree.now args.text.now room c.loop-majorana.majorana (c.loop-majorana.invariant room) (omega arith) put.value put.text_after
+    λ room. lines_next args.placed.now.modes args.placed.now.tree.now args.text.now room c.loop-majorana.majorana (c.loop-majorana.invariant room) (omega arith) put.value put.text_after
 
 pub shape_of-text : goal.shape_of-text
 shape_of-text c =
-    let room = c.requires.tree_in_bounds in
-    lines_same c.args.modes c.args.tree.now c.args.text.now room c.loop-majorana.majorana (c.loop-majorana.invariant room)
+    let room = c.requires in
+    lines_same c.args.placed.now.modes c.args.placed.now.tree.now c.args.text.now room c.loop-majorana.majorana (c.loop-majorana.invariant room)
 
 pub returns : goal.returns
 returns c =
-    let room = c.requires.tree_in_bounds in
-    lines_end c.args.modes c.args.tree.now c.args.text.now room c.loop-majorana.majorana (c.loop-majorana.invariant room) (omega arith)
+    let room = c.requires in
+    lines_end c.args.placed.now.modes c.args.placed.now.tree.now c.args.text.now room c.loop-majorana.majorana (c.loop-majorana.invariant room) (omega arith)
