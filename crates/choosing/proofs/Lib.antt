@@ -1,6 +1,6 @@
 -- The laws of the choice of a step.
 pub mod Couples
 pub mod Candidates
-pub mod Seeking
+pub mod SeekSteps
 pub mod SettledBest
 pub mod CoupleAgain

@@ -4,3 +4,4 @@
 pub mod choice;
 pub mod entity_tables;
 pub mod lawful;
+mod seeking;

@@ -23,7 +23,7 @@ use Rattle.history.proofs.PairCount.{some_pair}
 use Rattle.history.proofs.RunLawful.{chosen_lawful}
 use Rattle.choosing.specs.declared.choice.Best.{Best}
 use Rattle.choosing.specs.code.Couples.{weight_here, nothing, weighed, seek}
-use Rattle.choosing.proofs.Seeking.{sought}
+use Rattle.choosing.proofs.SeekSteps.{sought}
 use Rattle.merging.specs.declared.run.Run.{Run}
 use Rattle.merging.specs.code.State.{history_of, HoldsIn, ReadyIn}
 use Rattle.merging.proofs.RowsHeld.{terms_are}

@@ -13,7 +13,6 @@ use Rattle.tallying.specs.code.Tallies.{Looked}
 use Rattle.history.specs.History.{next_parent, is_open, z_end}
 use Rattle.history.specs.computed.Pairs.{holder, named}
 use Rattle.choosing.specs.declared.choice.Best.{Best}
-use Rattle.choosing.specs.declared.choice.Counted.{Counted}
 use Rattle.choosing.specs.declared.entity_tables.Tables.{Tables}
 
 -- x of the triples that an entity names; z has no part in it.
@@ -59,9 +58,14 @@ beside_couple modes history count None = []
 unfoldable pub weight_here : ℕ → List ℕ → Triple → ℕ
 weight_here count rows triple = weight_of triple (terms_of row_width count rows)
 
--- What was counted for x and y gives the weight of each of their triples.
-abbrev pub Weighs : (Triple → ℕ) → ℕ → ℕ → Counted → Type 0
-Weighs measure x y counted = Looked entity_room measure x y counted.all counted.odds.now counted.less.now
+-- What a couple weighs beside any z is `all` and z's entry of `odds`, less z's entry of `less`.
+abbrev pub CoupleLooked : ℕ → List ℕ → Couple → ℕ → List ℕ → List ℕ → Type 0
+CoupleLooked count rows named all odds less = Looked entity_room (weight_here count rows) named.x named.y all odds less
+
+-- It never weighs less than this.
+abbrev pub CoupleBounded : ℕ → List ℕ → Couple → ℕ → Type 0
+CoupleBounded count rows named apart =
+    (z : ℕ) → apart ≤ weight_here count rows (record { x = named.x; y = named.y; z = z })
 
 -- A triple with its weight.
 unfoldable pub weighed : (Triple → ℕ) → Triple → Best

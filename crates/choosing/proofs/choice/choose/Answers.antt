@@ -4,13 +4,14 @@ use native.Mathlib.Omega.{arith}
 use lib.ListN.{length}
 use Rattle.choosing.proofs.choice.choose.Goals as goal
 
-pub least_of_all-requires : goal.least_of_all-requires
-least_of_all-requires c =
+pub invariant_of-seeking : goal.invariant_of-seeking
+invariant_of-seeking c =
     let counted = c.count_odds in
+    let given = c.requires.count_le_most_terms in
     let whole : length counted.new.table ≡ 769 = counted.auto.table in
     record {
+      limits = (given.1, given.0, given.2);
+      ends = c.requires.by_index;
       held = c.requires.held;
-      count_le_most_terms = c.requires.count_le_most_terms;
-      by_index = c.requires.by_index;
       odds_are = λ n h. counted.ensures n (omega arith);
     }

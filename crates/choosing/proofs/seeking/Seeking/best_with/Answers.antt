@@ -1,9 +1,9 @@
 -- An entity without a couple names nothing; a couple that a lower one named is settled; of any other the couple's triples follow.
 use mathlib.Core.Path.{sym, ◌∙◌}
 use Rattle.choosing.specs.code.Couples.{beside_couple}
-use Rattle.choosing.proofs.Seeking.{seek_none}
+use Rattle.choosing.proofs.SeekSteps.{seek_none}
 use Rattle.choosing.proofs.SettledBest.{seek_idle}
-use Rattle.choosing.proofs.choice.best_with.Goals as goal
+use Rattle.choosing.proofs.seeking.Seeking.best_with.Goals as goal
 
 pub returns-in_default : goal.returns-in_default
 unfolding beside_couple
@@ -20,4 +20,4 @@ pub returns : goal.returns
 unfolding beside_couple
 returns c history tied settled =
     rw (sym (c.couple_of.ensures history tied) ∙ c.in-Some.is)
-    (c.best_of_couple.ensures _ history tied.within tied.opens_are)
+    (c.best_of_couple.ensures history tied)

@@ -3,11 +3,12 @@ use mathlib.Core.Path.{◌≡◌, sym, ap, ◌∙◌}
 use Prim.Native.Nat.{◌+◌, ◌-◌}
 use native.Mathlib.Omega.{arith}
 use borrow.Author.Count.{below_more}
-use Rattle.choosing.specs.code.Couples.{seek, weight_here, couple, beside_couple, Settled}
+use Rattle.choosing.specs.code.Couples.{seek, couple, beside_couple, Settled}
+use Rattle.choosing.specs.code.Seeking.{measured}
 use Rattle.choosing.proofs.Candidates.{candidates_from, candidates_all, candidates_step, candidates_end, named_with, named_with_couple}
-use Rattle.choosing.proofs.Seeking.{seek_joined, seek_none}
+use Rattle.choosing.proofs.SeekSteps.{seek_joined, seek_none}
 use Rattle.choosing.proofs.SettledBest.{seek_idle, settled_on, nought_settles, sought_below, sought_settles}
-use Rattle.choosing.proofs.choice.least_of_all.Goals as goal
+use Rattle.choosing.proofs.seeking.Seeking.least_of_all.Goals as goal
 
 pub loop-a-init : goal.loop-a-init
 loop-a-init c =
@@ -17,33 +18,24 @@ pub returns-then-best-eq0 : goal.returns-then-best-eq0
 returns-then-best-eq0 c history tied all =
     sym ((c.loop-a.invariant history tied all).0 ∙ seek_idle _ _ _ (nought_settles _ c.loop-a.best _ c.if-best-eq0.true))
 
-pub best_with-best-requires : goal.best_with-best-requires
-best_with-best-requires c =
-    let low = c.requires.by_index c.loop-a.a c.loop-a-test.true in
-    record {
-      held = c.requires.held;
-      count_le_most_terms = (omega arith, omega arith, omega arith, low);
-      odds_are = c.requires.odds_are;
-    }
-
 pub loop-a-preserved : goal.loop-a-preserved
 loop-a-preserved c =
-    let args = c.args in
-    let measure = weight_here args.count args.rows.now in
+    let among = c.args.self.now in
+    let measure = measured among in
     let a = c.loop-a.a in
     let best = c.loop-a.best in
     λ history tied all.
     (let so_far = c.loop-a.invariant history tied all in
-    let mine = beside_couple args.modes history args.next (couple args.modes history a) in
-    let ahead = candidates_from args.modes history (a + 1) (args.next - (a + 1)) in
+    let mine = beside_couple among.modes history among.next (couple among.modes history a) in
+    let ahead = candidates_from among.modes history (a + 1) (among.next - (a + 1)) in
     let found : c.best_with-best.result ≡ seek measure best mine = c.best_with-best.ensures history tied so_far.1 in
-    let named : named_with args.modes history a ≡ mine = rw (named_with_couple args.modes history a, ← all) in (
+    let named : named_with among.modes history a ≡ mine = rw (named_with_couple among.modes history a, ← all) in (
       so_far.0
-          ∙ rw (candidates_step args.modes history a args.next (omega arith))
-          (seek_joined measure best (named_with args.modes history a) ahead ∙ ap (λ b. seek measure b ahead) (rw named (sym found))),
+          ∙ rw (candidates_step among.modes history a among.next (omega arith))
+          (seek_joined measure best (named_with among.modes history a) ahead ∙ ap (λ b. seek measure b ahead) (rw named (sym found))),
       rw found
           (below_more
-          (λ lower. Settled measure (seek measure best mine) (beside_couple args.modes history args.next (couple args.modes history lower)))
+          (λ lower. Settled measure (seek measure best mine) (beside_couple among.modes history among.next (couple among.modes history lower)))
           a
           (λ lower h. settled_on measure best (seek measure best mine) _ (sought_below measure best mine) (so_far.1 lower h))
           (sought_settles measure best mine)),
@@ -51,7 +43,7 @@ loop-a-preserved c =
 
 pub returns : goal.returns
 returns c history tied all =
-    let args = c.args in
+    let among = c.args.self.now in
     sym
     ((c.loop-a.invariant history tied all).0
-    ∙ rw (candidates_end args.modes history c.loop-a.a args.next (omega arith)) (seek_none _ _))
+    ∙ rw (candidates_end among.modes history c.loop-a.a among.next (omega arith)) (seek_none _ _))
