@@ -4,10 +4,6 @@ use Rattle.reduction.specs.code.Promises.{merged_rows}
 use Rattle.reduction.proofs.RowReduced.{room_here, cleared_length, counts_fit}
 use Rattle.reduction.proofs.merge_row.Goals as goal
 
-pub clear_row-count-requires : goal.clear_row-count-requires
-clear_row-count-requires c =
-    room_here c.args.place c.args.rows.now c.requires.1.held
-
 pub raise_count-requires : goal.raise_count-requires
 raise_count-requires c =
     let place = c.args.place in

@@ -37,9 +37,6 @@ loop-place-preserved c =
       reduced.ensures.chained_2,
     )
 
-pub shape_of-rows : goal.shape_of-rows
-shape_of-rows c = c.loop-place.invariant.0.same_length
-
 pub returns : goal.returns
 returns c =
     let args = c.args in

@@ -34,15 +34,6 @@ put_back c =
     let args = c.args in
     put_written (9 * args.place) c.rewrite_row.new.row args.rows.now _ (whole_row c ∙ sym (add-sub_cancel_left (9 * args.place) 9))
 
-pub overflow_mul-from : goal.overflow_mul-from
-overflow_mul-from c = omega (arith, c.requires.worked.held.room)
-
-pub offset_bounds-rows-from : goal.offset_bounds-rows-from
-offset_bounds-rows-from c = omega (arith, c.requires.worked.held.room)
-
-pub bounds-rows-from : goal.bounds-rows-from
-bounds-rows-from c = omega (arith, c.requires.worked.held.room)
-
 pub returns-then-rows-from-eq0 : goal.returns-then-rows-from-eq0
 returns-then-rows-from-eq0 c =
     let args = c.args in
@@ -52,14 +43,6 @@ returns-then-rows-from-eq0 c =
       chained_2 = row_gone 16384 2048 9 args.place rows args.chains.now c.requires.chained c.requires.place_lt_most_terms rows
           (rw (terms_more 9 args.place rows, gone_term args.rule args.triple args.parent args.place rows c.requires.worked none));
     }
-
-pub rewrite_row-requires : goal.rewrite_row-requires
-rewrite_row-requires c =
-    let place = c.args.place in
-    let rows = c.args.rows.now in
-    let room = room_here place rows c.requires.worked.held in
-    rw (add-sub_cancel_left, row_length 9 place rows room, row_first 9 place rows room (omega arith))
-    (c.requires.worked.held.within place (omega arith), omega arith)
 
 pub settle_row-requires : goal.settle_row-requires
 settle_row-requires c =

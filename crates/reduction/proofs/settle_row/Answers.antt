@@ -9,13 +9,6 @@ use Rattle.reduction.proofs.RowReduced.{room_here, cleared_terms, none_like, row
 use Rattle.reduction.proofs.ChainedRows.{row_chained, row_gone}
 use Rattle.reduction.proofs.settle_row.Goals as goal
 
-pub drops_at-requires : goal.drops_at-requires
-drops_at-requires c = c.requires.worked.held
-
-pub clear_row-requires : goal.clear_row-requires
-clear_row-requires c =
-    room_here c.args.place c.args.rows.now c.requires.worked.held
-
 pub returns-then-drops_at : goal.returns-then-drops_at
 returns-then-drops_at c =
     let place = c.args.place in
@@ -25,10 +18,6 @@ returns-then-drops_at c =
       row_settled = row_drops place rows held c.args.rule c.args.parent (sym c.drops_at.ensures ∙ c.if-drops_at.true);
       chained_2 = row_gone 16384 2048 9 place rows c.args.chains.now c.requires.chained c.requires.place_lt_most_terms _ (cleared_terms place rows held);
     })
-
-pub first_like-first-requires : goal.first_like-first-requires
-first_like-first-requires c =
-    record { held = c.requires.worked.held; chained = c.requires.chained; nonzero = c.requires.nonzero }
 
 pub returns-then-first-place : goal.returns-then-first-place
 returns-then-first-place c =
@@ -44,10 +33,6 @@ returns-then-first-place c =
       chained_2 = row_gone 16384 2048 9 place rows c.args.chains.now c.requires.chained c.requires.place_lt_most_terms _
           (merged_terms place rows held _ before some is_first);
     })
-
-pub term_at-requires : goal.term_at-requires
-term_at-requires c =
-    (omega (arith, c.requires.worked.held.room), omega (arith, c.requires.worked.held.within c.args.place (omega arith)))
 
 pub returns : goal.returns
 returns c =

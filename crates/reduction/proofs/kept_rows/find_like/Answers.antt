@@ -28,14 +28,6 @@ compared c =
     let args = c.args in
     rw (terms_at 9 args.count (c.loop-at.at - 1) args.rows.now (row_there (goal.at.After-eq c).In-loop-at).0, ← c.term_at.ensures, alike_is) c.eq.ensures
 
-pub bounds-chains-mark : goal.bounds-chains-mark
-bounds-chains-mark c =
-    rw c.requires.chained.room (omega (arith, c.mark_of-mark.ensures.1))
-
-pub loop-at-init : goal.loop-at-init
-loop-at-init c =
-    rw (c.from-at.ensures, c.mark_of-mark.ensures.0) (seeking_starts _ _ _ _ c.requires.chained _ c.requires.term_nonzero (omega arith))
-
 pub term_at-requires : goal.term_at-requires
 term_at-requires c =
     let held = c.requires.held in
@@ -46,18 +38,6 @@ pub returns-then-eq : goal.returns-then-eq
 returns-then-eq c =
     seeking_found _ _ _ _ c.requires.chained _ c.requires.term_nonzero _ c.loop-at.invariant c.loop-at-test.true
     (sym (compared (goal.at.returns-then-eq c).After-eq) ∙ c.if-eq.true)
-
-pub overflow_add-place : goal.overflow_add-place
-overflow_add-place c = omega (arith, (row_there (goal.at.overflow_add-place c).In-loop-at).1)
-
-pub bounds-chains-place : goal.bounds-chains-place
-bounds-chains-place c =
-    rw c.requires.chained.room (omega (arith, (row_there (goal.at.bounds-chains-place c).In-loop-at).1))
-
-pub loop-at-smaller : goal.loop-at-smaller
-loop-at-smaller c =
-    rw c.from-at-in-loop-at.ensures
-    (chain_falls _ _ _ _ c.requires.chained _ c.requires.term_nonzero _ c.loop-at.invariant c.loop-at-test.true)
 
 pub loop-at-preserved : goal.loop-at-preserved
 loop-at-preserved c =

@@ -5,10 +5,6 @@ use lib.ListN.{length-set}
 use Rattle.reduction.specs.code.Marks.{put_first}
 use Rattle.reduction.proofs.kept_rows.set_mark.Goals as goal
 
-pub bounds-chains-mark-2 : goal.bounds-chains-mark-2
-bounds-chains-mark-2 c =
-    rw (length-set c.args.chains.now) (omega (arith, c.requires.chains_len, c.mark_of-mark.ensures.1))
-
 pub returns : goal.returns
 unfolding put_first
 returns c =

@@ -7,22 +7,11 @@ pub loop-place-init : goal.loop-place-init
 loop-place-init c =
     gathering_starts c.args.count c.args.rows.now c.args.live.now c.requires.held c.requires.count_in_bounds
 
-pub gather_row-kept-requires : goal.gather_row-kept-requires
-gather_row-kept-requires c =
-    let h = c.loop-place-test.true in
-    let args = c.args in (
-      here_room args.count args.rows.now args.live.now c.requires.held c.requires.count_in_bounds _ _ _ c.loop-place.invariant h,
-      live_room args.count args.rows.now args.live.now c.requires.held c.requires.count_in_bounds _ _ _ c.loop-place.invariant h,
-    )
-
 pub loop-place-preserved : goal.loop-place-preserved
 loop-place-preserved c =
     let args = c.args in
     gathered_on args.count args.rows.now args.live.now c.requires.held c.requires.count_in_bounds _ _ _ c.loop-place.invariant
     c.loop-place-test.true _ _ c.gather_row-kept.ensures
-
-pub shape_of-live : goal.shape_of-live
-shape_of-live c = c.loop-place.invariant.same_length
 
 pub returns : goal.returns
 returns c =

@@ -7,23 +7,6 @@ use Rattle.tallying.specs.code.Tallies.{odds}
 use Rattle.tallying.proofs.OddRows.{odds_step, odds_end, filled_zero}
 use Rattle.tallying.proofs.odds.count_odds.Goals as goal
 
-pub loop-place-init : goal.loop-place-init
-loop-place-init c =
-    let zero = filled_zero _ (length c.args.table.now) (c.fill.ensures.after (λ y e. e)) in (
-      omega arith,
-      refl,
-      λ n h. omega (arith, zero n h),
-      λ n h. omega (arith, zero n h, ap (odds n) (terms_start 8 c.args.count c.args.rows.now)),
-    )
-
-pub term_at-requires : goal.term_at-requires
-term_at-requires c =
-    (omega arith, c.requires.held.within c.loop-place.place (omega arith))
-
-pub raise-requires : goal.raise-requires
-raise-requires c n h =
-    omega (arith, c.loop-place.invariant.2 n (omega arith))
-
 pub loop-place-preserved : goal.loop-place-preserved
 loop-place-preserved c =
     let same = c.raise.ensures.same_length in

@@ -11,14 +11,6 @@ pub loop-at-init : goal.loop-at-init
 unfolding occurrences
 loop-at-init c = (refl, λ k h. omega (arith, beside_none c.odd_in-odd.result k c.odd_in-odd.ensures.1), λ n h. refl)
 
-pub turn_next-requires : goal.turn_next-requires
-turn_next-requires c =
-    let low = c.odd_in-odd.ensures.1 in
-    record {
-      at_in_bounds = (omega arith, c.loop-at.invariant.2, low);
-      by_index = λ k h. (let entry = c.loop-at.invariant.1 k (omega arith) in let room = c.requires k (omega arith) in (omega arith, omega arith));
-    }
-
 pub loop-at-preserved : goal.loop-at-preserved
 loop-at-preserved c =
     let called = c.turn_next.ensures in

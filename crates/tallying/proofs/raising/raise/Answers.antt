@@ -10,13 +10,6 @@ pub loop-at-init : goal.loop-at-init
 unfolding occurrences
 loop-at-init c = (refl, λ n h. omega arith, λ n h. refl)
 
-pub turn-requires : goal.turn-requires
-turn-requires c =
-    record {
-      at_in_bounds = (omega arith, c.loop-at.invariant.2);
-      by_index = λ n h. (let entry = c.loop-at.invariant.1 n (omega arith) in let room = c.requires n (omega arith) in omega arith);
-    }
-
 pub loop-at-preserved : goal.loop-at-preserved
 loop-at-preserved c =
     let called = c.turn.ensures in
@@ -26,9 +19,3 @@ loop-at-preserved c =
       λ n h. (let entry = c.loop-at.invariant.1 n h in let turned = called.turned n (omega arith) in omega arith),
       below_on term c.loop-at.at c.loop-at.bound c.bound_on-bound.result (omega arith) c.loop-at.invariant.2 higher.0 higher.1,
     )
-
-pub returns : goal.returns
-returns c =
-    let term = c.args.term.now in
-    let all = take_all c.loop-at.at term (omega arith) in
-    record { same_length = c.loop-at.invariant.0; raised = rw all at c.loop-at.invariant.1 }

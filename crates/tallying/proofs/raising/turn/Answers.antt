@@ -24,25 +24,11 @@ pub returns-then-table-place : goal.returns-then-table-place
 returns-then-table-place c =
     turned_beyond c.args.term.now c.args.at c.args.table.now c.requires.at_in_bounds.0 (omega arith)
 
-pub overflow_add-table : goal.overflow_add-table
-overflow_add-table c =
-    omega (arith, first (goal.at.overflow_add-table c).Then-bound-place, c.requires.by_index c.from-place.result (omega arith))
-
 pub returns-then-bound-place : goal.returns-then-bound-place
 returns-then-bound-place c =
     let number = c.from-place in
     turned_here c.args.term.now c.args.at c.args.table.now c.requires.at_in_bounds.0
     number.result _ 0 number.ensures (omega arith) (first (goal.at.returns-then-bound-place c).Then-bound-place) (omega arith)
-
-pub overflow_sub-table : goal.overflow_sub-table
-overflow_sub-table c =
-    let odd = parity (goal.at.overflow_sub-table c).After-odd_in-odd in
-    omega (arith, c.requires.by_index c.from-place.result (omega arith))
-
-pub overflow_add-table-2 : goal.overflow_add-table-2
-overflow_add-table-2 c =
-    let odd = parity (goal.at.overflow_add-table-2 c).After-odd_in-odd in
-    omega (arith, c.requires.by_index c.from-place.result (omega arith))
 
 pub returns : goal.returns
 returns c =

@@ -16,20 +16,6 @@ one_more c =
     tallied_on args.count args.rows.now args.x args.y _ _ _ _ _ c.loop-place.invariant (omega arith) _ _
     (rw c.term_at.ensures at c.tally_row-odd.ensures)
 
-pub loop-place-init : goal.loop-place-init
-loop-place-init c =
-    tallying_starts _ _ _ _ _ (filled_zero _ (length c.args.less.now) (c.fill.ensures.after (λ y e. e)))
-
-pub term_at-requires : goal.term_at-requires
-term_at-requires c =
-    (omega arith, c.requires.held.within c.loop-place.place (omega arith))
-
-pub tally_row-odd-requires : goal.tally_row-odd-requires
-tally_row-odd-requires c n h =
-    let inv = c.loop-place.invariant in
-    let same = inv.same_length in
-    omega (arith, inv.low n (omega arith))
-
 pub returns-then-limit-apart : goal.returns-then-limit-apart
 returns-then-limit-apart c z = omega (arith, (one_more (goal.at.returns-then-limit-apart c).After-slice_known-in-loop-place-1).bound z)
 

@@ -18,20 +18,10 @@ returns-then-odd-eq0 c =
     let args = c.args in
     tallied_none args.term.now args.x args.y _ (both (goal.at.returns-then-odd-eq0 c).After-odd_in-2) c.if-odd-eq0.true _
 
-pub raise-requires : goal.raise-requires
-raise-requires c n h =
-    omega (arith, c.requires n h)
-
 pub returns-then-odd-lt2 : goal.returns-then-odd-lt2
 returns-then-odd-lt2 c =
     let args = c.args in
     tallied_one args.term.now args.x args.y _ (both (goal.at.returns-then-odd-lt2 c).After-odd_in-2) (omega arith) _ _ c.raise.ensures
-
-pub raise-requires-2 : goal.raise-requires-2
-raise-requires-2 c n h =
-    let once = c.raise.ensures in
-    let same = once.same_length in
-    omega (arith, once.raised n (omega arith), c.requires n (omega arith))
 
 pub returns : goal.returns
 returns c =

@@ -8,14 +8,6 @@ use Rattle.terms.proofs.GoodSteps.{rows_start, rows_pass, rows_stop, rows_end}
 use Rattle.terms.proofs.RowSteps.{row_length}
 use Rattle.terms.proofs.checking.good_rows.Goals as goal
 
-pub loop-place-init : goal.loop-place-init
-loop-place-init c = (search rules, rows_start (2 * _) _ _)
-
-pub good_row-requires : goal.good_row-requires
-good_row-requires c =
-    let args = c.args in
-    ap length c.row_at.ensures ∙ row_length 8 c.loop-place.place args.terms.now (omega arith)
-
 pub returns-then-not-good_row : goal.returns-then-not-good_row
 returns-then-not-good_row c =
     let args = c.args in

@@ -9,30 +9,9 @@ loop-place-init c =
     let args = c.args in
     spreading_starts args.count args.terms.now args.rows.now
 
-pub put_once-requires : goal.put_once-requires
-put_once-requires c =
-    let args = c.args in
-    let h = c.loop-place-test.true in (
-      here_room args.count args.terms.now args.rows.now c.requires.given c.requires.count_in_bounds _ _ c.loop-place.invariant h,
-      next_room args.count args.terms.now args.rows.now c.requires.given c.requires.count_in_bounds _ _ c.loop-place.invariant h,
-    )
-
 pub loop-place-preserved : goal.loop-place-preserved
 loop-place-preserved c =
     let args = c.args in
     rw c.put_once.ensures
     (spreading_on args.count args.terms.now args.rows.now c.requires.given c.requires.count_in_bounds _ _ c.loop-place.invariant
     c.loop-place-test.true)
-
-pub shape_of-rows : goal.shape_of-rows
-shape_of-rows c = c.loop-place.invariant.same_length
-
-pub returns : goal.returns
-returns c =
-    let args = c.args in
-    let s = c.loop-place.invariant in
-    let end : c.loop-place.place ≡ args.count = omega (arith, s.inside, c.loop-place-test.false) in
-    record {
-      spread = rw end at s.spread;
-      rows_unchanged = rw end at s.rest;
-    }

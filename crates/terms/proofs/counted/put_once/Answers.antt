@@ -7,11 +7,6 @@ use Rattle.lists.proofs.Behind.{written_one}
 use Rattle.terms.proofs.RowSteps.{row_length}
 use Rattle.terms.proofs.counted.put_once.Goals as goal
 
-pub put_row-requires : goal.put_row-requires
-put_row-requires c =
-    let whole = ap length c.row_at.ensures ∙ row_length 8 c.args.place c.args.terms.now c.requires.0 in
-    omega (arith, whole, c.requires.1)
-
 pub returns : goal.returns
 returns c =
     let place = c.args.place in

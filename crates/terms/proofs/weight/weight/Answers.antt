@@ -9,16 +9,6 @@ use Rattle.terms.proofs.RowSteps.{terms_start, row_room}
 use Rattle.terms.proofs.Weighing.{weight_step, weight_end}
 use Rattle.terms.proofs.weight.weight.Goals as goal
 
-pub loop-place-init : goal.loop-place-init
-loop-place-init c = (search rules, search rules, zero-add _ ∙ sym (ap (weight_of _) (terms_start _ _ _)))
-
-pub term_at-requires : goal.term_at-requires
-term_at-requires c =
-    let held = c.requires in
-    let args = c.args in
-    let room = row_room args.width args.count c.loop-place.place args.rows.now held (omega arith) in
-    (room, omega (arith, held.within c.loop-place.place (omega arith), held.wide))
-
 pub loop-place-preserved : goal.loop-place-preserved
 unfolding term_weight
 loop-place-preserved c =
