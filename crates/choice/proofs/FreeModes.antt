@@ -1,9 +1,9 @@
 -- The free modes are below the number of modes; and what is left of modes without one.
-use Rattle.std.proofs.Common.{◌≡◌, refl, ap, sym, ◌∙◌, Bool, true, false, cond, not, ◌&&◌, List, [], ◌∷◌, ◌++◌, ℕ, length, ltb, eqb, ltb-true, eq-eqb, ne_eqb, arith}
+use Rattle.std.proofs.Common.{◌≡◌, refl, ap, sym, ◌∙◌, Bool, true, false, cond, not, ◌&&◌, List, [], ◌∷◌, ◌++◌, ℕ, ◌<◌, get_or, length, ltb, eqb, ltb-true, ne_eqb, arith}
 use Rattle.std.specs.List.{list_all, list_any, range_with_len}
 use Rattle.lists.specs.Members.{every, keep, some_of}
 use Rattle.lists.specs.Ranges.{listed}
-use Rattle.lists.proofs.Every.{every_kept, every_uncons}
+use Rattle.lists.proofs.Every.{every_kept, every_uncons, below_at}
 use Rattle.lists.proofs.Standard.{every_is}
 use Rattle.lists.proofs.Tests.{eqb_either}
 use Rattle.tree.proofs.Chains.{counted_is}
@@ -14,24 +14,20 @@ pub unassigned_below : (modes : ℕ) (assigned : List ℕ) → Below modes (unas
 unfolding unassigned
 unassigned_below modes assigned = every_kept (λ v. ltb v modes) _ (listed (λ v. v) 0 modes) (listed_below modes)
 
+pub free_below : (modes : ℕ) (assigned free : List ℕ) (i : ℕ) → free ≡ unassigned modes assigned → i < length free → get_or free i 0 < modes
+free_below modes assigned free i are h = below_at modes free i 0 h (rw are (unassigned_below modes assigned))
+
 -- A mode that none of them is, left out.
-pub without_none : (modes : ℕ) (free : List ℕ) → Below modes free → without modes free ≡ free
+without_high : (modes : ℕ) (free : List ℕ) → Below modes free → without modes free ≡ free
 unfolding without keep
-without_none modes [] e = refl
-without_none modes (v ∷ free) e =
+without_high modes [] e = refl
+without_high modes (v ∷ free) e =
     let p = every_uncons (λ u. ltb u modes) v free e in
     let low = ltb-true v modes p.0 in
-    rw (ne_eqb v modes (λ q. omega arith)) (ap (λ l. v ∷ l) (without_none modes free p.1))
+    rw (ne_eqb v modes (λ q. omega arith)) (ap (λ l. v ∷ l) (without_high modes free p.1))
 
--- One mode kept or passed over.
-module _ (pair mode : ℕ) where
-  pub without_this : mode ≡ pair → without pair (mode ∷ []) ≡ []
-  unfolding without keep
-  without_this e = rw (eq-eqb mode pair e)
-
-  pub without_other : (mode ≡ pair → ⊥) → without pair (mode ∷ []) ≡ mode ∷ []
-  unfolding without keep
-  without_other h = rw (ne_eqb mode pair h)
+pub without_none : (modes : ℕ) (assigned free : List ℕ) → free ≡ unassigned modes assigned → without modes free ≡ free
+without_none modes assigned free are = without_high modes free (rw are (unassigned_below modes assigned))
 
 -- Whether a mode is one of the pairs', as a slice's `contains` says it.
 pub taken_is : (mode : ℕ) (assigned : List ℕ) → list_any (λ other. eqb other mode) assigned ≡ some_of (eqb mode) assigned
