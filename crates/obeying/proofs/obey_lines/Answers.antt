@@ -1,19 +1,7 @@
 -- What the lines ahead come to stays the answer; each line that is fine takes one from them.
-use Rattle.std.proofs.Common.{◌∙◌, ap}
-use Rattle.fields.specs.code.LinesLeft.{lines_left}
 use Rattle.refusal.proofs.Told.{handed_on}
-use Rattle.obeying.proofs.LinesObeyed.{along_starts, along_ends, along_goes, along_stops}
+use Rattle.obeying.proofs.LinesObeyed.{along_ends, along_goes, along_stops}
 use Rattle.obeying.proofs.obey_lines.Goals as goal
-
-pub loop-line-init : goal.loop-line-init
-loop-line-init c job holds =
-    let all = ap lines_left c.into_iter-line-iterator.ensures.into_iter_gives ∙ c.lines_of-line-items.ensures in
-    along_starts c.args.by_hand job c.args.rows.now _ c.args.run.now holds _ (rw all)
-
-pub obey_line-requires : goal.obey_line-requires
-obey_line-requires c =
-    let pre = c.requires in
-    (pre.0, (c.loop-line.invariant pre.0 pre.1).so_far.holds)
 
 pub returns-in_err-obey_line : goal.returns-in_err-obey_line
 returns-in_err-obey_line c job holds =

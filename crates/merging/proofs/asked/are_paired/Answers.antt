@@ -14,8 +14,3 @@ paired-requires c =
     let opens = opens_test job.modes (history_of run) triple c.requires.1.1.1 in
     let in_table = open_in 769 256 job c.requires.1.0 run holds in
     (omega (arith, holds.few, holds.modes_are), in_table triple.x opens.0, in_table triple.y opens.1)
-
-pub returns : goal.returns
-returns c job rows holds =
-    let run = c.args.run in
-    rw holds.modes_are at c.paired.ensures (history_of run) holds.tied.ends_are

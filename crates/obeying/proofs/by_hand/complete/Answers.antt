@@ -15,6 +15,3 @@ overflow_cast-result-2 c =
     let job = c.requires.0 in
     let holds = c.requires.1 in
     omega (arith, weight_in_most job (history_of c.args.run) c.args.triple, holds.light, c.weight_of.ensures job holds)
-
-pub returns : goal.returns
-returns c job holds = rw (c.merges.ensures, c.weight_of.ensures job holds)

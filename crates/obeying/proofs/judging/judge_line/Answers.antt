@@ -24,13 +24,6 @@ returns-then-modes-merges c job holds =
     let none_left : job.modes ≤ length (history_of args.run) = omega (arith, c.modes.ensures job _ holds, c.if-modes-merges.true, c.merges.ensures) in
     rw c.line_after-line.ensures (after_last args.by_hand job (history_of args.run) args.bytes.now none_left)
 
-pub judge_merge-requires : goal.judge_merge-requires
-judge_merge-requires c =
-    record {
-      holds = c.requires;
-      line_value = c.line_after-line.ensures;
-    }
-
 pub returns : goal.returns
 returns c job holds =
     let args = c.args in

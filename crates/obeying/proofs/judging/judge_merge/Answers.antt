@@ -36,11 +36,6 @@ returns-then-not-three_open c job holds =
     (not_open job (history_of args.run) args.said (is_next (goal.at.returns-then-not-three_open c).Else-from-merges)
     (sym (c.three_open.ensures job _ holds) ∙ c.if-not-three_open.true))
 
-pub are_paired-requires : goal.are_paired-requires
-are_paired-requires c =
-    let pre = c.requires in
-    (pre.holds.0, (_, (pre.holds.1, are_open (goal.at.are_paired-requires c).Else-not-three_open pre.holds.0 pre.holds.1)))
-
 pub returns-then-not-are_paired : goal.returns-then-not-are_paired
 returns-then-not-are_paired c job holds =
     let args = c.args in

@@ -1,25 +1,13 @@
 -- A step more leads to the same end.
-use Rattle.std.proofs.Common.{◌≡◌, ◌<◌, ◌≤◌, ◌∙◌, refl, ap, arith, length}
+use Rattle.std.proofs.Common.{◌≡◌, ◌<◌, ◌≤◌, ◌∙◌, ap, arith, length}
 use Rattle.merging.specs.declared.run.Run.{Run}
 use Rattle.merging.specs.code.State.{history_of}
 use Rattle.merging.proofs.Recording.{length_recorded}
-use Rattle.merging.proofs.Runs.{went_nowhere, went_on, went_here, finished_on, finished_already}
+use Rattle.merging.proofs.Runs.{went_on, went_here, finished_on, finished_already}
 use Rattle.merging.proofs.run.Run.finished.Goals as goal
 
 steps_made : (run : Run) → length (history_of run) ≡ run.step
 steps_made run = length_recorded run.merges run.step
-
-pub loop-init : goal.loop-init
-loop-init c job holds = (refl, went_nowhere job c.args.rows.now c.args.self holds, refl)
-
-pub stepped-run-requires : goal.stepped-run-requires
-stepped-run-requires c =
-    let pre = c.requires in
-    let so_far = c.loop.invariant pre.0 pre.1 in
-    record {
-      holds = (pre.0, so_far.1.holds);
-      step_lt_modes = omega (arith, so_far.0, so_far.1.holds.modes_are, pre.1.modes_are);
-    }
 
 pub loop-preserved : goal.loop-preserved
 loop-preserved c job holds =

@@ -44,11 +44,6 @@ ready_best c job holds =
     ready_chosen 769 256 job (rows_of c) (run_of c) holds (gathered_of c) (kept_of c) c.put_live-kept.ensures
     (left_in c job holds) c.choose-best.result (best_found c job holds)
 
-pub put_live-kept-requires : goal.put_live-kept-requires
-put_live-kept-requires c =
-    let holds = c.requires.holds.1 in
-    record { held = holds.held; count_in_bounds = omega (arith, holds.light, holds.count_is) }
-
 pub choose-best-requires : goal.choose-best-requires
 choose-best-requires c =
     let holds = c.requires.holds.1 in
