@@ -10,6 +10,7 @@ ghost use Rattle.choice.specs.code.Kept.{SlotsFit, PairUnfixed, CoupleLooked};
 
 use crate::{Selection, comparing};
 use entities::Triple;
+use slots::restrictions::TreeRestrictions;
 use tallying::{pairs, tally};
 use terms::{row, weight};
 
@@ -275,11 +276,15 @@ impl<'a> Seeking<'a> {
         requires { number < self.now.modes }
         ensures { result ≡ sought (rows_of self.now) number best (choices_at self.now.modes self.now.tree.now self.now.assigned.now number) }
     {
-        let slots = slots::slots(self.modes, self.tree, self.assigned, usize::from(number));
+        let restrictions = TreeRestrictions {
+            modes: self.modes,
+            tree: self.tree,
+            assigned: self.assigned,
+        };
         let node = Node {
             among: self,
             number,
-            slots,
+            slots: restrictions.slots(usize::from(number)),
         };
         node.best_of_slots(best)
     }

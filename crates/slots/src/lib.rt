@@ -4,14 +4,13 @@
 ghost use Rattle.std.specs.Prelude.{◌≡◌, ◌+◌, ◌*◌, ◌≤◌, ◌<◌, length};
 ghost use Rattle.entities.specs.Limits.{most_modes};
 ghost use Rattle.slots.specs.code.Numbers.{number_unfixed, number_leaf};
-ghost use Rattle.slots.specs.code.Promises.{SlotsAre};
-ghost use Rattle.slots.specs.Slots.{leaf_slot, slot_of, slot as slot_at, stands_as};
+ghost use Rattle.slots.specs.Slots.{leaf_slot, slot_of, stands_as};
 
-use entities::{Triple, parents};
-use tree::table;
+use entities::parents;
 
 pub mod heuristics;
 pub mod nodes;
+pub mod restrictions;
 
 // A leaf's number once its pair has a mode; until then a number behind all others.
 fn leaf_slot(modes: usize, mode: usize, parity: usize) -> u16
@@ -40,27 +39,8 @@ pub fn slot_of(modes: usize, assigned: &[u16], code: usize) -> u16
     leaf_slot(modes, usize::from(assigned[pair]), leaf % 2)
 }
 
-// The number of a node's slot under X (edge 0), Y (1) or Z (2).
-fn slot(modes: usize, tree: &[u16], assigned: &[u16], node: usize, edge: usize) -> u16
-    requires { (modes ≤ most_modes) × (length assigned.now ≡ modes) × (3 * node + edge < length tree.now) }
-    ensures { (result ≡ stands_as modes (slot_at modes tree.now assigned.now node edge)) × (result ≤ 3 * modes + 2) }
-{
-    slot_of(modes, assigned, table::child(tree, node, edge))
-}
-
-// A node's three slots.
-pub fn slots(modes: usize, tree: &[u16], assigned: &[u16], node: usize) -> Triple
-    requires { (modes ≤ most_modes) × (length assigned.now ≡ modes) × (length tree.now ≡ 3 * modes) × (node < modes) }
-    ensures { SlotsAre modes tree.now assigned.now node result }
-{
-    Triple {
-        x: slot(modes, tree, assigned, node, 0),
-        y: slot(modes, tree, assigned, node, 1),
-        z: slot(modes, tree, assigned, node, 2),
-    }
-}
-
 // The slot is a leaf that isn't fixed yet.
+#[tactic(auto, unfolding(crate::specs::code::Numbers::number_unfixed))]
 pub fn unfixed(modes: usize, slot: u16) -> bool
     requires { modes ≤ most_modes }
     ensures { result ≡ number_unfixed modes slot }
@@ -69,6 +49,7 @@ pub fn unfixed(modes: usize, slot: u16) -> bool
 }
 
 // The leaf that an unfixed slot takes of a mode: its parity.
+#[tactic(auto, unfolding(crate::specs::code::Numbers::number_leaf))]
 pub fn leaf_of(modes: usize, slot: u16, mode: u16) -> u16
     requires { (modes ≤ most_modes) × (mode < modes) × (3 * modes < slot) × (slot ≤ 3 * modes + 2) }
     ensures { result ≡ number_leaf modes slot mode }

@@ -22,12 +22,13 @@ use entities::codes;
 use refusal::Refusal;
 use slots::heuristics::Heuristic;
 use slots::nodes;
+use slots::restrictions::TreeRestrictions;
 use terms::rules::Rule;
 use terms::{checking, counted, row, slices};
 
 mod rounds;
 
-// The code of the slot that stands where the given tree has this code.
+// The code of the slot that stands where the given tree has `given`.
 fn answer_code(modes: usize, assigned: &[u16], given: u16) -> u16
     requires { (modes ≤ most_modes) × (length assigned.now ≡ modes) }
     ensures { result ≡ child_code modes (2 * modes) (stands_as modes (slot_of modes assigned.now given)) }
@@ -36,13 +37,13 @@ fn answer_code(modes: usize, assigned: &[u16], given: u16) -> u16
     codes::code(modes, (2 * modes) as u16, slot)
 }
 
-// The codes of the slots, where the given tree has its own, into the front of the table.
-fn write_table(modes: usize, tree: &[u16], assigned: &[u16], table: &mut [u16])
-    requires { (modes ≤ most_modes) × (length assigned.now ≡ modes) × (length tree.now ≤ length table.old) }
-    ensures { table.new ≡ written_at 0 (answer_table modes assigned.now tree.now) table.old }
+// The codes of the slots, where the given tree has its own, into the front of `table`.
+fn write_table(restrictions: &TreeRestrictions<'_>, table: &mut [u16])
+    requires { 3 * restrictions.now.modes ≤ length table.old }
+    ensures { table.new ≡ written_at 0 (answer_table restrictions.now.modes restrictions.now.assigned.now restrictions.now.tree.now) table.old }
 {
-    for (at, given) in tree.iter().enumerate() {
-        table[at] = answer_code(modes, assigned, *given);
+    for (at, given) in restrictions.tree.iter().enumerate() {
+        table[at] = answer_code(restrictions.modes, restrictions.assigned, *given);
     }
 }
 
@@ -66,7 +67,12 @@ fn assign_pairs<'a>(
     let weight = rounds::topphatt(
         modes, rule, tree, distances, heuristic, rows, count, assigned,
     );
-    write_table(modes, tree, assigned, table);
+    let restrictions = TreeRestrictions {
+        modes,
+        tree,
+        assigned,
+    };
+    write_table(&restrictions, table);
     weight
 }
 

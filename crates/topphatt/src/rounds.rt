@@ -16,7 +16,7 @@ use choice::Selection;
 use entities::parents;
 use reduction::live_rows;
 use slots::heuristics::Heuristic;
-use slots::nodes;
+use slots::restrictions::TreeRestrictions;
 use terms::rules::Rule;
 use terms::{row, weight};
 use tree::table;
@@ -61,7 +61,12 @@ fn choose<'a>(
     let mut free = [0u16; 256];
     let unassigned = choice::fill_unassigned(modes, assigned, &mut free);
     let mut active = [0u16; 256];
-    let nodes = nodes::fill_active(modes, tree, distances, heuristic, assigned, &mut active);
+    let restrictions = TreeRestrictions {
+        modes,
+        tree,
+        assigned,
+    };
+    let nodes = restrictions.fill_active(distances, heuristic, &mut active);
     choice::select(
         rows,
         count,

@@ -9,16 +9,16 @@ use Rattle.topphatt.proofs.write_table.Goals as goal
 pub loop-at-init : goal.loop-at-init
 loop-at-init c =
     let args = c.args in
-    mapped_start (λ given. child_code args.modes (2 * args.modes) (stands_as args.modes (slot_of args.modes args.assigned.now given))) args.tree.now args.table.now
+    mapped_start (λ given. child_code args.restrictions.now.modes (2 * args.restrictions.now.modes) (stands_as args.restrictions.now.modes (slot_of args.restrictions.now.modes args.restrictions.now.assigned.now given))) args.restrictions.now.tree.now args.table.now
 
 pub loop-at-preserved : goal.loop-at-preserved
 loop-at-preserved c =
     let args = c.args in
-    let rule : ℕ → ℕ = λ given. child_code args.modes (2 * args.modes) (stands_as args.modes (slot_of args.modes args.assigned.now given)) in
-    rw c.answer_code.ensures (ap (λ t. set t c.loop-at.at (rule (get_or args.tree.now c.loop-at.at 0))) c.loop-at.invariant ∙ mapped_next rule args.tree.now args.table.now c.loop-at.at 0 (omega arith) (omega arith))
+    let rule : ℕ → ℕ = λ given. child_code args.restrictions.now.modes (2 * args.restrictions.now.modes) (stands_as args.restrictions.now.modes (slot_of args.restrictions.now.modes args.restrictions.now.assigned.now given)) in
+    rw c.answer_code.ensures (ap (λ t. set t c.loop-at.at (rule (get_or args.restrictions.now.tree.now c.loop-at.at 0))) c.loop-at.invariant ∙ mapped_next rule args.restrictions.now.tree.now args.table.now c.loop-at.at 0 (omega arith) (omega arith))
 
 pub returns : goal.returns
 unfolding answer_table
 returns c =
     let args = c.args in
-    c.loop-at.invariant ∙ rw (take_all c.loop-at.at args.tree.now (omega arith))
+    c.loop-at.invariant ∙ rw (take_all c.loop-at.at args.restrictions.now.tree.now (omega arith))

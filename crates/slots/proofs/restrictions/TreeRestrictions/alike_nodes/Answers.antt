@@ -4,7 +4,7 @@ use mathlib.Core.Bool.{and-true}
 use Rattle.lists.specs.Members.{alike}
 use Rattle.entities.specs.declared.Triple.{Triple}
 use Rattle.slots.proofs.SlotNumbers.{slots_listed}
-use Rattle.slots.proofs.nodes.alike_nodes.Goals as goal
+use Rattle.slots.proofs.restrictions.TreeRestrictions.alike_nodes.Goals as goal
 
 three_alike : (a b : Triple)
     → (eqb a.x b.x && (eqb a.y b.y && eqb a.z b.z)) ≡ alike (a.x ∷ (a.y ∷ (a.z ∷ []))) (b.x ∷ (b.y ∷ (b.z ∷ [])))

@@ -5,7 +5,7 @@ use native.Mathlib.Omega.{arith}
 use lib.Seq.{take_all}
 use lib.ListN.{length-drop}
 use Rattle.slots.specs.Nodes.{narrowed}
-use Rattle.slots.proofs.nodes.fill_narrowed.Goals as goal
+use Rattle.slots.proofs.restrictions.TreeRestrictions.fill_narrowed.Goals as goal
 
 pub returns-in-MinWeight : goal.returns-in-MinWeight
 unfolding narrowed

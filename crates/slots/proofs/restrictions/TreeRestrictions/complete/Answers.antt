@@ -4,12 +4,12 @@ use Rattle.std.proofs.Math.Bool.{and_assoc}
 use Rattle.slots.specs.Slots.{slot, is_fixed}
 use Rattle.slots.specs.Nodes.{complete}
 use Rattle.slots.proofs.SlotNumbers.{edge_number_unfixed, edge_number_fixed}
-use Rattle.slots.proofs.nodes.complete.Goals as goal
-use Rattle.slots.proofs.nodes.complete.Goals.{Joined-is_fixed, then-is_fixed, else-is_fixed}
+use Rattle.slots.proofs.restrictions.TreeRestrictions.complete.Goals as goal
+use Rattle.slots.proofs.restrictions.TreeRestrictions.complete.Goals.{Joined-is_fixed, then-is_fixed, else-is_fixed}
 
 x_and_y : (c : Joined-is_fixed)
     → let args = c.args in
-    c.if-is_fixed.value ≡ (is_fixed (slot args.modes args.tree.now args.assigned.now args.node 0) && is_fixed (slot args.modes args.tree.now args.assigned.now args.node 1))
+    c.if-is_fixed.value ≡ (is_fixed (slot args.self.now.modes args.self.now.tree.now args.self.now.assigned.now args.node 0) && is_fixed (slot args.self.now.modes args.self.now.tree.now args.self.now.assigned.now args.node 1))
 x_and_y c =
     let are = c.slots-at.ensures in
     let x = c.is_fixed.ensures ∙ edge_number_fixed _ _ _ _ _ _ are.x_is in

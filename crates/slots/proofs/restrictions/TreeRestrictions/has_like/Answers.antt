@@ -5,13 +5,13 @@ use Rattle.std.proofs.lemmas.Iterator.Adapters.{serves_from_places}
 use Rattle.std.proofs.lemmas.Iterator.Search.{any_from_yields_List}
 use Rattle.lists.proofs.Every.{below_at}
 use Rattle.lists.proofs.Standard.{some_is}
-use Rattle.slots.proofs.nodes.has_like.Goals as goal
+use Rattle.slots.proofs.restrictions.TreeRestrictions.has_like.Goals as goal
 
 pub any-requires-clause-callable : goal.any-requires-clause-callable
 any-requires-clause-callable c =
     let front = take c.args.count c.args.kept.now in
     serves_from_places (YieldsList-from_slice front c.iter.ensures.rest) (λ x q k. search (rules, tests))
-    (λ x k h e. let low : x.now < c.args.modes = omega (arith, below_at c.args.modes front k x.now h c.requires.kept_value) in search rules)
+    (λ x k h e. let low : x.now < c.args.self.now.modes = omega (arith, below_at c.args.self.now.modes front k x.now h c.requires.kept_value) in search rules)
 
 pub returns : goal.returns
 returns c =

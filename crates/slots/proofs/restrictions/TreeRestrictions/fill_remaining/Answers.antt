@@ -5,7 +5,7 @@ use Rattle.lists.proofs.Joined.{gathered, gathered_all}
 use Rattle.lists.proofs.Ranges.{keep_on, keep_done}
 use Rattle.tree.specs.Table.{nodes}
 use Rattle.slots.specs.Nodes.{remaining}
-use Rattle.slots.proofs.nodes.fill_remaining.Goals as goal
+use Rattle.slots.proofs.restrictions.TreeRestrictions.fill_remaining.Goals as goal
 
 pub loop-node-init : goal.loop-node-init
 unfolding remaining nodes
@@ -18,7 +18,7 @@ loop-node-preserved c =
     let same = put.auto.numbers in
     let one = rw c.complete-stays.ensures at put.ensures.1 in (
       omega arith,
-      gathered (take c.loop-node.count c.loop-node.left) _ _ _ _ _ one (keep_on _ (λ v. v) args.modes c.loop-node.node (omega arith)) c.loop-node.invariant.1,
+      gathered (take c.loop-node.count c.loop-node.left) _ _ _ _ _ one (keep_on _ (λ v. v) args.self.now.modes c.loop-node.node (omega arith)) c.loop-node.invariant.1,
     )
 
 pub returns : goal.returns

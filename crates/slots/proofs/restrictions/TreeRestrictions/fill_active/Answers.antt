@@ -1,13 +1,13 @@
 -- The nodes left, those of them that are far, and what the heuristic keeps.
-use mathlib.Core.Path.{◌≡◌, sym}
+use mathlib.Core.Path.{◌≡◌}
 use Prim.Native.Nat.{◌≤◌}
 use native.Mathlib.Omega.{arith}
 use lib.Seq.{length-take-le}
 use lib.ListN.{length, take}
 use Rattle.slots.specs.Nodes.{active}
 use Rattle.slots.proofs.NodeBounds.{remaining_below, farthest_below}
-use Rattle.slots.proofs.nodes.fill_active.Goals as goal
-use Rattle.slots.proofs.nodes.fill_active.Goals.{After-fill_far-count, After-fill_remaining-remaining}
+use Rattle.slots.proofs.restrictions.TreeRestrictions.fill_active.Goals as goal
+use Rattle.slots.proofs.restrictions.TreeRestrictions.fill_active.Goals.{After-fill_far-count, After-fill_remaining-remaining}
 
 -- How many are left is how many the front has.
 left_size : (c : After-fill_remaining-remaining)
@@ -33,22 +33,12 @@ far_size c =
     let room : called.result ≤ length called.new.far = omega arith in
     (room, length-take-le called.result called.new.far room, omega arith)
 
-pub slice_bounds-fill_far-end : goal.slice_bounds-fill_far-end
-slice_bounds-fill_far-end c = sym (left_size (goal.at.slice_bounds-fill_far-end c).After-fill_remaining-remaining)
-
 pub fill_far-count-requires : goal.fill_far-count-requires
 fill_far-count-requires c =
     let called = c.fill_remaining-remaining in
     let size = left_size (goal.at.fill_far-count-requires c).After-fill_remaining-remaining in
     let most = called.ensures.0 in
-    let few = c.requires.modes_le_most_modes.0 in
-    record { modes_in_bounds = (c.requires.distances.room, omega arith); left_value = rw called.ensures.1 (remaining_below c.args.modes c.args.tree.now c.args.assigned.now) }
-
-pub slice_bounds-far-end : goal.slice_bounds-far-end
-slice_bounds-far-end c = (far_size (goal.at.slice_bounds-far-end c).After-fill_far-count).0
-
-pub slice_bounds-fill_narrowed-end : goal.slice_bounds-fill_narrowed-end
-slice_bounds-fill_narrowed-end c = sym (far_size (goal.at.slice_bounds-fill_narrowed-end c).After-fill_far-count).1
+    record { modes_in_bounds = (c.requires.distances.room, omega arith); left_value = rw called.ensures.1 (remaining_below c.args.self.now.modes c.args.self.now.tree.now c.args.self.now.assigned.now) }
 
 pub fill_narrowed-requires : goal.fill_narrowed-requires
 fill_narrowed-requires c =
@@ -56,11 +46,10 @@ fill_narrowed-requires c =
     let left = c.fill_remaining-remaining in
     let size = far_size (goal.at.fill_narrowed-requires c).After-fill_far-count in
     let most = left.ensures.0 in
-    let pre = c.requires.modes_le_most_modes in
     record {
-      modes_le_most_modes = (pre.0, pre.1, pre.2, omega arith);
-      far_value = rw (far.ensures.1 c.args.tree.now c.requires.distances)
-          (farthest_below c.args.modes c.args.tree.now _ (rw left.ensures.1 (remaining_below c.args.modes c.args.tree.now c.args.assigned.now)));
+      far_in_bounds = omega arith;
+      far_value = rw (far.ensures.1 c.args.self.now.tree.now c.requires.distances)
+          (farthest_below c.args.self.now.modes c.args.self.now.tree.now _ (rw left.ensures.1 (remaining_below c.args.self.now.modes c.args.self.now.tree.now c.args.self.now.assigned.now)));
     }
 
 pub returns : goal.returns
@@ -72,4 +61,4 @@ returns c =
     let size = far_size (goal.at.returns c).After-fill_far-count in
     let most = left.ensures.0 in
     let few = kept.ensures.0 in
-    (omega arith, rw left.ensures.1 at (rw (far.ensures.1 c.args.tree.now c.requires.distances) at kept.ensures.1))
+    (omega arith, rw left.ensures.1 at (rw (far.ensures.1 c.args.self.now.tree.now c.requires.distances) at kept.ensures.1))
