@@ -1,6 +1,6 @@
 // The heuristics: which of a round's nodes are taken.
-ghost use Rattle.std.specs.Prelude.{Result};
-ghost use Rattle.slots.specs.Heuristics.{HeuristicSaid};
+ghost use Rattle.std.specs.Prelude.{◌≡◌, Result};
+ghost use Rattle.slots.specs.Heuristics.{heuristic_number, HeuristicSaid};
 
 use refusal::Refusal;
 
@@ -12,6 +12,19 @@ pub enum Heuristic {
     XFirst,
     // The last node.
     ZFirst,
+}
+
+// A heuristic's number: 0, 1 and 2, in the order above.
+impl From<Heuristic> for usize {
+    ghost from_gives = { λ heuristic number. number ≡ heuristic_number heuristic };
+
+    fn from(heuristic: Heuristic) -> usize {
+        match heuristic {
+            Heuristic::MinWeight => 0,
+            Heuristic::XFirst => 1,
+            Heuristic::ZFirst => 2,
+        }
+    }
 }
 
 // The heuristic of a number, or refusal 17 where it has none.

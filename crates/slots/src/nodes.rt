@@ -187,20 +187,17 @@ impl TreeRestrictions<'_> {
     }
 
     // The nodes of a round; how many there are.
-    pub fn fill_active(
-        &self,
-        distances: &[usize],
-        heuristic: Heuristic,
-        active: &mut [u16],
-    ) -> usize
+    pub fn fill_active(&self, distances: &[usize], heuristic: usize, active: &mut [u16]) -> usize
         requires modes_in_bounds { self.now.modes ≤ length active.old }
         requires distances { Distances self.now.modes self.now.tree.now distances.now }
-        ensures { (result ≤ self.now.modes) × (take result active.new ≡ active_nodes self.now.modes self.now.tree.now (heuristic_number heuristic) self.now.assigned.now) }
+        ensures { (result ≤ self.now.modes) × (take result active.new ≡ active_nodes self.now.modes self.now.tree.now heuristic self.now.assigned.now) }
     {
         let mut left = [0u16; 256];
         let remaining = self.fill_remaining(&mut left);
         let mut far = [0u16; 256];
         let count = fill_far(self.modes, distances, &left[..remaining], &mut far);
+        // the promise is for every number: one that no heuristic has keeps the last node
+        let heuristic = Heuristic::try_from(heuristic).unwrap_or(Heuristic::ZFirst);
         self.fill_narrowed(heuristic, &far[..count], active)
     }
 }

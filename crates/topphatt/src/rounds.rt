@@ -66,7 +66,7 @@ fn choose<'a>(
         tree,
         assigned,
     };
-    let nodes = restrictions.fill_active(distances, heuristic, &mut active);
+    let nodes = restrictions.fill_active(distances, usize::from(heuristic), &mut active);
     choice::select(
         rows,
         count,

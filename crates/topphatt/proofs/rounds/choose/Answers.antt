@@ -49,7 +49,7 @@ select-requires c =
       held = pre.held;
       count_le_most_terms = (pre.fits, pre.ready.few, pre.ready.pairs, pre.ready.whole);
       free_value = free.ensures.1;
-      active_value = rw nodes.ensures.1 (active_below c.args.modes c.args.tree.now (heuristic_number c.args.heuristic) c.args.assigned.now);
+      active_value = rw nodes.ensures.1 (active_below c.args.modes c.args.tree.now c.from.result c.args.assigned.now);
     }
 
 pub returns : goal.returns
@@ -60,7 +60,7 @@ returns c =
     let size = length_terms 8 args.count args.rows.now in
     let nodes = c.fill_active-nodes in
     let few : 3 * args.modes + 2 < 65536 = omega (arith, c.requires.ready.few) in
-    let found = rw (← rw nodes.ensures.1 at c.select.ensures) at
+    let found = rw (← rw (nodes.ensures.1, c.from.ensures) at c.select.ensures) at
     (over_chosen rows args.count (omega arith) args.modes few args.tree.now (heuristic_number args.heuristic) args.assigned.now) in
     record {
       right = found.right;

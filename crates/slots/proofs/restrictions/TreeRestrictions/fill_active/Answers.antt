@@ -1,10 +1,20 @@
 -- The nodes left, those of them that are far, and what the heuristic keeps.
-use mathlib.Core.Path.{◌≡◌}
-use Prim.Native.Nat.{◌≤◌}
+use Rattle.std.specs.Prelude.{Err, Ok, Result}
+use Rattle.std.specs.Result.{result_unwrap_or}
+use mathlib.Core.Path.{◌≡◌, ◌∙◌, ap}
+use mathlib.Core.Bool.{Bool}
+use mathlib.Core.List.{List}
+use Prim.Native.Nat.{ℕ, ◌≤◌}
 use native.Mathlib.Omega.{arith}
+use borrow.Author.Tests.{ne_eqb}
 use lib.Seq.{length-take-le}
 use lib.ListN.{length, take}
-use Rattle.slots.specs.Nodes.{active}
+use Rattle.refusal.specs.declared.Refusal.{Refusal}
+use Rattle.slots.specs.declared.heuristics.Heuristic.{Heuristic}
+use Rattle.slots.specs.declared.heuristics.Heuristic.TheVariants.{ZFirst}
+use Rattle.slots.specs.Heuristics.{heuristic_number, HeuristicSaid}
+use Rattle.slots.specs.Nodes.{narrowed, active}
+use Rattle.slots.specs.code.Restrictions.{alike_in}
 use Rattle.slots.proofs.NodeBounds.{remaining_below, farthest_below}
 use Rattle.slots.proofs.restrictions.TreeRestrictions.fill_active.Goals as goal
 use Rattle.slots.proofs.restrictions.TreeRestrictions.fill_active.Goals.{After-fill_far-count, After-fill_remaining-remaining}
@@ -52,13 +62,22 @@ fill_narrowed-requires c =
           (farthest_below c.args.self.now.modes c.args.self.now.tree.now _ (rw left.ensures.1 (remaining_below c.args.self.now.modes c.args.self.now.tree.now c.args.self.now.assigned.now)));
     }
 
+-- A number that no heuristic has keeps what the last heuristic keeps.
+as_read : (number : ℕ) (found : Result Heuristic Refusal) (like : ℕ → ℕ → Bool) (far : List ℕ) → HeuristicSaid number found
+    → narrowed (heuristic_number (result_unwrap_or found ZFirst)) like far ≡ narrowed number like far
+unfolding narrowed
+as_read number (Ok heuristic) like far said = ap (λ n. narrowed n like far) said
+as_read number (Err why) like far said =
+    rw (ne_eqb number 0 (λ e. omega (arith, said.0, e)), ne_eqb number 1 (λ e. omega (arith, said.0, e)))
+
 pub returns : goal.returns
 unfolding active
 returns c =
+    let read = as_read c.args.heuristic c.try_from.result (alike_in c.args.self.now) _ c.try_from.ensures in
     let kept = c.fill_narrowed in
     let far = c.fill_far-count in
     let left = c.fill_remaining-remaining in
     let size = far_size (goal.at.returns c).After-fill_far-count in
     let most = left.ensures.0 in
     let few = kept.ensures.0 in
-    (omega arith, rw left.ensures.1 at (rw (far.ensures.1 c.args.self.now.tree.now c.requires.distances) at kept.ensures.1))
+    (omega arith, rw left.ensures.1 at (rw (far.ensures.1 c.args.self.now.tree.now c.requires.distances) at (rw c.unwrap_or-heuristic.ensures at kept.ensures.1 ∙ read)))
