@@ -3,7 +3,6 @@ use Rattle.std.proofs.Common.{◌≡◌, refl, ap, true, false, List, ℕ, suc, 
 use mathlib.Core.Path.{fun_ext}
 use native.Mathlib.Nat.{sub-zero}
 use Rattle.lists.specs.Least.{best_of}
-use Rattle.terms.specs.declared.rules.Rule.{Rule}
 use Rattle.terms.specs.Rows.{terms_of}
 use Rattle.terms.specs.Weight.{weight_of}
 use Rattle.reduction.specs.Reduction.{reduction, live}
@@ -13,7 +12,8 @@ use Rattle.choice.specs.Choice.{Choice, candidates}
 use Rattle.choice.specs.computed.Choosing.{better, chosen}
 use Rattle.topphatt.specs.Rounds.{Rounds, Task, before, fixed_by, after}
 use Rattle.topphatt.specs.computed.Rounding.{choice_in, next, rounds, ended}
-use Rattle.topphatt.specs.code.Going.{task_with, state_of}
+use Rattle.topphatt.specs.declared.task.Task.{Task as GoodTask}
+use Rattle.topphatt.specs.code.Going.{task_with, ended_over, state_of}
 
 pub stepped : (task : Task) (count : ℕ) (rows assigned : List ℕ) (weight : ℕ) (now_rows now_assigned : List ℕ) (r : ℕ) (choice : Choice)
     → choice ≡ choice_in task (state_of count rows assigned weight)
@@ -41,11 +41,10 @@ module _ (task : Task) where
     unfolding rounds
     rounds_end h = let none : task.job.modes - at ≡ 0 = omega arith in rw none
 
-pub rounds_start : (modes : ℕ) (rule : Rule) (table : List ℕ) (heuristic count : ℕ) (rows assigned : List ℕ) → assigned ≡ replicate modes modes
-    → rounds (task_with modes rule table heuristic (terms_of 9 count rows)) (modes - 0) (state_of count rows assigned 0)
-    ≡ ended (task_with modes rule table heuristic (terms_of 9 count rows))
+pub rounds_start : (task : GoodTask) (count : ℕ) (rows assigned : List ℕ) → assigned ≡ replicate task.modes task.modes
+    → rounds (task_with task (terms_of 9 count rows)) (task.modes - 0) (state_of count rows assigned 0) ≡ ended_over task count rows
 unfolding ended before state_of
-rounds_start modes rule table heuristic count rows assigned e = rw (sub-zero, e)
+rounds_start task count rows assigned e = rw (sub-zero, e)
 
 pub state_assigned : (count : ℕ) (rows assigned : List ℕ) (weight : ℕ) → (state_of count rows assigned weight).assigned ≡ assigned
 unfolding state_of

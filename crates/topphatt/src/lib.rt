@@ -9,15 +9,13 @@ ghost use Rattle.terms.specs.Rows.{terms_of};
 ghost use Rattle.terms.specs.code.Held.{Given, Worked};
 ghost use Rattle.terms.specs.Good.{checked};
 ghost use Rattle.tree.specs.Check.{tree_checked};
-ghost use Rattle.slots.specs.Heuristics.{heuristic_number};
 ghost use Rattle.slots.specs.Slots.{slot_of, stands_as};
-ghost use Rattle.slots.specs.code.Promises.{Distances};
-ghost use Rattle.topphatt.specs.computed.Rounding.{ended};
 ghost use Rattle.terms.specs.Rules.{rule_number};
 ghost use Rattle.topphatt.specs.Answer.{answer_table, asked, task_of, done_by, with_room, with_terms, with_tree, outcome};
 ghost use Rattle.topphatt.specs.Promises.{lent, rooms_of, Assigns};
-ghost use Rattle.topphatt.specs.code.Going.{task_with, Tabled};
+ghost use Rattle.topphatt.specs.code.Going.{task_with, asked_by, Tabled};
 
+use crate::task::{Ready, Task};
 use entities::codes;
 use refusal::Refusal;
 use slots::heuristics::Heuristic;
@@ -27,6 +25,7 @@ use terms::rules::Rule;
 use terms::{checking, counted, row, slices};
 
 mod rounds;
+mod task;
 
 // The code of the slot that stands where the given tree has `given`.
 fn answer_code(modes: usize, assigned: &[u16], given: u16) -> u16
@@ -47,126 +46,99 @@ fn write_table(restrictions: &TreeRestrictions<'_>, table: &mut [u16])
     }
 }
 
-// The rounds, and the leaves that they fixed written into the front of the table; the sum of chosen weights.
-fn assign_pairs<'a>(
-    modes: usize,
-    rule: Rule,
-    tree: &'a [u16],
-    distances: &'a [usize],
-    heuristic: Heuristic,
-    rows: &mut [u16],
-    count: usize,
-    assigned: &mut [u16],
-    table: &mut [u16],
-) -> usize
-    requires le_modes { (1 ≤ modes) × (modes ≤ most_modes) × (count ≤ most_terms) × (length tree.now ≡ 3 * modes) × (assigned.old ≡ replicate modes modes) × (3 * modes ≤ length table.old) }
-    requires distances { Distances modes tree.now distances.now }
-    requires worked { Worked count rows.old }
-    ensures { Tabled modes count tree.now (ended (task_with modes rule tree.now (heuristic_number heuristic) (terms_of work_width count rows.old))) rows.old table.old rows.new table.new result }
-{
-    let weight = rounds::topphatt(
-        modes, rule, tree, distances, heuristic, rows, count, assigned,
-    );
-    let restrictions = TreeRestrictions {
-        modes,
-        tree,
-        assigned,
-    };
-    write_table(&restrictions, table);
-    weight
-}
-
-// The same, with no pair having a mode at first and the distances found once.
-fn assign_rows(
-    modes: usize,
-    rule: Rule,
-    tree: &[u16],
-    heuristic: Heuristic,
-    rows: &mut [u16],
-    count: usize,
-    table: &mut [u16],
-) -> usize
-    requires le_modes { (1 ≤ modes) × (modes ≤ most_modes) × (count ≤ most_terms) × (length tree.now ≡ 3 * modes) × (3 * modes ≤ length table.old) }
-    requires worked { Worked count rows.old }
-    ensures { Tabled modes count tree.now (ended (task_with modes rule tree.now (heuristic_number heuristic) (terms_of work_width count rows.old))) rows.old table.old rows.new table.new result }
-{
-    let mut distances = [0usize; 256];
-    nodes::fill_distances(modes, tree, &mut distances);
-    let mut assigned = [modes as u16; 256];
-    assign_pairs(
-        modes,
-        rule,
-        tree,
-        &distances,
-        heuristic,
-        rows,
-        count,
-        &mut assigned[..modes],
-        table,
-    )
-}
-
-// The answer where nothing can refuse any more: the rows are worked on in the work that is lent, which is zeros then.
-fn assign_in(
-    modes: usize,
-    rule: Rule,
-    tree: &[u16],
-    heuristic: Heuristic,
-    terms: &[u16],
-    count: usize,
-    work: &mut [u16],
-    table: &mut [u16],
-) -> Result<u64, Refusal>
-    requires le_modes { (1 ≤ modes) × (modes ≤ most_modes) × (count ≤ most_terms) × (length tree.now ≡ 3 * modes) }
-    requires given { Given count terms.now }
-    requires count_in_bounds { (work_width * count ≤ length work.old) × (3 * modes ≤ length table.old) }
-    ensures { Assigns (λ given. done_by (task_with modes rule tree.now (heuristic_number heuristic) (terms_of row_width count terms.now))) (lent work.old table.old) (lent work.new table.new) result }
-{
-    counted::put_each_once(terms, count, work);
-    let weight = assign_rows(modes, rule, tree, heuristic, work, count, table);
-    slices::clear_front(work, row::WORK_WIDTH * count);
-    Ok(weight as u64)
-}
-
-// The answer where all is good but perhaps the rooms.
-fn assign_good(
-    modes: usize,
-    rule: Rule,
-    tree: &[u16],
-    heuristic: Heuristic,
-    terms: &[u16],
-    count: usize,
-    work: &mut [u16],
-    table: &mut [u16],
-) -> Result<u64, Refusal>
-    requires le_modes { (1 ≤ modes) × (modes ≤ most_modes) × (count ≤ most_terms) × (length tree.now ≡ 3 * modes) }
-    requires given { Given count terms.now }
-    ensures { Assigns (λ given. with_room (rooms_of most_modes given) (task_of (asked modes (rule_number rule) tree.now (heuristic_number heuristic) terms.now) count)) (lent work.old table.old) (lent work.new table.new) result }
-{
-    if work.len() < row::WORK_WIDTH * count {
-        return Err(Refusal::Room);
+impl Ready<'_> {
+    // The rounds, and the leaves that they fixed written into the front of `table`; the sum of chosen weights.
+    fn assign_pairs(
+        &self,
+        rows: &mut [u16],
+        count: usize,
+        assigned: &mut [u16],
+        table: &mut [u16],
+    ) -> usize
+        requires count_le_most_terms { (count ≤ most_terms) × (assigned.old ≡ replicate self.now.task.modes self.now.task.modes) × (3 * self.now.task.modes ≤ length table.old) }
+        requires worked { Worked count rows.old }
+        ensures { Tabled self.now.task count rows.old table.old rows.new table.new result }
+    {
+        let weight = self.topphatt(rows, count, assigned);
+        let restrictions = TreeRestrictions {
+            modes: self.task.modes,
+            tree: self.task.tree,
+            assigned,
+        };
+        write_table(&restrictions, table);
+        weight
     }
-    if table.len() < 3 * modes {
-        return Err(Refusal::Room);
-    }
-    assign_in(modes, rule, tree, heuristic, terms, count, work, table)
 }
 
-// The answer where the tree and the heuristic are good.
-fn assign_accepted(
-    modes: usize,
-    rule: Rule,
-    tree: &[u16],
-    heuristic: Heuristic,
-    terms: &[u16],
-    work: &mut [u16],
-    table: &mut [u16],
-) -> Result<u64, Refusal>
-    requires { (1 ≤ modes) × (modes ≤ most_modes) × (length tree.now ≡ 3 * modes) }
-    ensures { Assigns (λ given. with_terms (rooms_of most_modes given) (asked modes (rule_number rule) tree.now (heuristic_number heuristic) terms.now) (checked modes terms.now)) (lent work.old table.old) (lent work.new table.new) result }
-{
-    let count = checking::check_terms(modes, terms)?;
-    assign_good(modes, rule, tree, heuristic, terms, count, work, table)
+impl Task<'_> {
+    // The rounds and the table from the start, where no pair has a mode; each node's distance is found once.
+    fn assign_rows(&self, rows: &mut [u16], count: usize, table: &mut [u16]) -> usize
+        requires count_le_most_terms { (count ≤ most_terms) × (3 * self.now.modes ≤ length table.old) }
+        requires worked { Worked count rows.old }
+        ensures { Tabled self.now count rows.old table.old rows.new table.new result }
+    {
+        let mut distances = [0usize; 256];
+        nodes::fill_distances(self.modes, self.tree, &mut distances);
+        let ready = Ready {
+            task: *self,
+            distances: &distances,
+        };
+        let mut assigned = [self.modes as u16; 256];
+        ready.assign_pairs(rows, count, &mut assigned[..self.modes], table)
+    }
+
+    // The answer where nothing can refuse any more: the rows are worked on in the work that is lent, which is zeros then.
+    fn assign_in(
+        &self,
+        terms: &[u16],
+        count: usize,
+        work: &mut [u16],
+        table: &mut [u16],
+    ) -> Result<u64, Refusal>
+        requires count_le_most_terms { count ≤ most_terms }
+        requires given { Given count terms.now }
+        requires count_in_bounds { (work_width * count ≤ length work.old) × (3 * self.now.modes ≤ length table.old) }
+        ensures { Assigns (λ given. done_by (task_with self.now (terms_of row_width count terms.now))) (lent work.old table.old) (lent work.new table.new) result }
+    {
+        counted::put_each_once(terms, count, work);
+        let weight = self.assign_rows(work, count, table);
+        slices::clear_front(work, row::WORK_WIDTH * count);
+        Ok(weight as u64)
+    }
+
+    // The answer where all is good but perhaps the rooms.
+    fn assign_good(
+        &self,
+        terms: &[u16],
+        count: usize,
+        work: &mut [u16],
+        table: &mut [u16],
+    ) -> Result<u64, Refusal>
+        requires count_le_most_terms { count ≤ most_terms }
+        requires given { Given count terms.now }
+        ensures { Assigns (λ given. with_room (rooms_of most_modes given) (task_of (asked_by self.now terms.now) count)) (lent work.old table.old) (lent work.new table.new) result }
+    {
+        if work.len() < row::WORK_WIDTH * count {
+            return Err(Refusal::Room);
+        }
+        if table.len() < 3 * self.modes {
+            return Err(Refusal::Room);
+        }
+        self.assign_in(terms, count, work, table)
+    }
+
+    // The answer where the tree and the heuristic are good.
+    fn assign_accepted(
+        &self,
+        terms: &[u16],
+        work: &mut [u16],
+        table: &mut [u16],
+    ) -> Result<u64, Refusal>
+        ensures { Assigns (λ given. with_terms (rooms_of most_modes given) (asked_by self.now terms.now) (checked self.now.modes terms.now)) (lent work.old table.old) (lent work.new table.new) result }
+    {
+        let count = checking::check_terms(self.modes, terms)?;
+        self.assign_good(terms, count, work, table)
+    }
 }
 
 // The answer where the modes and the rule are good.
@@ -183,7 +155,13 @@ fn assign_ruled(
 {
     tree::check_tree(modes, tree)?;
     let heuristic = Heuristic::try_from(heuristic)?;
-    assign_accepted(modes, rule, tree, heuristic, terms, work, table)
+    let task = Task {
+        modes,
+        rule,
+        tree,
+        heuristic,
+    };
+    task.assign_accepted(terms, work, table)
 }
 
 // The leaves of an accepted tree assigned to modes at the least weight, by this rule; or why the call is refused.

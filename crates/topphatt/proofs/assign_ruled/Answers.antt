@@ -19,10 +19,10 @@ returns-in_err-heuristic c =
     rw (sym c.check_tree.ensures.answer ∙ c.in_ok-check_tree.was)
     (rw (handed_on c.from_residual-in_err-heuristic.ensures, refused.1, lt-leb c.args.heuristic 2 refused.0) (refused_so _ _ _ refl))
 
-pub assign_accepted-requires : goal.assign_accepted-requires
-assign_accepted-requires c =
+pub invariant_of-task : goal.invariant_of-task
+invariant_of-task c =
     let parts = accepted_parts 256 c.args.modes c.args.tree.now (sym c.check_tree.ensures.answer ∙ c.in_ok-check_tree.was) in
-    (parts.some, parts.few, parts.whole)
+    record { some = parts.some; few = parts.few; whole = parts.whole }
 
 pub returns-in_err-check_tree : goal.returns-in_err-check_tree
 unfolding with_tree

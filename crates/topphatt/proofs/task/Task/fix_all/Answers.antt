@@ -1,7 +1,7 @@
 -- X, Y and Z, each on what the one before left.
 use Rattle.choice.specs.code.Seeking.{choice_of}
 use Rattle.topphatt.specs.Rounds.{fixed_by}
-use Rattle.topphatt.proofs.rounds.fix_all.Goals as goal
+use Rattle.topphatt.proofs.task.Task.fix_all.Goals as goal
 
 pub returns : goal.returns
 unfolding fixed_by choice_of

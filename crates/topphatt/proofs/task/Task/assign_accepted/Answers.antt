@@ -4,14 +4,14 @@ use Rattle.refusal.proofs.Told.{handed_on}
 use Rattle.terms.proofs.GoodTerms.{accepted}
 use Rattle.topphatt.specs.Answer.{with_terms}
 use Rattle.topphatt.proofs.Answers.{refused_so}
-use Rattle.topphatt.proofs.assign_accepted.Goals as goal
+use Rattle.topphatt.proofs.task.Task.assign_accepted.Goals as goal
 
 pub assign_good-requires : goal.assign_good-requires
 assign_good-requires c =
     let counted = sym c.check_terms.ensures.answer ∙ c.in_ok-count.was in
-    let rows = accepted c.args.modes c.args.terms.now c.in_ok-count.count counted in
+    let rows = accepted c.args.self.now.modes c.args.terms.now c.in_ok-count.count counted in
     record {
-      le_modes = (c.requires.0, c.requires.1, rows.at_most, c.requires.2);
+      count_le_most_terms = rows.at_most;
       given = rows.given;
     }
 
