@@ -1,14 +1,11 @@
 -- The nodes gathered and those ahead are all with the largest distance.
-use Rattle.std.proofs.Common.{refl, ◌∙◌, ap, arith, take, eqb}
+use Rattle.std.proofs.Common.{◌∙◌, ap, arith, take, eqb}
 use Rattle.lists.specs.Members.{keep}
 use Rattle.lists.proofs.Every.{below_at}
 use Rattle.lists.proofs.Joined.{gathered, gathered_all}
 use Rattle.lists.proofs.Steps.{keep_step, keep_end}
 use Rattle.slots.specs.Nodes.{distance, farthest}
 use Rattle.slots.proofs.nodes.fill_far.Goals as goal
-
-pub loop-node-init : goal.loop-node-init
-loop-node-init c = (omega arith, λ table are. refl)
 
 pub distance_at-requires : goal.distance_at-requires
 distance_at-requires c =

@@ -1,13 +1,9 @@
 -- Behind the end there is none; else the one at the place is the front.
 use mathlib.Core.Path.{◌∙◌}
 use native.Mathlib.Omega.{arith}
-use lib.ListN.{drop_of_length-le}
 use Rattle.lists.proofs.Steps.{drop_step}
 use Rattle.lists.proofs.Writes.{written_next}
 use Rattle.slots.proofs.nodes.fill_one.Goals as goal
-
-pub returns-then-far-at : goal.returns-then-far-at
-returns-then-far-at c = let args = c.args in (omega arith, rw (drop_of_length-le args.far.now c.if-far-at.true))
 
 pub returns : goal.returns
 returns c =

@@ -43,24 +43,16 @@ far_size c =
     let room : called.result ≤ length called.new.far = omega arith in
     (room, length-take-le called.result called.new.far room, omega arith)
 
-pub fill_far-count-requires : goal.fill_far-count-requires
-fill_far-count-requires c =
-    let called = c.fill_remaining-remaining in
-    let size = left_size (goal.at.fill_far-count-requires c).After-fill_remaining-remaining in
-    let most = called.ensures.0 in
-    record { modes_in_bounds = (c.requires.distances.room, omega arith); left_value = rw called.ensures.1 (remaining_below c.args.self.now.modes c.args.self.now.tree.now c.args.self.now.assigned.now) }
+pub fill_far-count-requires-clause-left_value : goal.fill_far-count-requires-clause-left_value
+fill_far-count-requires-clause-left_value c =
+    let given = c.args.self.now in
+    rw c.fill_remaining-remaining.ensures.1 (remaining_below given.modes given.tree.now given.assigned.now)
 
-pub fill_narrowed-requires : goal.fill_narrowed-requires
-fill_narrowed-requires c =
-    let far = c.fill_far-count in
-    let left = c.fill_remaining-remaining in
-    let size = far_size (goal.at.fill_narrowed-requires c).After-fill_far-count in
-    let most = left.ensures.0 in
-    record {
-      far_in_bounds = omega arith;
-      far_value = rw (far.ensures.1 c.args.self.now.tree.now c.requires.distances)
-          (farthest_below c.args.self.now.modes c.args.self.now.tree.now _ (rw left.ensures.1 (remaining_below c.args.self.now.modes c.args.self.now.tree.now c.args.self.now.assigned.now)));
-    }
+pub fill_narrowed-requires-clause-far_value : goal.fill_narrowed-requires-clause-far_value
+fill_narrowed-requires-clause-far_value c =
+    let given = c.args.self.now in
+    rw (c.fill_far-count.ensures.1 given.tree.now c.requires.distances)
+    (farthest_below given.modes given.tree.now _ (rw c.fill_remaining-remaining.ensures.1 (remaining_below given.modes given.tree.now given.assigned.now)))
 
 -- A number that no heuristic has keeps what the last heuristic keeps.
 as_read : (number : ℕ) (found : Result Heuristic Refusal) (like : ℕ → ℕ → Bool) (far : List ℕ) → HeuristicSaid number found

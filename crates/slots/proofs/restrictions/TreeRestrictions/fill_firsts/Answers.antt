@@ -11,10 +11,9 @@ pub loop-node-init : goal.loop-node-init
 unfolding every firsts
 loop-node-init c = (omega arith, refl, refl)
 
-pub has_like-seen-requires : goal.has_like-seen-requires
-has_like-seen-requires c =
-    let low = below_at c.args.self.now.modes c.args.far.now c.loop-node.node-index 0 (omega arith) c.requires.far_value in
-    record { node_lt_modes = low; count_in_bounds = omega arith; kept_value = c.loop-node.invariant.1 }
+pub has_like-seen-requires-clause-node_lt_modes : goal.has_like-seen-requires-clause-node_lt_modes
+has_like-seen-requires-clause-node_lt_modes c =
+    below_at c.args.self.now.modes c.args.far.now c.loop-node.node-index 0 (omega arith) c.requires.far_value
 
 pub loop-node-preserved : goal.loop-node-preserved
 loop-node-preserved c =
