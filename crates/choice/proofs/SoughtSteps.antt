@@ -36,13 +36,13 @@ module _ (rows : List (List ℕ)) (node : ℕ) (best : Selection) (choices : ℕ
 
 -- An unfixed Z may stand as the leaf that it takes of each free mode but the pair's.
 z_leaves : (node : Node) (pair : ℕ) (free : List ℕ)
-    → flat_map (z_leaf node pair) free ≡ with_z node.slots.x node.slots.y (map (number_leaf node.among.now.modes node.slots.z) (without pair free))
+    → flat_map (z_leaf node pair) free ≡ with_z node.slots.x node.slots.y (map (number_leaf node.among.now.given.modes node.slots.z) (without pair free))
 unfolding with_z without keep flat_map
 z_leaves node pair [] = refl
 z_leaves node pair (mode ∷ free) = rw (z_leaves node pair free) (go (eqb mode pair))
   where
     leaf : ℕ → ℕ
-    leaf = number_leaf node.among.now.modes node.slots.z
+    leaf = number_leaf node.among.now.given.modes node.slots.z
 
     go : (same : Bool)
         → cond same [] (record { x = node.slots.x; y = node.slots.y; z = leaf mode } ∷ []) ++ with_z node.slots.x node.slots.y (map leaf (without pair free))
@@ -50,7 +50,7 @@ z_leaves node pair (mode ∷ free) = rw (z_leaves node pair free) (go (eqb mode 
     go true = refl
     go false = refl
 
-pub z_leaves_beside : (node : Node) (pair : ℕ) → number_unfixed node.among.now.modes node.slots.z ≡ true
+pub z_leaves_beside : (node : Node) (pair : ℕ) → number_unfixed node.among.now.given.modes node.slots.z ≡ true
     → flat_map (z_leaf node pair) node.among.now.free.now ≡ beside node pair node.slots
 unfolding numbered
 z_leaves_beside node pair e = rw e (z_leaves node pair node.among.now.free.now)

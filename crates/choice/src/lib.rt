@@ -15,6 +15,7 @@ mod seeking;
 use crate::seeking::Seeking;
 use entities::Triple;
 use slots::nodes;
+use slots::restrictions::TreeRestrictions;
 
 // The best choice so far: its weight, its node, and the numbers that the node's three slots are to stand as.
 #[derive(Clone, Copy)]
@@ -56,24 +57,20 @@ pub fn fill_unassigned(modes: usize, assigned: &[u16], free: &mut [u16]) -> usiz
 pub fn select<'a>(
     rows: &'a [u16],
     count: usize,
-    tree: &'a [u16],
-    assigned: &'a [u16],
+    given: &TreeRestrictions<'a>,
     free: &'a [u16],
     active: &'a [u16],
-    modes: usize,
 ) -> Selection
     requires held { Held row_width count rows.now }
-    requires count_le_most_terms { (count ≤ most_terms) × (modes ≤ most_modes) × (length assigned.now ≡ modes) × (length tree.now ≡ 3 * modes) }
-    requires free_value { free.now ≡ unassigned modes assigned.now }
-    requires active_value { every (λ node. ltb node modes) active.now ≡ true }
-    ensures { result ≡ sought_over modes tree.now assigned.now (terms_of row_width count rows.now) (worst count) active.now }
+    requires count_le_most_terms { count ≤ most_terms }
+    requires free_value { free.now ≡ unassigned given.now.modes given.now.assigned.now }
+    requires active_value { every (λ node. ltb node given.now.modes) active.now ≡ true }
+    ensures { result ≡ sought_over given.now.modes given.now.tree.now given.now.assigned.now (terms_of row_width count rows.now) (worst count) active.now }
 {
     let mut odds = [0u16; 512];
     tallying::odds::count_odds(rows, count, &mut odds);
     let seeking = Seeking {
-        modes,
-        tree,
-        assigned,
+        given: *given,
         free,
         rows,
         count,

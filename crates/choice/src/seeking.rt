@@ -14,19 +14,16 @@ use slots::restrictions::TreeRestrictions;
 use tallying::{pairs, tally};
 use terms::{row, weight};
 
-// What a choice is sought among: the tree with the modes that its pairs have, the modes that no pair has yet, the gathered rows, and in how many of them each leaf is odd.
+// What a choice is sought among: the given tree with the modes that its pairs have, the modes that no pair has yet, the gathered rows, and in how many of them each leaf is odd.
 #[derive(Clone, Copy)]
 pub struct Seeking<'a> {
-    pub modes: usize,
-    pub tree: &'a [u16],
-    pub assigned: &'a [u16],
+    pub given: TreeRestrictions<'a>,
     pub free: &'a [u16],
     pub rows: &'a [u16],
     pub count: usize,
     pub odds: &'a [u16; 512],
-    ghost limits: { (modes ≤ most_modes) × (count ≤ most_terms) },
-    ghost sizes: { (length tree.now ≡ 3 * modes) × (length assigned.now ≡ modes) },
-    ghost free_are: { free.now ≡ unassigned modes assigned.now },
+    ghost light: { count ≤ most_terms },
+    ghost free_are: { free.now ≡ unassigned given.modes given.assigned.now },
     ghost held: { Held row_width count rows.now } by { Prim.hlevel props },
     ghost odds_are: { OddsAre (2 * most_modes) (terms_of row_width count rows.now) odds.now },
 }
@@ -37,14 +34,14 @@ struct Node<'a> {
     among: &'a Seeking<'a>,
     number: u16,
     slots: Triple,
-    ghost fit: { SlotsFit among.now.modes slots },
+    ghost fit: { SlotsFit among.now.given.modes slots },
 }
 
 // A node whose X and Y are leaves that aren't fixed yet, so that they take the two leaves of one mode.
 #[derive(Clone, Copy)]
 struct Pair<'a> {
     node: Node<'a>,
-    ghost unfixed: { PairUnfixed node.among.now.modes node.slots },
+    ghost unfixed: { PairUnfixed node.among.now.given.modes node.slots },
 }
 
 // A node whose Z is a leaf that isn't fixed yet, and what was counted for its X and Y: beside any z they weigh `all` and the rows in which z is odd, less z's entry.
@@ -53,7 +50,7 @@ struct Counted<'a> {
     node: Node<'a>,
     all: usize,
     less: &'a [u16; 512],
-    ghost unfixed: { 3 * node.among.now.modes < node.slots.z },
+    ghost unfixed: { 3 * node.among.now.given.modes < node.slots.z },
     ghost all_fits: { all ≤ most_terms },
     ghost looked: { CoupleLooked node.among.now.count node.among.now.rows.now node.slots all node.among.now.odds.now less.now },
 }
@@ -66,7 +63,7 @@ impl<'a> Counted<'a> {
     // The best so far against the choice whose Z leaf takes `mode`, unless that is the pair's; its weight is looked up.
     #[tactic(auto, unfolding(crate::specs::code::Seeking::sought, lists::specs::Least::least, slots::specs::code::Numbers::number_leaf))]
     fn best_of_mode(&self, pair: u16, mode: u16, best: Selection) -> Selection
-        requires { mode < self.now.node.among.now.modes }
+        requires { mode < self.now.node.among.now.given.modes }
         ensures { result ≡ sought_at self.now.node best (z_leaf self.now.node pair mode) }
     {
         if mode == pair {
@@ -76,7 +73,7 @@ impl<'a> Counted<'a> {
         let triple = Triple {
             x: node.slots.x,
             y: node.slots.y,
-            z: slots::leaf_of(node.among.modes, node.slots.z, mode),
+            z: slots::leaf_of(node.among.given.modes, node.slots.z, mode),
         };
         let at = usize::from(triple.z);
         let weight = self.all + usize::from(node.among.odds[at]) - usize::from(self.less[at]);
@@ -102,10 +99,10 @@ impl<'a> Pair<'a> {
 
     // What stands in the slots where X and Y take the leaves of `mode`.
     fn leaves(&self, mode: u16) -> Triple
-        requires { mode < self.now.node.among.now.modes }
+        requires { mode < self.now.node.among.now.given.modes }
         ensures { result ≡ leaves_of self.now.node mode }
     {
-        let modes = self.node.among.modes;
+        let modes = self.node.among.given.modes;
         let slots = self.node.slots;
         Triple {
             x: slots::leaf_of(modes, slots.x, mode),
@@ -117,7 +114,7 @@ impl<'a> Pair<'a> {
     // The best so far against the choices in which X and Y take the leaves of `mode`.
     #[tactic(auto, unfolding(slots::specs::code::Numbers::number_leaf))]
     fn best_of_leaves(&self, mode: u16, best: Selection) -> Selection
-        requires { mode < self.now.node.among.now.modes }
+        requires { mode < self.now.node.among.now.given.modes }
         ensures { result ≡ sought_at self.now.node best (beside self.now.node mode (leaves_of self.now.node mode)) }
     {
         let node = Node {
@@ -142,7 +139,7 @@ impl<'a> Pair<'a> {
 
     // The best so far against the choice in which X and Y take the leaves of `mode` beside a Z that stands; its weight is looked up.
     fn best_of_couple(&self, weights: &[u16], mode: u16, best: Selection) -> Selection
-        requires mode_fits { mode < self.now.node.among.now.modes }
+        requires mode_fits { mode < self.now.node.among.now.given.modes }
         requires weighed { Weighed self.now.node weights.now }
         ensures { result ≡ sought_at self.now.node best (leaves_of self.now.node mode ∷ []) }
     {
@@ -166,7 +163,7 @@ impl<'a> Pair<'a> {
     // Weighs the leaves of every mode beside a Z that stands, from one reading of the rows, in the lent `weights`; then the best so far against all of them.
     #[tactic(auto, unfolding(slots::specs::code::Numbers::number_leaf))]
     fn best_beside(&self, weights: &mut [u16], best: Selection) -> Selection
-        requires { (length weights.old ≡ self.now.node.among.now.modes) × (self.now.node.slots.x < self.now.node.slots.y) }
+        requires { (length weights.old ≡ self.now.node.among.now.given.modes) × (self.now.node.slots.x < self.now.node.slots.y) }
         ensures { result ≡ sought_at self.now.node best (couples_of self.now.node) }
     {
         let among = self.node.among;
@@ -179,7 +176,7 @@ impl<'a> Pair<'a> {
     fn best_of_unfixed(&self, best: Selection) -> Selection
         ensures { result ≡ sought_at self.now.node best (pairs_of self.now.node) }
     {
-        let modes = self.node.among.modes;
+        let modes = self.node.among.given.modes;
         let slots = self.node.slots;
         // in an accepted tree X's leaf is the even one
         if slots::unfixed(modes, slots.z) || slots.y <= slots.x {
@@ -216,7 +213,7 @@ impl<'a> Node<'a> {
     {
         let among = self.among;
         let slots = self.slots;
-        if !slots::unfixed(among.modes, slots.z) {
+        if !slots::unfixed(among.given.modes, slots.z) {
             let weight = weight::weight(among.rows, row::WIDTH, among.count, slots);
             return self.better_of(slots, weight, best);
         }
@@ -245,7 +242,7 @@ impl<'a> Node<'a> {
     fn best_of_slots(&self, best: Selection) -> Selection
         ensures { result ≡ sought_at self.now best (choices_of self.now) }
     {
-        let modes = self.among.modes;
+        let modes = self.among.given.modes;
         if !slots::unfixed(modes, self.slots.x) || !slots::unfixed(modes, self.slots.y) {
             // a mode that no leaf takes, so that Z may take any
             return self.best_of_pair(modes as u16, best);
@@ -273,18 +270,13 @@ impl<'a> Seeking<'a> {
     // The best so far against the choices of a node.
     #[tactic(auto, using(crate::proofs::NumberedChoices::numbered_at))]
     fn best_at(&self, number: u16, best: Selection) -> Selection
-        requires { number < self.now.modes }
-        ensures { result ≡ sought (rows_of self.now) number best (choices_at self.now.modes self.now.tree.now self.now.assigned.now number) }
+        requires { number < self.now.given.modes }
+        ensures { result ≡ sought (rows_of self.now) number best (choices_at self.now.given.modes self.now.given.tree.now self.now.given.assigned.now number) }
     {
-        let restrictions = TreeRestrictions {
-            modes: self.modes,
-            tree: self.tree,
-            assigned: self.assigned,
-        };
         let node = Node {
             among: self,
             number,
-            slots: restrictions.slots(usize::from(number)),
+            slots: self.given.slots(usize::from(number)),
         };
         node.best_of_slots(best)
     }
@@ -292,7 +284,7 @@ impl<'a> Seeking<'a> {
     // The best of all choices of the nodes in `active`; the search begins above every weight, since a row weighs at most 1.
     #[tactic(auto, using(crate::proofs::SoughtSteps::over_step, crate::proofs::SoughtSteps::over_end, lists::proofs::Every::below_at), unfolding(crate::specs::code::Seeking::worst))]
     pub fn best_of_nodes(&self, active: &[u16]) -> Selection
-        requires { every (λ node. ltb node self.now.modes) active.now ≡ true }
+        requires { every (λ node. ltb node self.now.given.modes) active.now ≡ true }
         ensures { result ≡ sought_among self.now (worst self.now.count) active.now }
     {
         let mut best = Selection {

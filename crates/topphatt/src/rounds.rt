@@ -63,23 +63,15 @@ impl Ready<'_> {
     {
         let mut free = [0u16; 256];
         let unassigned = choice::fill_unassigned(self.task.modes, assigned, &mut free);
-        let restrictions = TreeRestrictions {
+        let given = TreeRestrictions {
             modes: self.task.modes,
             tree: self.task.tree,
             assigned,
         };
         let mut active = [0u16; 256];
         let heuristic = usize::from(self.task.heuristic);
-        let nodes = restrictions.fill_active(self.distances, heuristic, &mut active);
-        choice::select(
-            rows,
-            count,
-            self.task.tree,
-            assigned,
-            &free[..unassigned],
-            &active[..nodes],
-            self.task.modes,
-        )
+        let nodes = given.fill_active(self.distances, heuristic, &mut active);
+        choice::select(rows, count, &given, &free[..unassigned], &active[..nodes])
     }
 
     // One round; its choice is sought in the rows that are there, gathered once. The weight of the choice.

@@ -50,7 +50,7 @@ rows_of seeking = terms_of row_width seeking.count seeking.rows.now
 
 -- The best so far against the choices of these nodes.
 abbrev pub sought_among : Seeking → Selection → List ℕ → Selection
-sought_among seeking best nodes = sought_over seeking.modes seeking.tree.now seeking.assigned.now (rows_of seeking) best nodes
+sought_among seeking best nodes = sought_over seeking.given.modes seeking.given.tree.now seeking.given.assigned.now (rows_of seeking) best nodes
 
 -- The best so far against these choices of a node.
 abbrev pub sought_at : Node → Selection → List Triple → Selection
@@ -58,22 +58,22 @@ sought_at node best triples = sought (rows_of node.among.now) node.number best t
 
 -- The choices of a node.
 abbrev pub choices_of : Node → List Triple
-choices_of node = numbered_choices node.among.now.modes node.among.now.free.now node.slots.x node.slots.y node.slots.z
+choices_of node = numbered_choices node.among.now.given.modes node.among.now.free.now node.slots.x node.slots.y node.slots.z
 
 -- A couple's x and y with each number that the node's Z may stand as where the couple takes a mode.
 abbrev pub beside : Node → ℕ → Triple → List Triple
-beside node mode couple = with_z couple.x couple.y (numbered node.among.now.modes node.slots.z (without mode node.among.now.free.now))
+beside node mode couple = with_z couple.x couple.y (numbered node.among.now.given.modes node.slots.z (without mode node.among.now.free.now))
 
 -- X and Y as they stand with the leaf that Z takes of a mode, unless the mode is the pair's.
 abbrev pub z_leaf : Node → ℕ → ℕ → List Triple
 z_leaf node pair mode =
-    cond (eqb mode pair) [] (record { x = node.slots.x; y = node.slots.y; z = number_leaf node.among.now.modes node.slots.z mode } ∷ [])
+    cond (eqb mode pair) [] (record { x = node.slots.x; y = node.slots.y; z = number_leaf node.among.now.given.modes node.slots.z mode } ∷ [])
 
 -- X and Y take the leaves of a mode.
 abbrev pub leaves_of : Node → ℕ → Triple
 leaves_of node mode = record {
-  x = number_leaf node.among.now.modes node.slots.x mode;
-  y = number_leaf node.among.now.modes node.slots.y mode;
+  x = number_leaf node.among.now.given.modes node.slots.x mode;
+  y = number_leaf node.among.now.given.modes node.slots.y mode;
   z = node.slots.z;
 }
 
@@ -88,5 +88,5 @@ couples_of node = flat_map (λ mode. leaves_of node mode ∷ []) node.among.now.
 -- Each mode has the weight of its leaves beside a Z that stands.
 abbrev pub Weighed : Node → List ℕ → Type 0
 Weighed node weights =
-    (length weights ≡ node.among.now.modes)
-    × ((mode : ℕ) → mode < node.among.now.modes → get_or weights mode 0 ≡ weight_of (leaves_of node mode) (rows_of node.among.now))
+    (length weights ≡ node.among.now.given.modes)
+    × ((mode : ℕ) → mode < node.among.now.given.modes → get_or weights mode 0 ≡ weight_of (leaves_of node mode) (rows_of node.among.now))
