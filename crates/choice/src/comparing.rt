@@ -6,7 +6,7 @@ ghost use Rattle.choice.specs.code.Seeking.{packed as packed_number, standing};
 use crate::Selection;
 use entities::Triple;
 
-// z, y and x as one number.
+// The z, y and x of `triple` as one number.
 #[tactic(auto, unfolding(crate::specs::code::Seeking::packed))]
 fn packed(triple: Triple) -> u64
     ensures { (result ≡ packed_number triple) × (result < 281474976710656) }
@@ -14,7 +14,7 @@ fn packed(triple: Triple) -> u64
     (u64::from(triple.z) * 65536 + u64::from(triple.y)) * 65536 + u64::from(triple.x)
 }
 
-// The better of two: the lighter, on equal weight the one with the larger z, y, x, and of equals the first.
+// The better of `best` and `candidate`: the lighter, on equal weight the one with the larger z, y, x, and of equals the first.
 #[tactic(auto, unfolding(crate::specs::code::Seeking::standing, lists::specs::Least::lighter))]
 pub fn better(best: Selection, candidate: Selection) -> Selection
     ensures { result ≡ cond (lighter standing candidate best) candidate best }

@@ -25,14 +25,14 @@ pub struct Selection {
     pub leaf_indices: Triple,
 }
 
-// The mode is one of the pairs'.
+// Whether `mode` is one of the pairs'.
 fn is_assigned(assigned: &[u16], mode: u16) -> bool
     ensures { result ≡ some_of (eqb mode) assigned.now }
 {
     assigned.contains(&mode)
 }
 
-// No mode is unassigned.
+// Whether no mode is unassigned.
 pub fn all_assigned(modes: usize, assigned: &[u16]) -> bool
     requires { modes ≤ most_modes }
     ensures { result ≡ eqb (length (unassigned modes assigned.now)) 0 }
@@ -40,7 +40,7 @@ pub fn all_assigned(modes: usize, assigned: &[u16]) -> bool
     (0..modes).all(|mode| is_assigned(assigned, mode as u16))
 }
 
-// The modes that no pair has yet, ascending; how many there are.
+// Puts the modes that no pair has yet, ascending, at the front of `free`; returns how many there are.
 pub fn fill_unassigned(modes: usize, assigned: &[u16], free: &mut [u16]) -> usize
     requires { (modes ≤ most_modes) × (modes ≤ length free.old) }
     ensures { (result ≤ modes) × (take result free.new ≡ unassigned modes assigned.now) }
@@ -53,7 +53,7 @@ pub fn fill_unassigned(modes: usize, assigned: &[u16], free: &mut [u16]) -> usiz
     count
 }
 
-// The best of all choices of these nodes; in how many rows each leaf is odd is counted once for all of them.
+// The best of all choices of the nodes in `active`, weighed in the first `count` rows; in how many of these each leaf is odd is counted once for all nodes.
 pub fn select<'a>(
     rows: &'a [u16],
     count: usize,
