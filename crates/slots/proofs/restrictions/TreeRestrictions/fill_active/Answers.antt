@@ -4,11 +4,10 @@ use Rattle.std.specs.Result.{result_unwrap_or}
 use mathlib.Core.Path.{◌≡◌, ◌∙◌, ap}
 use mathlib.Core.Bool.{Bool}
 use mathlib.Core.List.{List}
-use Prim.Native.Nat.{ℕ, ◌≤◌}
+use Prim.Native.Nat.{ℕ}
 use native.Mathlib.Omega.{arith}
 use borrow.Author.Tests.{ne_eqb}
-use lib.Seq.{length-take-le}
-use lib.ListN.{length, take}
+use lib.ListN.{length-take}
 use Rattle.refusal.specs.declared.Refusal.{Refusal}
 use Rattle.slots.specs.declared.heuristics.Heuristic.{Heuristic}
 use Rattle.slots.specs.declared.heuristics.Heuristic.TheVariants.{ZFirst}
@@ -17,31 +16,6 @@ use Rattle.slots.specs.Nodes.{narrowed, active}
 use Rattle.slots.specs.code.Restrictions.{alike_in}
 use Rattle.slots.proofs.NodeBounds.{remaining_below, farthest_below}
 use Rattle.slots.proofs.restrictions.TreeRestrictions.fill_active.Goals as goal
-use Rattle.slots.proofs.restrictions.TreeRestrictions.fill_active.Goals.{After-fill_far-count, After-fill_remaining-remaining}
-
--- How many are left is how many the front has.
-left_size : (c : After-fill_remaining-remaining)
-    → length (take c.fill_remaining-remaining.result c.fill_remaining-remaining.new.left) ≡ c.fill_remaining-remaining.result
-left_size c =
-    let called = c.fill_remaining-remaining in
-    let whole : length called.new.left ≡ 256 = called.auto.left in
-    length-take-le called.result called.new.left (omega arith)
-
--- How many are far is how many that front has, and no more than there are.
-far_size : (c : After-fill_far-count)
-    → (c.fill_far-count.result ≤ length c.fill_far-count.new.far)
-    × (length (take c.fill_far-count.result c.fill_far-count.new.far) ≡ c.fill_far-count.result)
-    × (c.fill_far-count.result ≤ c.fill_remaining-remaining.result)
-far_size c =
-    let called = c.fill_far-count in
-    let whole : length called.new.far ≡ 256 = called.auto.far in
-    let few = called.ensures.0 in
-    let left = c.fill_remaining-remaining in
-    let whole_left : length left.new.left ≡ 256 = left.auto.left in
-    let size = length-take-le left.result left.new.left (omega arith) in
-    let most = c.fill_remaining-remaining.ensures.0 in
-    let room : called.result ≤ length called.new.far = omega arith in
-    (room, length-take-le called.result called.new.far room, omega arith)
 
 pub fill_far-count-requires-clause-left_value : goal.fill_far-count-requires-clause-left_value
 fill_far-count-requires-clause-left_value c =
@@ -65,11 +39,8 @@ as_read number (Err why) like far said =
 pub returns : goal.returns
 unfolding active
 returns c =
-    let read = as_read c.args.heuristic c.try_from.result (alike_in c.args.self.now) _ c.try_from.ensures in
-    let kept = c.fill_narrowed in
-    let far = c.fill_far-count in
     let left = c.fill_remaining-remaining in
-    let size = far_size (goal.at.returns c).After-fill_far-count in
-    let most = left.ensures.0 in
-    let few = kept.ensures.0 in
-    (omega arith, rw left.ensures.1 at (rw (far.ensures.1 c.args.self.now.tree.now c.requires.distances) at (rw c.unwrap_or-heuristic.ensures at kept.ensures.1 ∙ read)))
+    let far = c.fill_far-count in
+    let kept = c.fill_narrowed in
+    let read = as_read c.args.heuristic c.try_from.result (alike_in c.args.self.now) _ c.try_from.ensures in
+    (omega (arith, length-take left.result left.new.left, length-take far.result far.new.far, left.ensures.0, far.ensures.0, kept.ensures.0), rw left.ensures.1 at (rw (far.ensures.1 c.args.self.now.tree.now c.requires.distances) at (rw c.unwrap_or-heuristic.ensures at kept.ensures.1 ∙ read)))
