@@ -6,7 +6,6 @@ use native.Mathlib.Omega.{arith}
 use borrow.Author.Tests.{le-leb, leb-true}
 use lib.Dec.{leb}
 use Rattle.lists.proofs.Tests.{both, same_test}
-use Rattle.terms.specs.Good.{modes_good}
 use Rattle.call_bytes.specs.code.Handing.{room_of}
 
 -- The room fits into the call's own and into the lent bytes, and where there is any the answer's numbers fit.

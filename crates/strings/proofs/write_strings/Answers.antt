@@ -1,12 +1,9 @@
 -- Each return is one arm of the definition, by what the tree's check answered.
-use mathlib.Core.Path.{◌≡◌, refl, ◌∙◌, sym}
+use mathlib.Core.Path.{◌∙◌, sym}
 use Rattle.refusal.proofs.Told.{tells, handed_on}
 use Rattle.tree.specs.Writing.{written_as, tree_written, text_after}
 use Rattle.strings.specs.Text.{strings_written}
 use Rattle.strings.proofs.write_strings.Goals as goal
-
-pub put_strings-requires : goal.put_strings-requires
-put_strings-requires c = sym c.check_tree.ensures.answer ∙ c.in_ok-check_tree.was
 
 pub returns-in_err-check_tree : goal.returns-in_err-check_tree
 unfolding strings_written tree_written written_as text_after

@@ -11,9 +11,6 @@ loop-node-init c =
     let args = c.args in
     (omega arith, zero-add _ ∙ sym (row_start args.placed.now.modes args.placed.now.tree.now args.term.now))
 
-pub node_letter-requires : goal.node_letter-requires
-node_letter-requires c = c.requires
-
 pub loop-node-preserved : goal.loop-node-preserved
 unfolding node_weight
 loop-node-preserved c =

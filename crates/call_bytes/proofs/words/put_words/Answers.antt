@@ -1,8 +1,6 @@
 -- The bytes of the numbers passed stand at the front.
-use Rattle.std.proofs.Common.{sym, ap, ◌∙◌, arith}
-use Rattle.std.proofs.lemmas.List.{take_all}
+use Rattle.std.proofs.Common.{sym, ◌∙◌, arith}
 use mathlib.Core.List.{flat_map}
-use Rattle.lists.specs.Written.{written_at}
 use Rattle.lists.proofs.Behind.{nothing_written}
 use Rattle.call_bytes.specs.Bytes.{two_bytes}
 use Rattle.call_bytes.proofs.WordSteps.{two_next}
@@ -15,8 +13,3 @@ loop-at-init c = sym (nothing_written 0 c.args.out.now)
 pub loop-at-preserved : goal.loop-at-preserved
 loop-at-preserved c =
     c.put_word.ensures ∙ two_next c.args.numbers.now c.args.out.now c.loop-at.out c.loop-at.at (omega arith) c.loop-at.invariant
-
-pub returns : goal.returns
-returns c =
-    let args = c.args in
-    c.loop-at.invariant ∙ ap (λ l. written_at 0 (two_bytes l) args.out.now) (take_all c.loop-at.at args.numbers.now (omega arith))

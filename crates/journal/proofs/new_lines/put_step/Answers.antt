@@ -23,16 +23,6 @@ line_is c job own fits =
     noted_as job (history_of c.args.run) c.args.step _ _ fits.made c.merge_of-triple.ensures
     (c.step_weight-weight.ensures job own fits.holds)
 
-pub merge_of-triple-requires : goal.merge_of-triple-requires
-merge_of-triple-requires c =
-    let pre = c.requires in
-    (pre.0, (pre.1.0, (pre.1.1.holds, pre.1.1.made)))
-
-pub step_weight-weight-requires : goal.step_weight-weight-requires
-step_weight-weight-requires c =
-    let pre = c.requires in
-    (pre.0, (pre.1.0, (pre.1.1.holds, pre.1.1.made)))
-
 pub put_merge-requires : goal.put_merge-requires
 put_merge-requires c =
     let pre = c.requires in

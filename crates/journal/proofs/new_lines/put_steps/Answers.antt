@@ -1,12 +1,12 @@
 -- The lines of the steps passed stand behind the start; at the end they are all.
 use mathlib.Core.List.{List}
-use Prim.Native.Nat.{ℕ, ◌<◌, ◌≤◌}
+use Prim.Native.Nat.{ℕ, ◌<◌}
 use native.Mathlib.Omega.{arith}
 use lib.ListN.{length}
 use Rattle.terms.specs.Job.{Job}
 use Rattle.merging.specs.code.State.{history_of}
 use Rattle.journal.specs.code.NewLines.{StepFits, StepsFit}
-use Rattle.journal.proofs.PuttingLines.{putting_starts, putting_length, next_fits, putting_on, putting_ends}
+use Rattle.journal.proofs.PuttingLines.{putting_starts, next_fits, putting_on}
 use Rattle.journal.proofs.new_lines.put_steps.Goals as goal
 use Rattle.journal.proofs.new_lines.put_steps.Goals.{After-put_step-arg-1}
 
@@ -42,16 +42,3 @@ loop-step-preserved c job own fits =
     let put = c.put_step-at.ensures job own line in
     putting_on job (history_of args.run) args.from args.start args.journal.now fits.fits _ _ _ (c.loop-step.invariant job own fits) line.made _ _
     put.0 put.1
-
-pub shape_of-journal : goal.shape_of-journal
-shape_of-journal c =
-    let args = c.args in
-    let fits = c.requires.1.1 in
-    putting_length c.requires.0 (history_of args.run) args.from args.start args.journal.now fits.fits _ _ _
-    (c.loop-step.invariant c.requires.0 c.requires.1.0 fits)
-
-pub returns : goal.returns
-returns c job own fits =
-    let args = c.args in
-    let all : length (history_of args.run) ≤ c.loop-step.step = omega (arith, c.loop-step-test.false, c.merges-step-end.ensures) in
-    putting_ends job (history_of args.run) args.from args.start args.journal.now fits.fits _ _ _ (c.loop-step.invariant job own fits) all

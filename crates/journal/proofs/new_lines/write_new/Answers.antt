@@ -6,13 +6,8 @@ use Rattle.lists.proofs.Behind.{written_behind_front}
 use Rattle.merging.specs.code.State.{history_of}
 use Rattle.journal.specs.Writing.{header_behind}
 use Rattle.journal.specs.code.NewLines.{noted_from}
-use Rattle.journal.proofs.NotedLines.{header_fits, steps_fit}
+use Rattle.journal.proofs.NotedLines.{steps_fit}
 use Rattle.journal.proofs.new_lines.write_new.Goals as goal
-
-pub put_first-start-requires : goal.put_first-start-requires
-put_first-start-requires c =
-    let text = c.requires.1.1 in
-    (c.requires.0, (c.requires.1.0, (text.holds, header_fits _ _ c.args.run _ _ _ text)))
 
 pub put_steps-requires : goal.put_steps-requires
 put_steps-requires c =

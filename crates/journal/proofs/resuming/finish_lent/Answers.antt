@@ -1,12 +1,7 @@
 -- The rows stand at the front of the work as they stood in the run's own, and the run is finished there.
-use mathlib.Core.Path.{sym}
 use Rattle.journal.specs.Promises.{lent}
-use Rattle.journal.proofs.InWork.{front_length, front_fits, in_work, answers_lent}
+use Rattle.journal.proofs.InWork.{front_fits, in_work, answers_lent}
 use Rattle.journal.proofs.resuming.finish_lent.Goals as goal
-
-pub slice_bounds-put_front-end : goal.slice_bounds-put_front-end
-slice_bounds-put_front-end c =
-    rw (c.count-end.ensures c.requires.0 _ c.requires.1.holds) (sym (front_length c.requires.0 _ c.args.own.now _ c.requires.1))
 
 pub put_front-requires : goal.put_front-requires
 put_front-requires c =

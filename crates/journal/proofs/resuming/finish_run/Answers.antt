@@ -1,13 +1,8 @@
 -- The run goes on to its end; its rows, its new lines and the zeros are written, and nothing refuses.
 use native.Mathlib.Omega.{arith}
-use Rattle.merging.proofs.Runs.{merges_within, rows_room}
+use Rattle.merging.proofs.Runs.{merges_within}
 use Rattle.journal.proofs.RunEnds.{at_the_end, text_fits, ends}
 use Rattle.journal.proofs.resuming.finish_run.Goals as goal
-
-pub finished-end-requires : goal.finished-end-requires
-finished-end-requires c =
-    let pre = c.requires in
-    (pre.0, pre.1.holds)
 
 pub write_flatpack-requires : goal.write_flatpack-requires
 write_flatpack-requires c =
@@ -35,22 +30,10 @@ write_new-new-requires c =
     let from = c.merges-from.ensures in
     (job, (_, text_fits job c.args.work.now _ c.args.run finished.result given.holds gone _ from _ _ given.journal_room))
 
-pub clear_front-requires : goal.clear_front-requires
-clear_front-requires c =
-    let pre = c.requires in
-    let finished = c.finished-end in
-    let gone = finished.ensures pre.0 pre.1.holds in
-    omega (arith, rows_room pre.0 _ finished.result gone.holds, c.count.ensures pre.0 _ pre.1.holds)
-
 pub overflow_sub-modes : goal.overflow_sub-modes
 overflow_sub-modes c =
     let pre = c.requires in
     omega (arith, c.merges-from.ensures, merges_within pre.0 _ c.args.run pre.1.holds, c.modes.ensures pre.0 _ pre.1.holds)
-
-pub trial_total-requires : goal.trial_total-requires
-trial_total-requires c =
-    let pre = c.requires in
-    omega (arith, pre.1.holds.few, c.modes.ensures pre.0 _ pre.1.holds)
 
 pub returns : goal.returns
 returns c job bytes given kept_is =

@@ -30,10 +30,6 @@ invariant_of-size c =
     let counted = sym c.check_terms.ensures.answer ∙ c.in_ok-count.was in
     record { some = between.0; few = between.1; light = (accepted c.args.modes c.args.terms.now c.in_ok-count.count counted).at_most }
 
-pub resume_good-requires : goal.resume_good-requires
-resume_good-requires c =
-    sym c.check_terms.ensures.answer ∙ c.in_ok-count.was
-
 pub returns-in_err-count : goal.returns-in_err-count
 unfolding resumed with_terms
 returns-in_err-count c =

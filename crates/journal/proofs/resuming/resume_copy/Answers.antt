@@ -7,9 +7,3 @@ own_rows-own-requires c =
     let size = c.args.size in
     let good = accepted size.modes c.args.terms.now size.count c.requires.checked in
     (good.given, good.at_most)
-
-pub resume_own-requires : goal.resume_own-requires
-resume_own-requires c = record { by_index = (c.args.terms.now, c.own_rows-own.ensures.1); room = c.requires.room }
-
-pub returns : goal.returns
-returns c = c.resume_own.ensures c.args.terms.now c.own_rows-own.ensures.1

@@ -1,7 +1,6 @@
 -- Each room that is too small refuses with nothing altered; with all of them the run goes on.
 use mathlib.Core.Path.{◌≡◌}
 use mathlib.Core.Bool.{true}
-use native.Mathlib.Omega.{arith}
 use borrow.Author.Tests.{le-leb, lt-leb}
 use Rattle.refusal.specs.declared.Refusal.TheVariants.{Room}
 use Rattle.journal.specs.Resuming.{with_terms, roomy}
@@ -16,10 +15,6 @@ all_room : (c : Else-drops-size)
     → (let args = c.args in
     roomy (rooms_of 256 (lent args.work.now args.rows.now args.journal.now args.drops.now)) args.size.modes args.size.count ≡ true)
 all_room c = rooms_fit _ _ _ c.if-work-size.false c.if-rows-size.false c.if-journal-size.false c.if-drops-size.false
-
-pub overflow_mul-size : goal.overflow_mul-size
-overflow_mul-size c =
-    omega (arith, c.args.size.light)
 
 pub returns-then-work-size : goal.returns-then-work-size
 unfolding with_terms roomy

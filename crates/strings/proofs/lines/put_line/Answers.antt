@@ -1,10 +1,8 @@
 -- The number with its tab, the letters and LF, one behind the other.
-use mathlib.Core.Path.{ap, ◌∙◌}
 use Prim.Native.Nat.{◌+◌, ◌<◌}
 use native.Mathlib.Omega.{arith}
 use borrow.Author.Rules.{rules}
 use lib.ListN.{length, set}
-use Rattle.lists.proofs.Written.{length_written}
 use Rattle.lists.proofs.Behind.{Wrote, field_wrote}
 use Rattle.fields.specs.Decimal.{decimal}
 use Rattle.strings.specs.Text.{string_line}
@@ -46,11 +44,6 @@ bounds-text-end c = room (goal.at.bounds-text-end c).After-put_letters-end
 
 pub overflow_add-result : goal.overflow_add-result
 overflow_add-result c = let inside = room (goal.at.overflow_add-result c).After-put_letters-end in search rules
-
-pub shape_of-text : goal.shape_of-text
-shape_of-text c =
-    let args = c.args in
-    ap length (line (goal.at.shape_of-text c).After-put_letters-end).written ∙ length_written args.at (string_line args.placed.now.modes args.placed.now.tree.now args.majorana) args.text.now c.requires.majorana_in_bounds
 
 pub returns : goal.returns
 returns c = record {

@@ -1,6 +1,6 @@
 -- The lines written and those ahead are always the whole text.
 use Rattle.std.proofs.Common.{arith}
-use Rattle.strings.proofs.LinesWritten.{lines_start, line_room, lines_next, lines_same, lines_end}
+use Rattle.strings.proofs.LinesWritten.{lines_start, line_room, lines_next, lines_end}
 use Rattle.strings.proofs.lines.put_lines.Goals as goal
 
 pub loop-majorana-init : goal.loop-majorana-init
@@ -22,11 +22,6 @@ loop-majorana-preserved c =
     let args = c.args in
     let put = c.put_line-at.ensures in
     λ room. lines_next args.placed.now.modes args.placed.now.tree.now args.text.now room c.loop-majorana.majorana (c.loop-majorana.invariant room) (omega arith) put.value put.text_after
-
-pub shape_of-text : goal.shape_of-text
-shape_of-text c =
-    let room = c.requires in
-    lines_same c.args.placed.now.modes c.args.placed.now.tree.now c.args.text.now room c.loop-majorana.majorana (c.loop-majorana.invariant room)
 
 pub returns : goal.returns
 returns c =

@@ -4,16 +4,11 @@ use native.Mathlib.Omega.{arith}
 use lib.ListN.{length, take, drop}
 use Rattle.lists.specs.Ranges.{ascends}
 use Rattle.terms.proofs.RowSteps.{every_term_at, row_first, row_length, length_term}
-use Rattle.tree_weight.proofs.SurvivingRows.{putting_starts, own_room, putting_on, putting_ends}
+use Rattle.tree_weight.proofs.SurvivingRows.{putting_starts, putting_on}
 use Rattle.tree_weight.proofs.operators.put_surviving.Goals as goal
 
 pub loop-place-init : goal.loop-place-init
 loop-place-init c = putting_starts c.args.count c.args.terms.now c.args.own.now
-
-pub term_at-requires : goal.term_at-requires
-term_at-requires c =
-    let rows = c.requires.ascending_rows in
-    (omega (arith, rows.held.room), rows.held.within c.loop-place.place (omega arith))
 
 pub surviving_row-row-requires : goal.surviving_row-row-requires
 surviving_row-row-requires c =
@@ -27,21 +22,9 @@ surviving_row-row-requires c =
     let long = length_term (take 8 (drop (8 * place) terms)) (omega arith) in
     rw c.term_at.ensures (omega arith, every_term_at ascends 8 c.args.count place terms rows.ascending (omega arith))
 
-pub put_row-requires : goal.put_row-requires
-put_row-requires c =
-    rw c.surviving_row-row.ensures.whole
-    (own_room c.args.count c.args.terms.now c.args.own.now c.loop-place.own c.loop-place.place c.loop-place.invariant (omega arith) c.requires.count_in_bounds)
-
 pub loop-place-preserved : goal.loop-place-preserved
 loop-place-preserved c =
     let row = c.surviving_row-row in
     rw c.put_row.ensures
     (putting_on c.args.count c.args.terms.now c.args.own.now c.loop-place.own c.loop-place.place c.loop-place.invariant (omega arith) c.requires.count_in_bounds row.result
     (rw c.term_at.ensures at row.ensures))
-
-pub shape_of-own : goal.shape_of-own
-shape_of-own c = c.loop-place.invariant.same_length
-
-pub returns : goal.returns
-returns c =
-    putting_ends c.args.count c.args.terms.now c.args.own.now c.loop-place.own c.loop-place.place c.loop-place.invariant (omega arith)
