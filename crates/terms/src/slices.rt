@@ -2,9 +2,8 @@
 ghost use Rattle.std.specs.Prelude.{◌≡◌, ◌≤◌, length, take, replicate};
 ghost use Rattle.lists.specs.Written.{written_at};
 
-// The numbers written over the front of others.
+// The numbers written over the front of others, said in the definitions' word `written_at`, which std's method has not.
 #[tactic(auto, unfolding(lists::specs::Written::written_at))]
-// Said in the definitions' word `written_at`, which std's method has not.
 pub fn put_front(from: &[u16], to: &mut [u16])
     requires { length from.now ≤ length to.old }
     ensures to_after { to.new ≡ written_at 0 from.now to.old }
@@ -13,9 +12,8 @@ pub fn put_front(from: &[u16], to: &mut [u16])
     to[..from.len()].copy_from_slice(from);
 }
 
-// Zeros over the first so many numbers.
+// Zeros over the first `count` numbers, said in that word too.
 #[tactic(auto, unfolding(lists::specs::Written::written_at))]
-// As `put_front`.
 pub fn clear_front(numbers: &mut [u16], count: usize)
     requires { count ≤ length numbers.old }
     ensures { numbers.new ≡ written_at 0 (replicate count 0) numbers.old }
