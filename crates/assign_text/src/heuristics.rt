@@ -4,7 +4,7 @@ ghost use Rattle.assign_text.specs.Assigning.{heuristic_of};
 
 use fields::parts;
 
-// The number of the heuristic with this name, and one that no heuristic has where there is none.
+// The number of the heuristic with this name, and one that no heuristic has where there is none, so that 17 comes in its turn, behind the refusals of the tree.
 pub fn heuristic_of(name: &[u8]) -> usize
     ensures { result ≡ heuristic_of name.now }
 {

@@ -6,7 +6,7 @@ ghost use Rattle.choice.specs.code.Seeking.{packed as packed_number, standing};
 use crate::Selection;
 use entities::Triple;
 
-// The z, y and x of `triple` as one number.
+// The z, y and x of `triple` as one number: one comparison in place of three, in the hottest loop.
 #[tactic(auto, unfolding(crate::specs::code::Seeking::packed))]
 fn packed(triple: Triple) -> u64
     ensures { (result ≡ packed_number triple) × (result < 281474976710656) }

@@ -3,7 +3,7 @@ ghost use Rattle.std.specs.Prelude.{◌≡◌, ◌+◌, ◌≤◌, length};
 ghost use Rattle.lists.specs.Members.{alike};
 ghost use Rattle.lists.specs.Written.{written_at};
 
-// The two parts are the same.
+// The two parts are the same. `==` takes an array of bytes, as b".." is, only by `as_slice`.
 pub fn same_bytes(a: &[u8], b: &[u8]) -> bool
     ensures { result ≡ alike a.now b.now }
 {
