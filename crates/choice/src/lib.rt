@@ -5,7 +5,6 @@ ghost use Rattle.std.specs.Prelude.{◌≡◌, true, ◌*◌, ◌≤◌, eqb, lt
 ghost use Rattle.lists.specs.Members.{every, some_of};
 ghost use Rattle.entities.specs.Limits.{most_modes, most_terms, row_width};
 ghost use Rattle.terms.specs.Rows.{terms_of};
-ghost use Rattle.terms.specs.code.Held.{Held};
 ghost use Rattle.choice.specs.Choices.{unassigned};
 ghost use Rattle.choice.specs.code.Seeking.{worst, sought_over};
 
@@ -16,6 +15,7 @@ use crate::seeking::Seeking;
 use entities::Triple;
 use slots::nodes;
 use slots::restrictions::TreeRestrictions;
+use tallying::gathered::GatheredRows;
 
 // The best choice so far: its weight, its node, and the numbers that the node's three slots are to stand as.
 #[derive(Clone, Copy)]
@@ -55,25 +55,21 @@ pub fn fill_unassigned(modes: usize, assigned: &[u16], free: &mut [u16]) -> usiz
 
 // The best of all choices of the nodes in `active`, weighed in the first `count` rows; in how many of these each leaf is odd is counted once for all nodes.
 pub fn select<'a>(
-    rows: &'a [u16],
-    count: usize,
+    gathered: &GatheredRows<'a>,
     given: &TreeRestrictions<'a>,
     free: &'a [u16],
     active: &'a [u16],
 ) -> Selection
-    requires held { Held row_width count rows.now }
-    requires count_le_most_terms { count ≤ most_terms }
     requires free_value { free.now ≡ unassigned given.now.modes given.now.assigned.now }
     requires active_value { every (λ node. ltb node given.now.modes) active.now ≡ true }
-    ensures { result ≡ sought_over given.now.modes given.now.tree.now given.now.assigned.now (terms_of row_width count rows.now) (worst count) active.now }
+    ensures { result ≡ sought_over given.now.modes given.now.tree.now given.now.assigned.now (terms_of row_width gathered.now.count gathered.now.rows.now) (worst gathered.now.count) active.now }
 {
     let mut odds = [0u16; 512];
-    tallying::odds::count_odds(rows, count, &mut odds);
+    tallying::odds::count_odds(gathered, &mut odds);
     let seeking = Seeking {
         given: *given,
         free,
-        rows,
-        count,
+        gathered: *gathered,
         odds: &odds,
     };
     seeking.best_of_nodes(active)

@@ -1,9 +1,7 @@
 // The search through the choices of a round's nodes: the best so far against one choice after the other.
 ghost use Rattle.std.specs.Prelude.{◌≡◌, ◌*◌, ◌≤◌, ◌<◌, length};
-ghost use Rattle.std.proofs.Props.{props};
 ghost use Rattle.entities.specs.Limits.{most_modes, most_terms, row_width};
 ghost use Rattle.terms.specs.Rows.{terms_of};
-ghost use Rattle.terms.specs.code.Held.{Held};
 ghost use Rattle.tallying.specs.code.Tallies.{OddsAre};
 ghost use Rattle.choice.specs.Choices.{unassigned};
 ghost use Rattle.choice.specs.code.Kept.{SlotsFit, PairUnfixed, CoupleLooked};
@@ -11,6 +9,7 @@ ghost use Rattle.choice.specs.code.Kept.{SlotsFit, PairUnfixed, CoupleLooked};
 use crate::{Selection, comparing};
 use entities::Triple;
 use slots::restrictions::TreeRestrictions;
+use tallying::gathered::GatheredRows;
 use tallying::{pairs, tally};
 use terms::{row, weight};
 
@@ -19,13 +18,10 @@ use terms::{row, weight};
 pub struct Seeking<'a> {
     pub given: TreeRestrictions<'a>,
     pub free: &'a [u16],
-    pub rows: &'a [u16],
-    pub count: usize,
+    pub gathered: GatheredRows<'a>,
     pub odds: &'a [u16; 512],
-    ghost light: { count ≤ most_terms },
     ghost free_are: { free.now ≡ unassigned given.modes given.assigned.now },
-    ghost held: { Held row_width count rows.now } by { Prim.hlevel props },
-    ghost odds_are: { OddsAre (2 * most_modes) (terms_of row_width count rows.now) odds.now },
+    ghost odds_are: { OddsAre (2 * most_modes) (terms_of row_width gathered.count gathered.rows.now) odds.now },
 }
 
 // A node of a round, and what stands in its slots.
@@ -52,7 +48,7 @@ struct Counted<'a> {
     less: &'a [u16; 512],
     ghost unfixed: { 3 * node.among.now.given.modes < node.slots.z },
     ghost all_fits: { all ≤ most_terms },
-    ghost looked: { CoupleLooked node.among.now.count node.among.now.rows.now node.slots all node.among.now.odds.now less.now },
+    ghost looked: { CoupleLooked node.among.now.gathered.count node.among.now.gathered.rows.now node.slots all node.among.now.odds.now less.now },
 }
 
 impl<'a> Counted<'a> {
@@ -167,7 +163,7 @@ impl<'a> Pair<'a> {
         ensures { result ≡ sought_at self.now.node best (couples_of self.now.node) }
     {
         let among = self.node.among;
-        pairs::weigh_pairs(among.rows, among.count, self.node.slots.z, weights);
+        pairs::weigh_pairs(&among.gathered, self.node.slots.z, weights);
         self.best_of_couples(weights, best)
     }
 
@@ -214,19 +210,18 @@ impl<'a> Node<'a> {
         let among = self.among;
         let slots = self.slots;
         if !slots::unfixed(among.given.modes, slots.z) {
-            let weight = weight::weight(among.rows, row::WIDTH, among.count, slots);
+            let weight = weight::weight(
+                among.gathered.rows,
+                row::WIDTH,
+                among.gathered.count,
+                slots,
+            );
             return self.better_of(slots, weight, best);
         }
         let limit = among.limit_past(best.min_weight);
         let mut less = [0u16; 512];
-        let Some(tally) = tally::tally_couple(
-            among.rows,
-            among.count,
-            slots.x,
-            slots.y,
-            limit,
-            &mut less,
-        ) else {
+        let Some(tally) = tally::tally_couple(&among.gathered, slots.x, slots.y, limit, &mut less)
+        else {
             return best;
         };
         let counted = Counted {
@@ -264,7 +259,7 @@ impl<'a> Seeking<'a> {
     fn limit_past(&self, weight: usize) -> usize
         ensures { (triple : Triple) → result ≤ weight_of triple (rows_of self.now) → weight < weight_of triple (rows_of self.now) }
     {
-        weight.min(self.count) + 1
+        weight.min(self.gathered.count) + 1
     }
 
     // The best so far against the choices of a node.
@@ -285,10 +280,10 @@ impl<'a> Seeking<'a> {
     #[tactic(auto, using(crate::proofs::SoughtSteps::over_step, crate::proofs::SoughtSteps::over_end, lists::proofs::Every::below_at), unfolding(crate::specs::code::Seeking::worst))]
     pub fn best_of_nodes(&self, active: &[u16]) -> Selection
         requires { every (λ node. ltb node self.now.given.modes) active.now ≡ true }
-        ensures { result ≡ sought_among self.now (worst self.now.count) active.now }
+        ensures { result ≡ sought_among self.now (worst self.now.gathered.count) active.now }
     {
         let mut best = Selection {
-            min_weight: self.count + 1,
+            min_weight: self.gathered.count + 1,
             min_parent: 0,
             leaf_indices: Triple { x: 0, y: 0, z: 0 },
         };

@@ -1,8 +1,7 @@
 // The choice of a step: the least weight over all lawful triples, on a tie the triple named first.
 ghost use Rattle.std.specs.Prelude.{◌≡◌, List, [], ◌∷◌, ℕ, ◌*◌, ◌≤◌, ◌<◌, get_or};
 ghost use Rattle.entities.specs.declared.Triple.{Triple as Three};
-ghost use Rattle.entities.specs.Limits.{most_modes, most_terms, row_width, entity_room};
-ghost use Rattle.terms.specs.code.Held.{Held};
+ghost use Rattle.entities.specs.Limits.{most_modes, most_terms, entity_room};
 ghost use Rattle.history.specs.History.{next_parent};
 ghost use Rattle.history.specs.computed.Choosing.{candidates};
 ghost use Rattle.choosing.specs.code.Couples.{Tied, weight_here, seek, nothing};
@@ -10,6 +9,7 @@ ghost use Rattle.choosing.specs.code.Couples.{Tied, weight_here, seek, nothing};
 use crate::entity_tables::Tables;
 use crate::seeking::Seeking;
 use entities::Triple;
+use tallying::gathered::GatheredRows;
 
 // The lightest triple so far and its weight.
 #[derive(Clone, Copy)]
@@ -42,20 +42,18 @@ pub(crate) fn none_yet(count: usize) -> Best
 }
 
 // The least of all lawful triples; in how many rows each entity is odd is counted once for all of them.
-pub fn choose(tables: &Tables, rows: &[u16], modes: usize, count: usize, next: u16) -> Best
-    requires held { Held row_width count rows.now }
-    requires count_le_most_terms { (count ≤ most_terms) × (modes ≤ most_modes) × (next ≤ entity_room) }
+pub fn choose(tables: &Tables, gathered: &GatheredRows<'_>, modes: usize, next: u16) -> Best
+    requires limits { (modes ≤ most_modes) × (next ≤ entity_room) }
     requires by_index { (entity : ℕ) → entity < next → get_or tables.now.ends entity 0 < 3 * most_modes }
-    ensures { (history : List Three) → Tied entity_room modes history tables.now → next ≡ next_parent modes history → result ≡ seek (weight_here count rows.now) (nothing count) (candidates modes history) }
+    ensures { (history : List Three) → Tied entity_room modes history tables.now → next ≡ next_parent modes history → result ≡ seek (weight_here gathered.now.count gathered.now.rows.now) (nothing gathered.now.count) (candidates modes history) }
 {
     let mut odds = [0u16; 769];
-    tallying::odds::count_odds(rows, count, &mut odds);
+    tallying::odds::count_odds(gathered, &mut odds);
     let seeking = Seeking {
         tables,
         modes,
         next,
-        rows,
-        count,
+        gathered: *gathered,
         odds: &odds,
     };
     seeking.least_of_all()

@@ -1,9 +1,7 @@
 // The search through the lawful triples of a step: the best so far against those of one couple after the other.
 ghost use Rattle.std.specs.Prelude.{ℕ, ◌*◌, ◌≤◌, ◌<◌, get_or};
-ghost use Rattle.std.proofs.Props.{props};
 ghost use Rattle.entities.specs.Limits.{most_modes, most_terms, row_width, entity_room};
 ghost use Rattle.terms.specs.Rows.{terms_of};
-ghost use Rattle.terms.specs.code.Held.{Held};
 ghost use Rattle.tallying.specs.code.Tallies.{OddsAre};
 ghost use Rattle.choosing.specs.code.Couples.{CoupleLooked, CoupleBounded};
 
@@ -12,6 +10,7 @@ use crate::choice::Best;
 use crate::entity_tables::Tables;
 use crate::lawful::Couple;
 use entities::Triple;
+use tallying::gathered::GatheredRows;
 use tallying::tally;
 
 // What a choice is sought among: the tables of the entities below `next`, the gathered rows, and in how many of them each entity is odd.
@@ -20,13 +19,11 @@ pub struct Seeking<'a> {
     pub tables: &'a Tables,
     pub modes: usize,
     pub next: u16,
-    pub rows: &'a [u16],
-    pub count: usize,
+    pub gathered: GatheredRows<'a>,
     pub odds: &'a [u16; 769],
-    ghost limits: { (modes ≤ most_modes) × (count ≤ most_terms) × (next ≤ entity_room) },
+    ghost limits: { (modes ≤ most_modes) × (next ≤ entity_room) },
     ghost ends: { (entity : ℕ) → entity < next → get_or tables.now.ends entity 0 < 3 * most_modes },
-    ghost held: { Held row_width count rows.now } by { Prim.hlevel props },
-    ghost odds_are: { OddsAre entity_room (terms_of row_width count rows.now) odds.now },
+    ghost odds_are: { OddsAre entity_room (terms_of row_width gathered.count gathered.rows.now) odds.now },
 }
 
 // A couple and what was counted for it: beside any z it weighs `all` and the rows in which z is odd, less z's entry, and never less than `apart`.
@@ -38,8 +35,8 @@ struct Counted<'a> {
     all: usize,
     apart: usize,
     ghost all_fits: { all ≤ most_terms },
-    ghost looked: { CoupleLooked among.now.count among.now.rows.now named all among.now.odds.now less.now },
-    ghost bounded: { CoupleBounded among.now.count among.now.rows.now named apart },
+    ghost looked: { CoupleLooked among.now.gathered.count among.now.gathered.rows.now named all among.now.odds.now less.now },
+    ghost bounded: { CoupleBounded among.now.gathered.count among.now.gathered.rows.now named apart },
 }
 
 impl<'a> Counted<'a> {
@@ -91,8 +88,7 @@ impl<'a> Seeking<'a> {
     {
         let mut less = [0u16; 769];
         let Couple { x, y } = named;
-        let Some(tally) = tally::tally_couple(self.rows, self.count, x, y, best.weight, &mut less)
-        else {
+        let Some(tally) = tally::tally_couple(&self.gathered, x, y, best.weight, &mut less) else {
             return best;
         };
         let counted = Counted {
@@ -121,9 +117,9 @@ impl<'a> Seeking<'a> {
 
     // The least of all lawful triples, each named in ascending a, then z; none is lighter than 0.
     pub fn least_of_all(&self) -> Best
-        ensures { (history : List Three) → TiedTo self.now history → self.now.next ≡ next_parent self.now.modes history → result ≡ seek (measured self.now) (nothing self.now.count) (candidates self.now.modes history) }
+        ensures { (history : List Three) → TiedTo self.now history → self.now.next ≡ next_parent self.now.modes history → result ≡ seek (measured self.now) (nothing self.now.gathered.count) (candidates self.now.modes history) }
     {
-        let mut best = choice::none_yet(self.count);
+        let mut best = choice::none_yet(self.gathered.count);
         for a in 0..self.next {
             if best.weight == 0 {
                 return best;

@@ -16,6 +16,7 @@ use choosing::entity_tables::Tables;
 use entities::{Triple, parents};
 use reduction::live_rows;
 use std::array;
+use tallying::gathered::GatheredRows;
 use terms::job::JobSize;
 use terms::rules::Rule;
 
@@ -128,7 +129,11 @@ impl Run {
         let mut live = [0u16; 16384];
         let kept = live_rows::put_live(rows, self.count, &mut live);
         let next = parents::parent_number(self.modes, self.step);
-        let best = choice::choose(&self.tables, &live, self.modes, kept, next);
+        let gathered = GatheredRows {
+            rows: &live,
+            count: kept,
+        };
+        let best = choice::choose(&self.tables, &gathered, self.modes, next);
         self.merged(rows, best.triple, best.weight)
     }
 

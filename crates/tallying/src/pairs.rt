@@ -1,11 +1,11 @@
 // The weights of the leaves of every mode, 2k and 2k+1, with one z, from one reading of the rows.
 ghost use Rattle.std.specs.Prelude.{◌≡◌, ℕ, ◌+◌, ◌*◌, ◌%◌, ◌≤◌, ◌<◌, length, get_or, take};
-ghost use Rattle.entities.specs.Limits.{most_terms, row_width};
+ghost use Rattle.entities.specs.Limits.{row_width};
 ghost use Rattle.terms.specs.Rows.{terms_of};
-ghost use Rattle.terms.specs.code.Held.{Held};
 ghost use Rattle.tallying.specs.code.Tallies.{AllBelow};
 ghost use Rattle.tallying.specs.code.Pairs.{beside, PairTurned, RowWeighed, Lifted, PairsWeighed};
 
+use crate::gathered::GatheredRows;
 use crate::raising;
 use terms::{row, weight};
 
@@ -80,17 +80,16 @@ fn lift(table: &mut [u16], up: usize, down: usize)
     }
 }
 
-// For each mode of the table, what its leaves 2k and 2k+1 weigh with z in the first `count` rows.
-pub fn weigh_pairs(rows: &[u16], count: usize, z: u16, table: &mut [u16])
-    requires held { Held row_width count rows.now }
-    requires count_le_most_terms { count ≤ most_terms }
-    ensures { PairsWeighed (length table.new) (terms_of row_width count rows.now) z table.new }
+// For each mode of the table, what its leaves 2k and 2k+1 weigh with z in the gathered rows.
+pub fn weigh_pairs(gathered: &GatheredRows<'_>, z: u16, table: &mut [u16])
+    ensures { PairsWeighed (length table.new) (terms_of row_width gathered.now.count gathered.now.rows.now) z table.new }
 {
     // as much as may be taken off: a row in which z is odd takes 1 off where it weighs nothing
+    let count = gathered.count;
     table.fill(count as u16);
     let mut odd: usize = 0;
     for place in 0..count {
-        odd += weigh_row(row::term_at(rows, row::WIDTH, place), z, table);
+        odd += weigh_row(row::term_at(gathered.rows, row::WIDTH, place), z, table);
     }
     lift(table, odd, count);
 }

@@ -1,10 +1,10 @@
 // A couple's tally: what its triples weigh in the rows, but for z's own part, which is looked up.
 ghost use Rattle.std.specs.Prelude.{ℕ, ◌+◌, ◌%◌, ◌≤◌, ◌<◌, length, get_or};
-ghost use Rattle.entities.specs.Limits.{most_terms, row_width};
+ghost use Rattle.entities.specs.Limits.{row_width};
 ghost use Rattle.terms.specs.Rows.{terms_of};
-ghost use Rattle.terms.specs.code.Held.{Held};
 ghost use Rattle.tallying.specs.code.Tallies.{RowTallied, Tallied};
 
+use crate::gathered::GatheredRows;
 use crate::raising;
 use terms::{row, weight};
 
@@ -34,22 +34,19 @@ fn tally_row(term: &[u16], x: u16, y: u16, less: &mut [u16]) -> usize
 
 // With z the couple weighs `all` of the tally and the rows in which z is odd, less z's entry; none once the rows in which only one of the two is odd reach the limit, since those weigh 1 whatever z is.
 pub fn tally_couple(
-    rows: &[u16],
-    count: usize,
+    gathered: &GatheredRows<'_>,
     x: u16,
     y: u16,
     limit: usize,
     less: &mut [u16],
 ) -> Option<Tally>
-    requires held { Held row_width count rows.now }
-    requires count_le_most_terms { count ≤ most_terms }
-    ensures { Tallied (terms_of row_width count rows.now) x y limit less.new result }
+    ensures { Tallied (terms_of row_width gathered.now.count gathered.now.rows.now) x y limit less.new result }
 {
     less.fill(0);
     let mut all: usize = 0;
     let mut apart: usize = 0;
-    for place in 0..count {
-        let odd = tally_row(row::term_at(rows, row::WIDTH, place), x, y, less);
+    for place in 0..gathered.count {
+        let odd = tally_row(row::term_at(gathered.rows, row::WIDTH, place), x, y, less);
         all += (odd + 1) / 2;
         apart += odd % 2;
         if limit <= apart {

@@ -13,6 +13,7 @@ use choice::Selection;
 use entities::parents;
 use reduction::live_rows;
 use slots::restrictions::TreeRestrictions;
+use tallying::gathered::GatheredRows;
 use terms::{row, weight};
 use tree::table;
 
@@ -71,7 +72,8 @@ impl Ready<'_> {
         let mut active = [0u16; 256];
         let heuristic = usize::from(self.task.heuristic);
         let nodes = given.fill_active(self.distances, heuristic, &mut active);
-        choice::select(rows, count, &given, &free[..unassigned], &active[..nodes])
+        let gathered = GatheredRows { rows, count };
+        choice::select(&gathered, &given, &free[..unassigned], &active[..nodes])
     }
 
     // One round; its choice is sought in the rows that are there, gathered once. The weight of the choice.

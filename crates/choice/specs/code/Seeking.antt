@@ -46,7 +46,7 @@ choice_of selection = record { node = selection.min_parent; triple = selection.l
 
 -- The rows that a choice is sought among.
 abbrev pub rows_of : Seeking → List (List ℕ)
-rows_of seeking = terms_of row_width seeking.count seeking.rows.now
+rows_of seeking = terms_of row_width seeking.gathered.count seeking.gathered.rows.now
 
 -- The best so far against the choices of these nodes.
 abbrev pub sought_among : Seeking → Selection → List ℕ → Selection

@@ -8,7 +8,7 @@ use Rattle.choosing.specs.code.Couples.{weight_here, Tied}
 
 -- The weight of a triple in the rows that a choice is sought among.
 abbrev pub measured : Seeking → Triple → ℕ
-measured seeking = weight_here seeking.count seeking.rows.now
+measured seeking = weight_here seeking.gathered.count seeking.gathered.rows.now
 
 -- The tables are those of this history.
 abbrev pub TiedTo : Seeking → List Triple → Type 0

@@ -7,11 +7,5 @@ use Rattle.choosing.proofs.choice.choose.Goals as goal
 pub invariant_of-seeking : goal.invariant_of-seeking
 invariant_of-seeking c =
     let counted = c.count_odds in
-    let given = c.requires.count_le_most_terms in
     let whole : length counted.new.table ≡ 769 = counted.auto.table in
-    record {
-      limits = (given.1, given.0, given.2);
-      ends = c.requires.by_index;
-      held = c.requires.held;
-      odds_are = λ n h. counted.ensures n (omega arith);
-    }
+    record { limits = c.requires.limits; ends = c.requires.by_index; odds_are = λ n h. counted.ensures n (omega arith) }

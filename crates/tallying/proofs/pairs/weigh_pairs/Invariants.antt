@@ -4,4 +4,4 @@ use Rattle.tallying.proofs.PairsWeighed.{Weighing}
 use Rattle.tallying.proofs.pairs.weigh_pairs.Given as goal
 
 abbrev pub invariant-loop-place : goal.invariant-loop-place
-invariant-loop-place l = Weighing l.count l.rows l.z (length l.initial.table) l.table l.odd l.place
+invariant-loop-place l = Weighing l.count l.gathered.rows.now l.z (length l.initial.table) l.table l.odd l.place

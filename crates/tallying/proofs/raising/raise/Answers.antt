@@ -1,7 +1,6 @@
 -- The table is raised by the parities of the numbers passed; at the end these are all.
 use mathlib.Core.Path.{refl}
 use native.Mathlib.Omega.{arith}
-use lib.Seq.{take_all}
 use Rattle.lists.specs.Counting.{occurrences}
 use Rattle.tallying.proofs.Parities.{below_on}
 use Rattle.tallying.proofs.raising.raise.Goals as goal

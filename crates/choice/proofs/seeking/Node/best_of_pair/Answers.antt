@@ -7,7 +7,7 @@ use Rattle.choice.proofs.seeking.Node.best_of_pair.Goals as goal
 pub invariant_of-counted-clause-all_fits : goal.invariant_of-counted-clause-all_fits
 invariant_of-counted-clause-all_fits c =
     let told = rw c.in-Some.is at c.tally_couple.ensures in
-    omega (arith, told.0, length_terms 8 c.args.self.now.among.now.count c.args.self.now.among.now.rows.now)
+    omega (arith, told.0, length_terms 8 c.args.self.now.among.now.gathered.count c.args.self.now.among.now.gathered.rows.now)
 
 pub invariant_of-counted-clause-looked : goal.invariant_of-counted-clause-looked
 invariant_of-counted-clause-looked c =

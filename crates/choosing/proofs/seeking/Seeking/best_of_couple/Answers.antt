@@ -25,7 +25,7 @@ invariant_of-counted c =
     let told = rw c.in-Some.is at called.ensures in
     let tally = c.in-Some.tally in
     record {
-      all_fits = omega (arith, told.0, length_terms 8 among.count among.rows.now, among.limits);
+      all_fits = omega (arith, told.0, length_terms 8 among.gathered.count among.gathered.rows.now, among.gathered.light);
       looked = λ z h. looked_up _ named.x named.y c.args.best.weight tally.all tally.apart 769 among.odds.now called.new.less among.odds_are called.auto.less told z h;
       bounded = told.2;
     }

@@ -14,6 +14,6 @@ abbrev pub invariant-loop-a : goal.invariant-loop-a
 invariant-loop-a l =
     let among = l.self in
     ((history : List Triple) → TiedTo among history → among.next ≡ next_parent among.modes history
-    → (seek (measured among) (nothing among.count) (candidates among.modes history)
+    → (seek (measured among) (nothing among.gathered.count) (candidates among.modes history)
     ≡ seek (measured among) l.best (candidates_from among.modes history l.a (among.next - l.a)))
     × SettledBelow (measured among) among.modes history among.next l.best l.a)

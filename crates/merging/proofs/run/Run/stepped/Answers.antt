@@ -44,20 +44,20 @@ ready_best c job holds =
     ready_chosen 769 256 job (rows_of c) (run_of c) holds (gathered_of c) (kept_of c) c.put_live-kept.ensures
     (left_in c job holds) c.choose-best.result (best_found c job holds)
 
+pub invariant_of-gathered : goal.invariant_of-gathered
+invariant_of-gathered c =
+    let holds = c.requires.holds.1 in
+    let there = c.put_live-kept.ensures in
+    record { light = omega (arith, there.at_most, holds.light, holds.count_is); held = there.held }
+
 pub choose-best-requires : goal.choose-best-requires
 choose-best-requires c =
     let holds = c.requires.holds.1 in
     let run = c.args.self in
-    let there = c.put_live-kept.ensures in
     let next = c.parent_number-next.ensures in
     let low = ends_low 769 256 c.requires.holds.0 c.args.rows.now run holds in
     record {
-      held = there.held;
-      count_le_most_terms = (
-        omega (arith, there.at_most, holds.light, holds.count_is),
-        omega (arith, holds.few, holds.modes_are),
-        omega (arith, holds.few, holds.modes_are, next, c.requires.step_lt_modes),
-      );
+      limits = (omega (arith, holds.few, holds.modes_are), omega (arith, holds.few, holds.modes_are, next, c.requires.step_lt_modes));
       by_index = λ entity h. omega (arith, low entity (omega (arith, next)), holds.few);
     }
 
