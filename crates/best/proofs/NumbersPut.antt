@@ -1,32 +1,34 @@
--- The numbers of a sequence written over the front of others.
-use mathlib.Core.Path.{◌≡◌, refl, ap, ◌∙◌, sym}
-use mathlib.Core.List.{List}
-use Prim.Native.Nat.{ℕ, ◌*◌, ◌≤◌}
+-- The numbers of merges put over the front of others, merge by merge.
+use mathlib.Core.Path.{◌≡◌, ap, ◌∙◌, sym}
+use mathlib.Core.List.{List, [], ◌∷◌, reverse}
+use Prim.Native.Nat.{ℕ, ◌+◌, ◌*◌, ◌<◌}
+use native.Mathlib.Numerals.{add-one}
 use native.Mathlib.Omega.{arith}
-use lib.ListN.{length, take, drop, length-take}
+use lib.ListN.{length, get_or, take}
+use lib.Seq.{take-suc, length-take-le}
+use Rattle.std.proofs.lemmas.List.{length-reverse}
 use Rattle.lists.specs.Written.{written_at}
-use Rattle.lists.proofs.Written.{length_written, drop_written}
-use Rattle.best.specs.code.Numbered.{FrontOnly, NumbersPut}
-use Rattle.best.proofs.MergesKept.{numbers_kept}
+use Rattle.lists.proofs.Behind.{front_behind, nothing_written}
+use Rattle.entities.specs.declared.Triple.{Triple}
+use Rattle.best.specs.Call.{sequence_numbers}
+use Rattle.best.proofs.MergesKept.{newest_first, length_numbers}
 
-pub numbers_put : (modes : ℕ) (merges before after : List ℕ) → 3 * modes ≤ length merges → 3 * modes ≤ length before
-    → after ≡ written_at 0 (take (3 * modes) merges) before
-    → take (length (take (3 * modes) merges)) after ≡ take (3 * modes) merges
-    → NumbersPut modes merges before after
-numbers_put modes merges before after kept room written front =
-    let part = take (3 * modes) merges in
-    let long : length part ≡ 3 * modes = omega (arith, length-take (3 * modes) merges) in
-    record {
-      front = ap (λ n. take n after) (sym long) ∙ front ∙ sym (numbers_kept merges modes kept);
-      rest = record {
-        long = ap length written ∙ length_written 0 part before (omega arith);
-        behind = ap (drop (3 * modes)) written ∙ drop_written 0 part before (omega arith) (3 * modes) (omega arith);
-      };
-    }
+abbrev pub NumbersPut : List Triple → List ℕ → List ℕ → ℕ → Type 0
+NumbersPut merges before after step = after ≡ written_at 0 (sequence_numbers (reverse (take step merges))) before
 
--- What is put behind what was put already is at the front alone, too.
-pub front_again : (front : ℕ) {before between after : List ℕ} → FrontOnly front before between → FrontOnly front between after → FrontOnly front before after
-front_again front one other = record { long = other.long ∙ one.long; behind = other.behind ∙ one.behind }
+pub numbers_start : (merges : List Triple) (before : List ℕ) → NumbersPut merges before before 0
+unfolding sequence_numbers
+numbers_start merges before = sym (nothing_written 0 before)
 
-pub front_same : (front : ℕ) (numbers : List ℕ) → FrontOnly front numbers numbers
-front_same front numbers = record { long = refl; behind = refl }
+pub numbers_next : (merges : List Triple) (before after : List ℕ) (step : ℕ) (merge none : Triple) → NumbersPut merges before after step
+    → step < length merges → get_or merges step none ≡ merge
+    → NumbersPut merges before (written_at (3 * step) (merge.x ∷ (merge.y ∷ (merge.z ∷ []))) after) (step + 1)
+unfolding sequence_numbers
+numbers_next merges before after step merge none put h e =
+    let older = take step merges in
+    let three : List ℕ = merge.x ∷ (merge.y ∷ (merge.z ∷ [])) in
+    let front : length (sequence_numbers (reverse older)) ≡ 3 * step =
+    length_numbers (reverse older) ∙ ap (λ n. 3 * n) (length-reverse older ∙ length-take-le step merges (omega arith)) in
+    let more : reverse (take (step + 1) merges) ≡ merge ∷ reverse older =
+    rw (add-one step, take-suc merges step none h, e) (newest_first older merge) in
+    rw more (front_behind (sequence_numbers (reverse older)) three before after (3 * step) front put)

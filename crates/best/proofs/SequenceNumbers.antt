@@ -1,10 +1,11 @@
 -- How many sequences there are, and the k-th of them from k.
 use mathlib.Core.Path.{◌≡◌, refl, ap, ◌∙◌}
-use mathlib.Core.List.{List, [], ◌∷◌}
+use mathlib.Core.List.{List, [], ◌∷◌, reverse}
 use Prim.Native.Nat.{ℕ, zero, suc, ◌+◌, ◌-◌, ◌*◌, ◌/◌, ◌%◌, ◌<◌, ◌≤◌}
 use native.Mathlib.Nat.{mod-lt, div-lt_iff_lt-mul, mul-pos}
 use native.Mathlib.Omega.{arith}
-use lib.ListN.{length, get_or}
+use lib.ListN.{length, get_or, take, set}
+use Rattle.lists.proofs.Writes.{written_next}
 use Rattle.entities.specs.declared.Triple.{Triple}
 use Rattle.history.specs.Lawful.{LawfulHistory}
 use Rattle.best.specs.Sequences.{lawful_triples, sequences_from, sequences, step_count, sequence_count, SequenceCount, SmallCounts}
@@ -12,6 +13,7 @@ use Rattle.best.specs.Call.{most_to_try}
 use Rattle.best.specs.code.Numbered.{no_merge, sequence_at}
 use Rattle.best.proofs.LawfulTriples.{listed_lawful}
 use Rattle.best.proofs.StepCount.{step_counted}
+use Rattle.best.proofs.MergesKept.{newest_first}
 use Rattle.best.proofs.EqualParts.{member_at, length_parts, getD_parts}
 
 pub some_sequence : (j : ℕ) → 0 < sequence_count j
@@ -57,12 +59,21 @@ pub small_counts : SmallCounts
 unfolding sequence_count step_count
 small_counts = record { of_one = sequences_counted 1; of_two = sequences_counted 2; of_three = sequences_counted 3; of_four = sequences_counted 4 }
 
--- One step of a sequence from its number.
-pub sequence_step : (modes steps : ℕ) (history : List Triple) (k ways : ℕ) (merge : Triple) → ways ≡ sequence_count steps
-    → merge ≡ get_or (lawful_triples modes history) (k / ways) no_merge
-    → sequence_at modes (suc steps) history k ≡ sequence_at modes steps (merge ∷ history) (k % ways)
+-- One step of a sequence from its number: the merge that the number says is put behind those of the steps before.
+pub sequence_next : (modes step k ways : ℕ) (merges : List Triple) (merge : Triple) → step < modes → step < length merges
+    → ways ≡ sequence_count (modes - step - 1) → merge ≡ get_or (lawful_triples modes (reverse (take step merges))) (k / ways) no_merge
+    → sequence_at modes (modes - (step + 1)) (reverse (take (step + 1) (set merges step merge))) (k % ways)
+    ≡ sequence_at modes (modes - step) (reverse (take step merges)) k
 unfolding sequence_at
-sequence_step modes steps history k ways merge ways_are merge_is = rw (merge_is, ways_are)
+sequence_next modes step k ways merges merge left room ways_are merge_is =
+    let older = reverse (take step merges) in
+    let fewer : modes - (step + 1) ≡ modes - step - 1 = omega arith in
+    let more : suc (modes - step - 1) ≡ modes - step = omega arith in
+    let next : reverse (take (step + 1) (set merges step merge)) ≡ merge ∷ older =
+    rw (written_next merges step merge room) (newest_first (take step merges) merge) in
+    let one : sequence_at modes (modes - step - 1) (merge ∷ older) (k % ways) ≡ sequence_at modes (suc (modes - step - 1)) older k =
+    rw (merge_is, ways_are) in
+    rw (fewer, next) (one ∙ ap (λ n. sequence_at modes n older k) more)
 
 -- Of few modes there are few.
 pub few_sequences : (modes : ℕ) → modes ≤ most_to_try → sequence_count modes ≤ 2520

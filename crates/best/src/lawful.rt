@@ -1,69 +1,88 @@
-// Which triples are lawful after merges that are kept as numbers, x, y, z of each: the merges are few, so openness and z-ends are read off them.
-ghost use Rattle.std.specs.Prelude.{◌≡◌};
-ghost use Rattle.history.specs.History.{is_open, z_end};
-ghost use Rattle.history.specs.Lawful.{three_open, paired};
-ghost use Rattle.history.specs.computed.Pairs.{is_lawful};
-ghost use Rattle.best.specs.code.Numbered.{history_in, Kept};
+// Which triples are lawful after the merges so far: these are few, so openness and z-ends are read off them.
+ghost use Rattle.std.specs.Prelude.{◌≡◌, ◌≤◌, length};
+ghost use Rattle.history.specs.History.{among};
+ghost use Rattle.best.specs.Call.{most_to_try};
 
 use entities::{Triple, parents};
 
-// The entity is open after the first `steps` merges.
-fn is_open(modes: usize, merges: &[u16], steps: usize, entity: u16) -> bool
-    requires { Kept modes steps merges.now }
-    ensures { result ≡ is_open modes (history_in merges.now steps) entity }
+// The merges so far of a sequence, the oldest first.
+#[derive(Clone, Copy)]
+pub struct SoFar<'a> {
+    pub modes: usize,
+    pub merges: &'a [Triple],
+    ghost few: { modes ≤ most_to_try },
+    ghost inside: { length merges.now ≤ modes },
+}
+
+// The entity is one of the merge's three.
+#[tactic(auto, unfolding(history::specs::History::among))]
+fn among(merge: Triple, entity: u16) -> bool
+    ensures { result ≡ among merge entity }
 {
-    for step in (0..steps).rev() {
-        if entity == parents::parent_number(modes, step) {
-            return true;
+    entity == merge.x || entity == merge.y || entity == merge.z
+}
+
+impl<'a> SoFar<'a> {
+    ghost use Rattle.std.specs.Prelude.{◌≡◌, reverse};
+    ghost use Rattle.history.specs.History.{is_open, z_end};
+    ghost use Rattle.history.specs.Lawful.{three_open, paired};
+    ghost use Rattle.history.specs.computed.Pairs.{is_lawful};
+
+    // The entity is open.
+    #[tactic(auto, using(crate::proofs::MergesKept::parent_opens, crate::proofs::MergesKept::child_closes, crate::proofs::MergesKept::others_stay), unfolding(history::specs::History::is_open))]
+    fn is_open(&self, entity: u16) -> bool
+        ensures { result ≡ is_open self.now.modes (reverse self.now.merges.now) entity }
+    {
+        for (step, merge) in self.merges.iter().enumerate().rev() {
+            if entity == parents::parent_number(self.modes, step) {
+                return true;
+            }
+            if among(*merge, entity) {
+                return false;
+            }
         }
-        let at = 3 * step;
-        if merges[at..at + 3].contains(&entity) {
+        usize::from(entity) <= 2 * self.modes
+    }
+
+    // The entity's z-end.
+    #[tactic(auto, using(crate::proofs::MergesKept::parent_ends, crate::proofs::MergesKept::others_end), unfolding(history::specs::History::z_end))]
+    fn z_end(&self, entity: u16) -> u16
+        ensures { result ≡ z_end self.now.modes (reverse self.now.merges.now) entity }
+    {
+        let mut at = entity;
+        for (step, merge) in self.merges.iter().enumerate().rev() {
+            if at == parents::parent_number(self.modes, step) {
+                at = merge.z;
+            }
+        }
+        at
+    }
+
+    // Three open entities.
+    #[tactic(auto, unfolding(history::specs::Lawful::three_open))]
+    fn three_open(&self, triple: Triple) -> bool
+        ensures { result ≡ three_open self.now.modes (reverse self.now.merges.now) triple }
+    {
+        self.is_open(triple.x) && self.is_open(triple.y) && self.is_open(triple.z)
+    }
+
+    // Three different entities, x's z-end an even 2k below 2n and y's 2k+1.
+    #[tactic(auto, unfolding(history::specs::Lawful::paired))]
+    fn are_paired(&self, triple: Triple) -> bool
+        ensures { result ≡ paired self.now.modes (reverse self.now.merges.now) triple }
+    {
+        if triple.x == triple.y || triple.x == triple.z || triple.y == triple.z {
             return false;
         }
+        let end = usize::from(self.z_end(triple.x));
+        end % 2 == 0 && end < 2 * self.modes && usize::from(self.z_end(triple.y)) == end + 1
     }
-    usize::from(entity) <= 2 * modes
-}
 
-// The entity's z-end after them.
-fn z_end(modes: usize, merges: &[u16], steps: usize, entity: u16) -> u16
-    requires { Kept modes steps merges.now }
-    ensures { result ≡ z_end modes (history_in merges.now steps) entity }
-{
-    let mut at = entity;
-    for step in (0..steps).rev() {
-        if at == parents::parent_number(modes, step) {
-            at = merges[3 * step + 2];
-        }
+    // The triple is lawful.
+    #[tactic(auto, unfolding(history::specs::computed::Pairs::is_lawful))]
+    pub fn is_lawful(&self, triple: Triple) -> bool
+        ensures { result ≡ is_lawful self.now.modes (reverse self.now.merges.now) triple }
+    {
+        self.three_open(triple) && self.are_paired(triple)
     }
-    at
-}
-
-// Three open entities.
-fn three_open(modes: usize, merges: &[u16], steps: usize, triple: Triple) -> bool
-    requires { Kept modes steps merges.now }
-    ensures { result ≡ three_open modes (history_in merges.now steps) triple }
-{
-    is_open(modes, merges, steps, triple.x)
-        && is_open(modes, merges, steps, triple.y)
-        && is_open(modes, merges, steps, triple.z)
-}
-
-// Three different entities, x's z-end an even 2k below 2n and y's 2k+1.
-fn are_paired(modes: usize, merges: &[u16], steps: usize, triple: Triple) -> bool
-    requires { Kept modes steps merges.now }
-    ensures { result ≡ paired modes (history_in merges.now steps) triple }
-{
-    if triple.x == triple.y || triple.x == triple.z || triple.y == triple.z {
-        return false;
-    }
-    let end = usize::from(z_end(modes, merges, steps, triple.x));
-    end % 2 == 0 && end < 2 * modes && usize::from(z_end(modes, merges, steps, triple.y)) == end + 1
-}
-
-// The triple is lawful.
-pub fn is_lawful(modes: usize, merges: &[u16], steps: usize, triple: Triple) -> bool
-    requires { Kept modes steps merges.now }
-    ensures { result ≡ is_lawful modes (history_in merges.now steps) triple }
-{
-    three_open(modes, merges, steps, triple) && are_paired(modes, merges, steps, triple)
 }

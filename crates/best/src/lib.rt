@@ -8,6 +8,7 @@ ghost use Rattle.terms.specs.Good.{checked};
 ghost use Rattle.best.specs.computed.Lightest.{least_weight, how_many};
 ghost use Rattle.best.specs.Call.{most_to_try, terms_given, sequence_after, Sought};
 
+use crate::search::Operators;
 use refusal::Refusal;
 use terms::checking;
 
@@ -31,7 +32,18 @@ fn find(modes: usize, terms: &[u16], count: usize, sequence: &mut [u16]) -> Leas
     ensures sequence_after { sequence.new ≡ sequence_after (Ok result) modes terms.now sequence.old }
 {
     let own = tree_weight::own_operators(modes, terms, count);
-    search::search(modes, &own, count, sequence)
+    let operators = Operators {
+        modes,
+        rows: &own,
+        count,
+    };
+    let lead = operators.lightest();
+    let first = sequence::nth_sequence(modes, lead.number);
+    sequence::put_numbers(&first[..modes], sequence);
+    Least {
+        weight: lead.weight,
+        reached: lead.reached,
+    }
 }
 
 // The least tree weight of all lawful sequences, how many reach it, and the first of them into the lent numbers; or why it is refused.

@@ -3,12 +3,13 @@ use Rattle.best.specs.declared.Least.{Least}
 use Rattle.std.specs.Prelude.{Err, Ok, Result}
 use mathlib.Core.Path.{◌≡◌, refl, ap, ◌∙◌, sym}
 use mathlib.Core.Bool.{Bool, true, false, cond}
-use mathlib.Core.List.{List, [], ◌∷◌, ◌++◌, map}
+use mathlib.Core.List.{List, [], ◌∷◌, ◌++◌, map, append-nil}
 use Prim.Native.Nat.{ℕ, ◌+◌, ◌*◌, ◌≤◌}
 use native.Mathlib.Omega.{arith}
 use borrow.Author.Tests.{ltb-true, ltb-false, le-leb}
 use lib.Dec.{eqb, ltb}
-use lib.ListN.{length, get_or, drop}
+use lib.ListN.{length, get_or, take, drop}
+use lib.Seq.{take_at}
 use Rattle.lists.specs.Members.{every}
 use Rattle.lists.specs.Written.{written_at}
 use Rattle.refusal.specs.declared.Refusal.{Refusal}
@@ -27,9 +28,10 @@ use Rattle.text.specs.Output.{line_of, refusal_text}
 use Rattle.text.proofs.RoomSuffices.{refusal_five}
 use Rattle.best.specs.computed.Lightest.{lightest}
 use Rattle.best.specs.Call.{terms_given, found_among, best_found, sequence_numbers, sequence_after, Sought}
-use Rattle.best.specs.code.Numbered.{history_in}
 use Rattle.best.proofs.LightestBest.{lightest_best, found_few}
-use Rattle.best.proofs.MergesKept.{sequence_kept}
+use Rattle.best.proofs.MergesKept.{length_numbers}
+use Rattle.best_text.specs.code.MergesRead.{merges_in}
+use Rattle.best_text.proofs.MergesPrinted.{sequence_read}
 use Rattle.best_text.specs.Printing.{merge_line, found_text, found_printed, best_as, best_text, BestSuffices, MergesSteer}
 
 -- Where the sequence fits, 5 is not among the refusals.
@@ -90,17 +92,17 @@ module _ (most modes : ℕ) (numbers before : List ℕ) (r : Result Least Refusa
     pub modes_few : modes ≤ most
     modes_few = found_few most modes numbers (length before) least found_is
 
-    sequence_held : history_in after modes ≡ lightest modes (terms_given numbers)
-    unfolding sequence_after written_at
+    sequence_held : merges_in (take (3 * modes) after) ≡ lightest modes (terms_given numbers)
+    unfolding sequence_after written_at merges_in
     sequence_held =
         let first = lightest modes (terms_given numbers) in
-        let all = (lightest_best modes (terms_given numbers)).all in
-        let written = sought.sequence_is ∙ ap (λ found. sequence_after found modes numbers before) e in
-        ap (λ l. history_in l modes) written
-        ∙ ap (history_in (sequence_numbers first ++ drop (0 + length (sequence_numbers first)) before)) (sym all)
-        ∙ sequence_kept first (drop (0 + length (sequence_numbers first)) before)
+        let part = sequence_numbers first in
+        let written : after ≡ part ++ drop (0 + length part) before = sought.sequence_is ∙ ap (λ found. sequence_after found modes numbers before) e in
+        let long : length part ≡ 3 * modes = length_numbers first ∙ ap (λ n. 3 * n) (lightest_best modes (terms_given numbers)).all in
+        let front : take (3 * modes) after ≡ part ++ [] = rw (written, append-nil part) (take_at part _ (3 * modes) long) in
+        ap merges_in front ∙ sequence_read first []
 
-    pub found_told : best_as most (length before) (given modes numbers) ≡ found_text least.weight least.reached (history_in after modes)
+    pub found_told : best_as most (length before) (given modes numbers) ≡ found_text least.weight least.reached (merges_in (take (3 * modes) after))
     unfolding best_as found_printed
     found_told = rw (found_is, sequence_held)
 

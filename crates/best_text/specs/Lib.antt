@@ -1,2 +1,3 @@
 -- What the command `best` prints.
 pub mod Printing
+pub mod code

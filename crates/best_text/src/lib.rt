@@ -7,8 +7,8 @@ ghost use Rattle.terms_text.specs.Input.{given};
 ghost use Rattle.text.specs.Output.{Prints};
 ghost use Rattle.text.specs.code.Printing.{Puts};
 ghost use Rattle.best.specs.Call.{most_to_try};
-ghost use Rattle.best.specs.code.Numbered.{history_in};
 ghost use Rattle.best_text.specs.Printing.{found_text, best_as, best_text};
+ghost use Rattle.best_text.specs.code.MergesRead.{merges_in};
 
 use best::Least;
 use text::{Printed, output};
@@ -16,13 +16,13 @@ use text::{Printed, output};
 mod merges;
 
 // What was found printed over the front; how many bytes that is.
-fn put_found(out: &mut [u8; 16384], least: Least, modes: usize, sequence: &[u16]) -> usize
-    requires { (modes ≤ most_to_try) × (3 * modes ≤ length sequence.now) }
-    ensures { Puts (found_text least.weight least.reached (history_in sequence.now modes)) out.old out.new result }
+fn put_found(out: &mut [u8; 16384], least: Least, sequence: &[u16]) -> usize
+    requires { length sequence.now ≤ 3 * most_to_try }
+    ensures { Puts (found_text least.weight least.reached (merges_in sequence.now)) out.old out.new result }
 {
     let first = output::put_value(out, 0, b"least\t", least.weight);
     let second = output::put_value(out, first, b"reached\t", least.reached as u64);
-    merges::put_merges(out, second, modes, sequence)
+    merges::put_merges(out, second, sequence)
 }
 
 // The best of the modes and terms that a text gives, in lent room for its sequence.
@@ -36,7 +36,10 @@ fn print_given(
 {
     match best::best(modes, numbers, sequence) {
         Err(refusal) => output::put_refusal(out, refusal),
-        Ok(least) => put_found(out, least, modes, sequence),
+        Ok(least) => {
+            let end = 3 * modes;
+            put_found(out, least, &sequence[..end])
+        }
     }
 }
 

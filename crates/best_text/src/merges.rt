@@ -1,9 +1,8 @@
 // A sequence's merges written as lines.
 ghost use Rattle.std.specs.Prelude.{◌≡◌, ◌+◌, ◌*◌, ◌≤◌, length};
 ghost use Rattle.lists.specs.Written.{written_at};
-ghost use Rattle.best.specs.Call.{most_to_try};
-ghost use Rattle.best.specs.code.Numbered.{history_in};
 ghost use Rattle.best_text.specs.Printing.{merge_line, merge_lines};
+ghost use Rattle.best_text.specs.code.MergesRead.{merges_in};
 
 use entities::Triple;
 use fields::decimal;
@@ -19,19 +18,18 @@ fn put_merge(out: &mut [u8], at: usize, merge: Triple) -> usize
     decimal::put_field(out, second, merge.z as u64, 10)
 }
 
-// The lines of the first `modes` merges written at this place; the place after them.
-pub fn put_merges(out: &mut [u8], start: usize, modes: usize, sequence: &[u16]) -> usize
-    requires { (modes ≤ most_to_try) × (3 * modes ≤ length sequence.now) × (start + 63 * modes ≤ length out.old) }
-    ensures value { (result ≡ start + length (merge_lines (history_in sequence.now modes))) × (result ≤ start + 63 * modes) }
-    ensures out_after { out.new ≡ written_at start (merge_lines (history_in sequence.now modes)) out.old }
+// The lines of a sequence's merges written at this place; the place after them.
+pub fn put_merges(out: &mut [u8], start: usize, sequence: &[u16]) -> usize
+    requires { start + 21 * length sequence.now ≤ length out.old }
+    ensures value { (result ≡ start + length (merge_lines (merges_in sequence.now))) × (result ≤ start + 21 * length sequence.now) }
+    ensures out_after { out.new ≡ written_at start (merge_lines (merges_in sequence.now)) out.old }
 {
     let mut at = start;
-    for done in 0..modes {
-        let from = 3 * done;
+    for numbers in sequence.chunks_exact(3) {
         let merge = Triple {
-            x: sequence[from],
-            y: sequence[from + 1],
-            z: sequence[from + 2],
+            x: numbers[0],
+            y: numbers[1],
+            z: numbers[2],
         };
         at = put_merge(out, at, merge);
     }

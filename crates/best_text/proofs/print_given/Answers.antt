@@ -1,18 +1,22 @@
 -- What the call answered is printed, the merges from the numbers that it left.
 use mathlib.Core.Path.{◌≡◌, ap, ◌∙◌}
+use Prim.Native.Nat.{◌≤◌}
 use native.Mathlib.Omega.{arith}
 use lib.ListN.{length}
 use Rattle.terms_text.specs.Input.{given}
 use Rattle.best_text.specs.Printing.{best_as}
 use Rattle.best_text.proofs.BestPrinted.{refused_printed, modes_few, found_told}
 use Rattle.best_text.proofs.print_given.Goals as goal
+use Rattle.best_text.proofs.print_given.Goals.{In-Ok}
 
-pub put_found-requires : goal.put_found-requires
-put_found-requires c =
-    let args = c.args in
-    let call = c.best in
-    let few = modes_few 4 args.modes args.numbers.now args.sequence.now _ _ call.ensures _ c.in-Ok.is in
-    (few, omega (arith, few))
+few : (c : In-Ok) → c.args.modes ≤ 4
+few c = modes_few 4 c.args.modes c.args.numbers.now c.args.sequence.now _ _ c.best.ensures _ c.in-Ok.is
+
+pub overflow_mul-end : goal.overflow_mul-end
+overflow_mul-end c = omega (arith, few (goal.at.overflow_mul-end c).In-Ok)
+
+pub shared_ref_as_front-put_found : goal.shared_ref_as_front-put_found
+shared_ref_as_front-put_found c = omega (arith, few (goal.at.shared_ref_as_front-put_found c).In-Ok)
 
 pub returns-in-Err : goal.returns-in-Err
 returns-in-Err c =

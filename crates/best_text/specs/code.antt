@@ -1,0 +1,2 @@
+-- How the code reads a sequence back: no promise needs it.
+pub mod MergesRead
