@@ -1,5 +1,5 @@
 -- The lawful triples of a step, by the number of the triple.
-use Rattle.std.proofs.Common.{◌≡◌, List, map, ℕ, ◌+◌, ◌*◌, reverse, length}
+use Rattle.std.proofs.Common.{◌≡◌, ◌∙◌, sym, List, map, ℕ, ◌+◌, ◌*◌, reverse, length}
 use Rattle.std.specs.List.{filter, range_with_len}
 use Rattle.lists.proofs.Standard.{keep_is}
 use Rattle.entities.specs.declared.Triple.{Triple}
@@ -10,10 +10,8 @@ use Rattle.best.specs.code.Numbered.{triple_at}
 use Rattle.best.proofs.MergesKept.{parent_after}
 use Rattle.best.proofs.TriplesNumbered.{triples_numbered}
 
-pub lawful_numbered : (modes : ℕ) (merges : List Triple) (end : ℕ)
-    → end ≡ (2 * modes + 1 + length merges) * ((2 * modes + 1 + length merges) * (2 * modes + 1 + length merges))
-    → filter (is_lawful modes (reverse merges)) (map (triple_at (2 * modes + 1 + length merges)) (range_with_len 0 end))
-    ≡ lawful_triples modes (reverse merges)
+pub lawful_numbered : (modes count : ℕ) (merges : List Triple) → count ≡ 2 * modes + 1 + length merges
+    → filter (is_lawful modes (reverse merges)) (map (triple_at count) (range_with_len 0 (count * (count * count)))) ≡ lawful_triples modes (reverse merges)
 unfolding lawful_triples
-lawful_numbered modes merges end e =
-    rw (triples_numbered modes (reverse merges) (2 * modes + 1 + length merges) (parent_after modes merges), keep_is, listed_is, e)
+lawful_numbered modes count merges e =
+    rw (triples_numbered modes (reverse merges) count (parent_after modes merges ∙ sym e), keep_is, listed_is)

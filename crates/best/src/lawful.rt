@@ -1,9 +1,13 @@
 // Which triples are lawful after the merges so far: these are few, so openness and z-ends are read off them.
-ghost use Rattle.std.specs.Prelude.{◌≡◌, ◌≤◌, length};
+ghost use Rattle.std.specs.Prelude.{◌≡◌, ◌≤◌, ◌<◌, length};
 ghost use Rattle.history.specs.History.{among};
 ghost use Rattle.best.specs.Call.{most_to_try};
+ghost use Rattle.best.specs.code.Numbered.{triple_at};
 
 use entities::{Triple, parents};
+
+// What stands for no merge.
+pub const NO_MERGE: Triple = Triple { x: 0, y: 0, z: 0 };
 
 // The merges so far of a sequence, the oldest first.
 #[derive(Clone, Copy)]
@@ -22,11 +26,27 @@ fn among(merge: Triple, entity: u16) -> bool
     entity == merge.x || entity == merge.y || entity == merge.z
 }
 
+// The triple of this number, of the first `count` entities.
+#[tactic(auto, unfolding(crate::specs::code::Numbered::triple_at))]
+fn triple_at(count: usize, number: usize) -> Triple
+    requires { (0 < count) × (number < 65536) }
+    ensures { result ≡ triple_at count number }
+{
+    let front = number / count;
+    Triple {
+        x: (front / count) as u16,
+        y: (front % count) as u16,
+        z: (number % count) as u16,
+    }
+}
+
 impl<'a> SoFar<'a> {
-    ghost use Rattle.std.specs.Prelude.{◌≡◌, reverse};
+    ghost use Rattle.std.specs.Prelude.{◌+◌, ◌*◌, reverse, get_or};
     ghost use Rattle.history.specs.History.{is_open, z_end};
     ghost use Rattle.history.specs.Lawful.{three_open, paired};
     ghost use Rattle.history.specs.computed.Pairs.{is_lawful};
+    ghost use Rattle.best.specs.Sequences.{lawful_triples};
+    ghost use Rattle.best.specs.code.Numbered.{no_merge};
 
     // The entity is open.
     #[tactic(auto, using(crate::proofs::MergesKept::parent_opens, crate::proofs::MergesKept::child_closes, crate::proofs::MergesKept::others_stay), unfolding(history::specs::History::is_open))]
@@ -80,9 +100,28 @@ impl<'a> SoFar<'a> {
 
     // The triple is lawful.
     #[tactic(auto, unfolding(history::specs::computed::Pairs::is_lawful))]
-    pub fn is_lawful(&self, triple: Triple) -> bool
+    fn is_lawful(&self, triple: Triple) -> bool
         ensures { result ≡ is_lawful self.now.modes (reverse self.now.merges.now) triple }
     {
         self.three_open(triple) && self.are_paired(triple)
+    }
+
+    // How many entities there are.
+    fn entity_count(&self) -> usize
+        ensures { result ≡ 2 * self.now.modes + 1 + length self.now.merges.now }
+    {
+        2 * self.modes + 1 + self.merges.len()
+    }
+
+    // The lawful triple of this number, in ascending order.
+    pub fn nth_lawful(&self, number: usize) -> Triple
+        ensures { result ≡ get_or (lawful_triples self.now.modes (reverse self.now.merges.now)) number no_merge }
+    {
+        let count = self.entity_count();
+        (0..count * (count * count))
+            .map(|at| triple_at(count, at))
+            .filter(|triple| self.is_lawful(*triple))
+            .nth(number)
+            .unwrap_or(NO_MERGE)
     }
 }

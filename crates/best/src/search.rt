@@ -1,9 +1,8 @@
 // All sequences gone through in their order, with the lightest so far.
-ghost use Rattle.std.specs.Prelude.{◌≡◌, ◌*◌, ◌≤◌, map, reverse, length};
+ghost use Rattle.std.specs.Prelude.{◌≤◌};
 ghost use Rattle.std.proofs.Props.{props};
-ghost use Rattle.entities.specs.Codes.{child_code};
 ghost use Rattle.tree_weight.specs.code.Promises.{RowsBelow};
-ghost use Rattle.best.specs.Call.{most_to_try, sequence_numbers};
+ghost use Rattle.best.specs.Call.{most_to_try};
 
 use crate::sequence;
 use entities::{Triple, codes};
@@ -26,24 +25,25 @@ pub struct Operators<'a> {
     ghost below: { RowsBelow modes count rows.now } by { Prim.hlevel props },
 }
 
-// The tree table of a sequence: the codes of its numbers, the leaf 2n being the absent child.
-fn put_tree(modes: usize, merges: &[Triple], tree: &mut [u16])
-    requires modes_le_most_to_try { modes ≤ most_to_try }
-    requires tree_len { length tree.old ≡ 3 * length merges.now }
-    ensures { tree.new ≡ map (child_code modes (2 * modes)) (sequence_numbers (reverse merges.now)) }
-{
-    sequence::put_numbers(merges, tree);
-    let last = (2 * modes) as u16;
-    for number in tree.iter_mut() {
-        *number = codes::code(modes, last, *number);
-    }
-}
-
 impl<'a> Operators<'a> {
-    ghost use Rattle.std.specs.Prelude.{[], ◌+◌, ◌<◌, get_or};
+    ghost use Rattle.std.specs.Prelude.{◌≡◌, [], map, reverse, ◌+◌, ◌*◌, ◌<◌, length, get_or};
+    ghost use Rattle.entities.specs.Codes.{child_code};
     ghost use Rattle.finished.specs.Finished.{AllMerged};
+    ghost use Rattle.best.specs.Call.{sequence_numbers};
     ghost use Rattle.best.specs.Sequences.{sequences};
     ghost use Rattle.best.specs.code.Numbered.{weight_by, Led};
+
+    // Puts the tree table of a sequence: the codes of its numbers, the leaf 2n being the absent child.
+    fn put_tree(&self, merges: &[Triple], tree: &mut [u16])
+        requires { length tree.old ≡ 3 * length merges.now }
+        ensures { tree.new ≡ map (child_code self.now.modes (2 * self.now.modes)) (sequence_numbers (reverse merges.now)) }
+    {
+        sequence::put_numbers(merges, tree);
+        let last = (2 * self.modes) as u16;
+        for number in tree.iter_mut() {
+            *number = codes::code(self.modes, last, *number);
+        }
+    }
 
     // What the tree of a sequence weighs.
     fn weigh(&self, merges: &[Triple]) -> u64
@@ -52,7 +52,7 @@ impl<'a> Operators<'a> {
     {
         let mut tree = [0u16; 12];
         let end = 3 * self.modes;
-        put_tree(self.modes, merges, &mut tree[..end]);
+        self.put_tree(merges, &mut tree[..end]);
         tree_weight::operators_weight(self.modes, &tree[..end], self.rows, self.count)
     }
 
