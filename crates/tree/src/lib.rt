@@ -7,11 +7,13 @@ ghost use Rattle.tree.specs.Check.{check_numbers, tree_checked};
 
 use refusal::Refusal;
 use terms::checking;
+use tree_table::TreeTable;
 
 pub mod laying;
 mod one_tree;
 mod pairs;
 pub mod table;
+mod tree_table;
 
 // The table is 3n good codes that make one tree with its pairs right; or the first of these that fails.
 pub fn check_tree(modes: usize, tree: &[u16]) -> Result<(), Refusal>
@@ -25,10 +27,11 @@ pub fn check_tree(modes: usize, tree: &[u16]) -> Result<(), Refusal>
     if good < tree.len() {
         return Err(Refusal::ChildCode(good));
     }
-    if !one_tree::one_tree(modes, tree) {
+    let table = TreeTable { modes, tree };
+    if !table.one_tree() {
         return Err(Refusal::NotOneTree);
     }
-    let right = pairs::pairs_right(modes, tree);
+    let right = table.pairs_right();
     if right < modes {
         return Err(Refusal::WrongPair(right));
     }

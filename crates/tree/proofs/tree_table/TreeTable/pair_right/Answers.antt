@@ -7,10 +7,10 @@ use Rattle.lists.proofs.Standard.{some_is}
 use Rattle.tree.specs.Table.{nodes}
 use Rattle.tree.specs.Pairs.{pair_right}
 use Rattle.tree.proofs.Chains.{counted_is}
-use Rattle.tree.proofs.pairs.pair_right.Goals as goal
+use Rattle.tree.proofs.tree_table.TreeTable.pair_right.Goals as goal
 
 pub returns : goal.returns
 unfolding pair_right nodes
 returns c =
     rw (some_is, counted_is)
-    (any_from_yields_List _ _ _ _ c.any.ensures.ran (YieldsList-from_range 0 c.args.modes c.args.modes refl (omega arith)) (λ x b q k. search (rules, tests)))
+    (any_from_yields_List _ _ _ _ c.any.ensures.ran (YieldsList-from_range 0 c.args.self.now.modes c.args.self.now.modes refl (omega arith)) (λ x b q k. search (rules, tests)))

@@ -1,4 +1,4 @@
--- Every node climbs to the root.
+-- Every node stands as often as it is to.
 use Rattle.std.proofs.Common.{rules, refl, arith}
 use Rattle.std.proofs.lemmas.Iterator.{YieldsList-from_range}
 use Rattle.std.proofs.lemmas.Iterator.Search.{all_from_yields_List}
@@ -6,10 +6,10 @@ use borrow.Author.Tests.{tests}
 use Rattle.lists.proofs.Standard.{every_is}
 use Rattle.tree.specs.Table.{nodes}
 use Rattle.tree.proofs.Chains.{counted_is}
-use Rattle.tree.proofs.one_tree.all_reached.Goals as goal
+use Rattle.tree.proofs.tree_table.TreeTable.nodes_once.Goals as goal
 
 pub returns : goal.returns
 unfolding nodes
 returns c =
     rw (every_is, counted_is)
-    (all_from_yields_List _ _ _ _ c.all.ensures.ran (YieldsList-from_range 0 c.args.modes c.args.modes refl (omega arith)) (λ x b q k. search (rules, tests)))
+    (all_from_yields_List _ _ _ _ c.all.ensures.ran (YieldsList-from_range 0 c.args.self.now.modes c.args.self.now.modes refl (omega arith)) (λ x b q k. search (rules, tests)))

@@ -6,12 +6,12 @@ use borrow.Author.Tests.{tests}
 use Rattle.tree.specs.Table.{nodes}
 use Rattle.tree.specs.Pairs.{pair_right, pairs_right}
 use Rattle.tree.proofs.Chains.{first_failing_below}
-use Rattle.tree.proofs.pairs.pairs_right.Goals as goal
+use Rattle.tree.proofs.tree_table.TreeTable.pairs_right.Goals as goal
 
 pub returns : goal.returns
 unfolding pairs_right nodes
 returns c =
-    let args = c.args in
+    let args = c.args.self.now in
     c.unwrap_or.ensures
     ∙ first_failing_below _ (λ k. not (pair_right args.modes args.tree.now k)) (λ k. refl) args.modes _
     (position_from_yields_List _ _ _ _ c.position.ensures.ran (YieldsList-from_range 0 args.modes args.modes refl (omega arith)) (λ x b q k. search (rules, tests)))

@@ -2,8 +2,8 @@
 use Rattle.std.proofs.lemmas.Bool.{eq-eqb, ne_eqb}
 use Rattle.tree.specs.OneTree.{one_tree, absent_once}
 use Rattle.tree.proofs.OneTreeParts.{one_tree_by}
-use Rattle.tree.proofs.one_tree.one_tree.Goals as goal
-use Rattle.tree.proofs.one_tree.one_tree.Goals.{then-not-leaves_once-via-then-not-leaves_once as no_leaves, then-not-leaves_once-via-else-not-leaves_once+then-count-ne1 as no_absent}
+use Rattle.tree.proofs.tree_table.TreeTable.one_tree.Goals as goal
+use Rattle.tree.proofs.tree_table.TreeTable.one_tree.Goals.{then-not-leaves_once-via-then-not-leaves_once as no_leaves, then-not-leaves_once-via-else-not-leaves_once+then-count-ne1 as no_absent}
 
 pub returns-then-not-leaves_once : goal.returns-then-not-leaves_once
 unfolding one_tree absent_once
@@ -16,7 +16,7 @@ returns-then-not-leaves_once c =
 pub returns-then-nodes_once : goal.returns-then-nodes_once
 returns-then-nodes_once c =
     rw (
-      one_tree_by c.args.modes c.args.tree.now c.climb-root.result c.climb-root.ensures,
+      one_tree_by c.args.self.now.modes c.args.self.now.tree.now c.climb-root.result c.climb-root.ensures,
       ← c.leaves_once.ensures,
       c.if-not-leaves_once.false,
       ← c.count.ensures,
@@ -29,7 +29,7 @@ returns-then-nodes_once c =
 pub returns-else-nodes_once : goal.returns-else-nodes_once
 returns-else-nodes_once c =
     rw (
-      one_tree_by c.args.modes c.args.tree.now c.climb-root.result c.climb-root.ensures,
+      one_tree_by c.args.self.now.modes c.args.self.now.tree.now c.climb-root.result c.climb-root.ensures,
       ← c.leaves_once.ensures,
       c.if-not-leaves_once.false,
       ← c.count.ensures,

@@ -1,7 +1,0 @@
--- The steps left from here end where all of them do.
-use Rattle.std.proofs.Common.{◌≡◌, ◌-◌}
-use Rattle.tree.specs.Pairs.{chain_end}
-use Rattle.tree.proofs.pairs.chain_end.Given as goal
-
-abbrev pub invariant-loop : goal.invariant-loop
-invariant-loop l = chain_end l.modes l.tree l.modes l.code ≡ chain_end l.modes l.tree (l.modes - l.counter) l.at
