@@ -15,19 +15,14 @@ ghost use Rattle.merging.specs.code.Runs.{Holds};
 use entities::{Triple, codes};
 use merging::run::Run;
 
-// The codes of a node's three children.
-fn children(modes: usize, end: u16, merges: &[Triple], label: u16) -> Triple
-    requires modes_le_most_modes { (modes ≤ most_modes) × (label < modes) }
-    requires modes_in_bounds { modes ≤ length merges.now }
-    requires end_value { end ≡ absent_leaf modes (recorded merges.now modes) }
-    ensures { result.x ∷ (result.y ∷ (result.z ∷ [])) ≡ children_of modes (recorded merges.now modes) label }
-{
-    let merge = merges[usize::from(label)];
-    Triple {
-        x: codes::code(modes, end, merge.x),
-        y: codes::code(modes, end, merge.y),
-        z: codes::code(modes, end, merge.z),
-    }
+// The merges of a run that has made one for each mode, and the leaf at the end of its root's z-chain.
+#[derive(Clone, Copy)]
+struct Merged<'a> {
+    modes: usize,
+    end: u16,
+    merges: &'a [Triple; 256],
+    ghost few: { (1 ≤ modes) × (modes ≤ most_modes) },
+    ghost end_is: { end ≡ absent_leaf modes (recorded merges.now modes) },
 }
 
 // A node's row written over the one at this place.
@@ -40,7 +35,7 @@ fn put_row(rows: &mut [u16], place: usize, label: u16, codes: Triple)
     rows[at..at + 4].copy_from_slice(&[label, codes.x, codes.y, codes.z]);
 }
 
-// A child put behind the first so many labels, where it is a node; how many labels there are then.
+// Puts `child` behind the first `tail` labels where it is a node; how many labels there are then.
 #[tactic(auto, using(lists::proofs::Writes::written_next))]
 fn queue_node(labels: &mut [u16], tail: usize, modes: usize, child: u16) -> usize
     requires { tail < length labels.old }
@@ -54,7 +49,7 @@ fn queue_node(labels: &mut [u16], tail: usize, modes: usize, child: u16) -> usiz
     }
 }
 
-// The node children of a node put behind the first so many labels; how many labels there are then.
+// Puts the node children of a node behind the first `tail` labels; how many labels there are then.
 fn queue(labels: &mut [u16], tail: usize, modes: usize, codes: Triple) -> usize
     requires { tail + 3 ≤ length labels.old }
     ensures { (tail ≤ result) × (result ≤ tail + 3) × (take result labels.new ≡ take tail labels.old ++ keep (λ child. ltb child modes) (codes.x ∷ (codes.y ∷ (codes.z ∷ [])))) }
@@ -64,22 +59,35 @@ fn queue(labels: &mut [u16], tail: usize, modes: usize, codes: Triple) -> usize
     queue_node(labels, with_y, modes, codes.z)
 }
 
-// The rows into the front of a lent slice. Each node queues three labels at most, so the root's and those of 256 nodes are 769.
-fn write_rows(rows: &mut [u16], modes: usize, end: u16, merges: &[Triple])
-    requires le_modes { (1 ≤ modes) × (modes ≤ most_modes) × (4 * modes ≤ length rows.old) }
-    requires modes_in_bounds { modes ≤ length merges.now }
-    requires lawful_history { LawfulHistory modes (recorded merges.now modes) }
-    requires end_value { end ≡ absent_leaf modes (recorded merges.now modes) }
-    ensures { rows.new ≡ written_at 0 (flatpack modes (recorded merges.now modes)) rows.old }
-{
-    let mut labels = [0u16; 769];
-    labels[0] = (modes - 1) as u16;
-    let mut tail = 1;
-    for head in 0..modes {
-        let label = labels[head];
-        let codes = children(modes, end, merges, label);
-        put_row(rows, head, label, codes);
-        tail = queue(&mut labels, tail, modes, codes);
+impl Merged<'_> {
+    // The codes of a node's three children.
+    fn children(&self, label: u16) -> Triple
+        requires { label < self.now.modes }
+        ensures { result.x ∷ (result.y ∷ (result.z ∷ [])) ≡ children_of self.now.modes (recorded self.now.merges.now self.now.modes) label }
+    {
+        let merge = self.merges[usize::from(label)];
+        Triple {
+            x: codes::code(self.modes, self.end, merge.x),
+            y: codes::code(self.modes, self.end, merge.y),
+            z: codes::code(self.modes, self.end, merge.z),
+        }
+    }
+
+    // The rows into the front of a lent slice. Each node queues three labels at most, so the root's and those of 256 nodes are 769.
+    fn write_rows(&self, rows: &mut [u16])
+        requires room { 4 * self.now.modes ≤ length rows.old }
+        requires lawful_history { LawfulHistory self.now.modes (recorded self.now.merges.now self.now.modes) }
+        ensures { rows.new ≡ written_at 0 (flatpack self.now.modes (recorded self.now.merges.now self.now.modes)) rows.old }
+    {
+        let mut labels = [0u16; 769];
+        labels[0] = (self.modes - 1) as u16;
+        let mut tail = 1;
+        for head in 0..self.modes {
+            let label = labels[head];
+            let codes = self.children(label);
+            put_row(rows, head, label, codes);
+            tail = queue(&mut labels, tail, self.modes, codes);
+        }
     }
 }
 
@@ -88,6 +96,10 @@ pub fn write_flatpack(run: Run, rows: &mut [u16])
     requires { (job : Job) × ((own : List ℕ) × (Holds job own run × (length (history_of run) ≡ job.modes) × (4 * job.modes ≤ length rows.old))) }
     ensures { (job : Job) (own : List ℕ) → Holds job own run → rows.new ≡ written_at 0 (flatpack job.modes (history_of run)) rows.old }
 {
-    let end = run.tables.ends[3 * run.modes];
-    write_rows(rows, run.modes, end, &run.merges);
+    let merged = Merged {
+        modes: run.modes,
+        end: run.tables.ends[3 * run.modes],
+        merges: &run.merges,
+    };
+    merged.write_rows(rows);
 }

@@ -55,7 +55,7 @@ fn parent_of(table: &[u16], code: usize) -> usize
     if place < table.len() { place / 3 } else { code }
 }
 
-// So many steps up from a node; one that stands nowhere goes no further.
+// Climbs `steps` steps up from a node; one that stands nowhere goes no further.
 pub fn climb(table: &[u16], steps: usize, node: usize) -> usize
     ensures { result ≡ climbed table.now steps node }
 {

@@ -2,9 +2,7 @@
 use mathlib.Core.Path.{◌≡◌, ap}
 use Prim.Native.Nat.{ℕ, ◌+◌, ◌*◌}
 use native.Mathlib.Omega.{arith}
-use lib.ListN.{length, get_or}
-use Rattle.history.specs.History.{z_end}
-use Rattle.history.specs.Lawful.{LawfulHistory}
+use lib.ListN.{length}
 use Rattle.history.specs.Flatpack.{absent_leaf}
 use Rattle.merging.specs.declared.run.Run.{Run}
 use Rattle.merging.specs.code.Recorded.{recorded}
@@ -19,27 +17,25 @@ all_noted run modes same all =
     let made : run.step ≡ run.modes = omega (arith, length_recorded run.merges run.step) in
     ap (recorded run.merges) made
 
-pub write_rows-requires : goal.write_rows-requires
+pub invariant_of-merged : goal.invariant_of-merged
 unfolding absent_leaf
-write_rows-requires c =
+invariant_of-merged c =
     let run = c.args.run in
     let holds = c.requires.1.1.0 in
-    let few = holds.few in
     let same = holds.modes_are in
-    let rest = holds.whole in
     let merges = recorded run.merges run.modes in
     let noted : history_of run ≡ merges = all_noted run _ same c.requires.1.1.1 in
     let root : 2 * run.modes + length merges ≡ 3 * run.modes =
     omega (arith, length_recorded run.merges run.modes) in
-    let lawful : LawfulHistory run.modes merges = rw (noted, ← same) at holds.lawful in
-    let end : get_or run.tables.ends (3 * run.modes) 0 ≡ z_end run.modes merges (2 * run.modes + length merges) =
-    rw root (rw (noted, ← same) at (holds.tied.ends_are (3 * run.modes) (omega arith))) in
     record {
-      le_modes = (omega (arith, holds.some), omega arith, omega (arith, c.requires.1.1.2));
-      modes_in_bounds = omega (arith, rest.merges);
-      lawful_history = lawful;
-      end_value = end;
+      few = (omega (arith, holds.some), omega (arith, holds.few));
+      end_is = rw root (rw (noted, ← same) at (holds.tied.ends_are (3 * run.modes) (omega arith)));
     }
+
+pub write_rows-requires-clause-lawful_history : goal.write_rows-requires-clause-lawful_history
+write_rows-requires-clause-lawful_history c =
+    let holds = c.requires.1.1.0 in
+    rw (all_noted c.args.run _ holds.modes_are c.requires.1.1.1, ← holds.modes_are) at holds.lawful
 
 pub returns : goal.returns
 returns c job own holds =

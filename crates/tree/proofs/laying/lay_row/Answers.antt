@@ -4,13 +4,10 @@ use mathlib.Core.List.{[], ◌∷◌}
 use Prim.Native.Nat.{suc, ◌+◌, ◌*◌}
 use native.Mathlib.Omega.{arith}
 use borrow.Author.Tests.{lt-ltb, le-ltb}
-use lib.ListN.{length, length-set}
+use lib.ListN.{length}
 use Rattle.lists.proofs.Behind.{stores_written}
 use Rattle.tree.specs.Laying.{row_over}
 use Rattle.tree.proofs.laying.lay_row.Goals as goal
-
-pub bounds-table-at-then-at-table : goal.bounds-table-at-then-at-table
-bounds-table-at-then-at-table c = simp length-set (omega arith)
 
 pub returns-then-at-table : goal.returns-then-at-table
 unfolding row_over

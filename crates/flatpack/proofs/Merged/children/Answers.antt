@@ -3,14 +3,11 @@ use native.Mathlib.Omega.{arith}
 use Rattle.history.specs.Flatpack.{children}
 use Rattle.merging.specs.code.Recorded.{merge_at}
 use Rattle.merging.proofs.Recording.{recorded_merge}
-use Rattle.flatpack.proofs.children.Goals as goal
+use Rattle.flatpack.proofs.Merged.children.Goals as goal
 
 pub returns : goal.returns
 unfolding children merge_at
 returns c =
-    let z = c.code-3 in
-    let y = c.code-2 in
-    let x = c.code in
-    let args = c.args in
-    rw (recorded_merge args.merges.now args.modes args.label (omega arith), ← c.requires.end_value)
-    (rw (x.ensures, y.ensures, z.ensures, c.from.ensures))
+    let merged = c.args.self.now in
+    rw (recorded_merge merged.merges.now merged.modes c.args.label (omega arith), ← merged.end_is)
+    (rw (c.code.ensures, c.code-2.ensures, c.code-3.ensures, c.from.ensures))
