@@ -6,14 +6,13 @@ ghost use Rattle.entities.specs.Limits.{most_modes};
 ghost use Rattle.tree.specs.Check.{check_numbers, tree_checked};
 
 use refusal::Refusal;
+use table::TreeTable;
 use terms::checking;
-use tree_table::TreeTable;
 
 pub mod laying;
 mod one_tree;
 mod pairs;
 pub mod table;
-mod tree_table;
 
 // The table is 3n good codes that make one tree with its pairs right; or the first of these that fails.
 pub fn check_tree(modes: usize, tree: &[u16]) -> Result<(), Refusal>

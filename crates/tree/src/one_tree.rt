@@ -6,7 +6,7 @@ ghost use Rattle.tree.specs.Table.{nodes, climb as climbed};
 ghost use Rattle.tree.specs.OneTree.{leaves_once, one_tree};
 
 use crate::table;
-use crate::tree_table::TreeTable;
+use crate::table::TreeTable;
 use entities::codes;
 
 // How often a node is to stand in the table: the root nowhere, any other once.

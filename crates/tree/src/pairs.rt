@@ -3,7 +3,7 @@ ghost use Rattle.std.specs.Prelude.{◌≡◌, ◌<◌};
 ghost use Rattle.tree.specs.Pairs.{chain_end, pair_under, pair_right, pairs_right};
 
 use crate::table;
-use crate::tree_table::TreeTable;
+use crate::table::TreeTable;
 
 impl TreeTable<'_> {
     // The code that ends the z-chain from this one.

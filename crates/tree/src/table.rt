@@ -8,6 +8,14 @@ ghost use Rattle.tree.specs.Check.{codes_good};
 
 use entities::codes;
 
+// A tree table of the length that its modes ask for.
+#[derive(Clone, Copy)]
+pub struct TreeTable<'a> {
+    pub modes: usize,
+    pub tree: &'a [u16],
+    pub ghost whole: { length tree.now ≡ 3 * modes },
+}
+
 // The code is below 3n or absent.
 fn good_code(modes: usize, code: usize) -> bool
     requires { modes ≤ most_modes }

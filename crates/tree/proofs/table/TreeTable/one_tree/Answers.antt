@@ -2,8 +2,8 @@
 use Rattle.std.proofs.lemmas.Bool.{eq-eqb, ne_eqb}
 use Rattle.tree.specs.OneTree.{one_tree, absent_once}
 use Rattle.tree.proofs.OneTreeParts.{one_tree_by}
-use Rattle.tree.proofs.tree_table.TreeTable.one_tree.Goals as goal
-use Rattle.tree.proofs.tree_table.TreeTable.one_tree.Goals.{then-not-leaves_once-via-then-not-leaves_once as no_leaves, then-not-leaves_once-via-else-not-leaves_once+then-count-ne1 as no_absent}
+use Rattle.tree.proofs.table.TreeTable.one_tree.Goals as goal
+use Rattle.tree.proofs.table.TreeTable.one_tree.Goals.{then-not-leaves_once-via-then-not-leaves_once as no_leaves, then-not-leaves_once-via-else-not-leaves_once+then-count-ne1 as no_absent}
 
 pub returns-then-not-leaves_once : goal.returns-then-not-leaves_once
 unfolding one_tree absent_once

@@ -1,7 +1,7 @@
 -- Both returns are the definition, with the two chains' ends put in.
 use Rattle.std.proofs.lemmas.Bool.{eq-eqb, ne_eqb}
 use Rattle.tree.specs.Pairs.{pair_under}
-use Rattle.tree.proofs.tree_table.TreeTable.pair_under.Goals as goal
+use Rattle.tree.proofs.table.TreeTable.pair_under.Goals as goal
 
 pub returns-then-chain_end-even : goal.returns-then-chain_end-even
 unfolding pair_under

@@ -1,4 +1,4 @@
--- Every node climbs to the root.
+-- Every node stands as often as it is to.
 use Rattle.std.proofs.Common.{rules, refl, arith}
 use Rattle.std.proofs.lemmas.Iterator.{YieldsList-from_range}
 use Rattle.std.proofs.lemmas.Iterator.Search.{all_from_yields_List}
@@ -6,7 +6,7 @@ use borrow.Author.Tests.{tests}
 use Rattle.lists.proofs.Standard.{every_is}
 use Rattle.tree.specs.Table.{nodes}
 use Rattle.tree.proofs.Chains.{counted_is}
-use Rattle.tree.proofs.tree_table.TreeTable.all_reached.Goals as goal
+use Rattle.tree.proofs.table.TreeTable.nodes_once.Goals as goal
 
 pub returns : goal.returns
 unfolding nodes

@@ -7,7 +7,7 @@ use Rattle.lists.proofs.Standard.{some_is}
 use Rattle.tree.specs.Table.{nodes}
 use Rattle.tree.specs.Pairs.{pair_right}
 use Rattle.tree.proofs.Chains.{counted_is}
-use Rattle.tree.proofs.tree_table.TreeTable.pair_right.Goals as goal
+use Rattle.tree.proofs.table.TreeTable.pair_right.Goals as goal
 
 pub returns : goal.returns
 unfolding pair_right nodes

@@ -2,7 +2,7 @@
 use Rattle.std.proofs.Common.{◌≡◌, ◌∙◌, sym, suc, ◌+◌, ◌-◌, arith}
 use Rattle.tree.specs.Pairs.{chain_end}
 use Rattle.tree.proofs.TableSteps.{chain_goes, chain_rests}
-use Rattle.tree.proofs.tree_table.TreeTable.chain_end.Goals as goal
+use Rattle.tree.proofs.table.TreeTable.chain_end.Goals as goal
 
 pub returns-then-self-at : goal.returns-then-self-at
 returns-then-self-at c =

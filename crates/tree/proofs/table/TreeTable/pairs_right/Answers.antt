@@ -6,7 +6,7 @@ use borrow.Author.Tests.{tests}
 use Rattle.tree.specs.Table.{nodes}
 use Rattle.tree.specs.Pairs.{pair_right, pairs_right}
 use Rattle.tree.proofs.Chains.{first_failing_below}
-use Rattle.tree.proofs.tree_table.TreeTable.pairs_right.Goals as goal
+use Rattle.tree.proofs.table.TreeTable.pairs_right.Goals as goal
 
 pub returns : goal.returns
 unfolding pairs_right nodes

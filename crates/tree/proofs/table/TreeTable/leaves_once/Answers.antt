@@ -6,7 +6,7 @@ use borrow.Author.Tests.{tests}
 use Rattle.lists.proofs.Standard.{every_is}
 use Rattle.tree.specs.OneTree.{leaves_once}
 use Rattle.tree.proofs.Chains.{counted_is}
-use Rattle.tree.proofs.tree_table.TreeTable.leaves_once.Goals as goal
+use Rattle.tree.proofs.table.TreeTable.leaves_once.Goals as goal
 
 pub returns : goal.returns
 unfolding leaves_once
