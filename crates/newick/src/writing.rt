@@ -1,5 +1,5 @@
 // An accepted tree written as Newick text.
-ghost use Rattle.std.specs.Prelude.{◌≡◌, ◌∷◌, suc, ◌+◌, ◌*◌, ◌≤◌, ◌<◌, length, Ok};
+ghost use Rattle.std.specs.Prelude.{◌≡◌, ◌∷◌, suc, ◌+◌, ◌≤◌, ◌<◌, length, Ok};
 ghost use Rattle.lists.specs.Written.{written_at};
 ghost use Rattle.refusal.specs.Numbers.{Tells};
 ghost use Rattle.entities.specs.Limits.{most_modes};
@@ -15,6 +15,7 @@ use entities::codes;
 use fields::decimal;
 use refusal::Refusal;
 use tree::table;
+use tree::table::TreeTable;
 
 // A letter and a number written at this place; the place after them.
 fn put_name(text: &mut [u8], at: usize, letter: u8, number: usize) -> usize
@@ -41,56 +42,41 @@ fn put_end(text: &mut [u8], at: usize, modes: usize, code: usize) -> usize
     put_name(text, at, b'm', code - modes)
 }
 
-// A child written at this place, with at most so many nodes one within the other: a leaf, or it goes on to its node; the place after it.
+// A child written at this place, with at most `height` nodes one within the other: a leaf, or it goes on to its node; the place after it.
 #[cycle(put_child_put_node)]
-fn put_child(
-    text: &mut [u8],
-    at: usize,
-    modes: usize,
-    tree: &[u16],
-    height: usize,
-    code: usize,
-) -> usize
-    requires tree_len { length tree.now ≡ 3 * modes }
-    requires code_in_bounds { at + length (spelled (shape_under modes tree.now height code)) ≤ length text.old }
-    ensures value { result ≡ at + length (spelled (shape_under modes tree.now height code)) }
-    ensures text_after { text.new ≡ written_at at (spelled (shape_under modes tree.now height code)) text.old }
+fn put_child(text: &mut [u8], at: usize, table: &TreeTable<'_>, height: usize, code: usize) -> usize
+    requires { at + length (spelled (shape_under table.now.modes table.now.tree.now height code)) ≤ length text.old }
+    ensures value { result ≡ at + length (spelled (shape_under table.now.modes table.now.tree.now height code)) }
+    ensures text_after { text.new ≡ written_at at (spelled (shape_under table.now.modes table.now.tree.now height code)) text.old }
 {
-    if modes <= code {
-        return put_end(text, at, modes, code);
+    if table.modes <= code {
+        return put_end(text, at, table.modes, code);
     }
     if height == 0 {
         // no accepted tree is so tall
         text[at] = b'e';
         return at + 1;
     }
-    put_node(text, at, modes, tree, height - 1, code)
+    put_node(text, at, table, height - 1, code)
 }
 
 // A node written at this place: its three children in parentheses, then its name; the place after it.
 #[cycle(put_child_put_node)]
-fn put_node(
-    text: &mut [u8],
-    at: usize,
-    modes: usize,
-    tree: &[u16],
-    height: usize,
-    node: usize,
-) -> usize
-    requires tree_len { (length tree.now ≡ 3 * modes) × (node < modes) }
-    requires node_in_bounds { at + length (spelled (shape_under modes tree.now (suc height) node)) ≤ length text.old }
-    ensures value { result ≡ at + length (spelled (shape_under modes tree.now (suc height) node)) }
-    ensures text_after { text.new ≡ written_at at (spelled (shape_under modes tree.now (suc height) node)) text.old }
+fn put_node(text: &mut [u8], at: usize, table: &TreeTable<'_>, height: usize, node: usize) -> usize
+    requires below { node < table.now.modes }
+    requires room { at + length (spelled (shape_under table.now.modes table.now.tree.now (suc height) node)) ≤ length text.old }
+    ensures value { result ≡ at + length (spelled (shape_under table.now.modes table.now.tree.now (suc height) node)) }
+    ensures text_after { text.new ≡ written_at at (spelled (shape_under table.now.modes table.now.tree.now (suc height) node)) text.old }
 {
     text[at] = b'(';
-    let first = table::child(tree, node, 0);
-    let x = put_child(text, at + 1, modes, tree, height, first);
+    let first = table::child(table.tree, node, 0);
+    let x = put_child(text, at + 1, table, height, first);
     text[x] = b',';
-    let second = table::child(tree, node, 1);
-    let y = put_child(text, x + 1, modes, tree, height, second);
+    let second = table::child(table.tree, node, 1);
+    let y = put_child(text, x + 1, table, height, second);
     text[y] = b',';
-    let third = table::child(tree, node, 2);
-    let z = put_child(text, y + 1, modes, tree, height, third);
+    let third = table::child(table.tree, node, 2);
+    let z = put_child(text, y + 1, table, height, third);
     text[z] = b')';
     put_name(text, z + 1, b'n', node)
 }
@@ -106,7 +92,8 @@ fn put_tree(text: &mut [u8], modes: usize, tree: &[u16]) -> Result<usize, Refusa
         return Err(Refusal::Room);
     }
     let root = table::climb(tree, modes, 0);
-    let end = put_child(text, 0, modes, tree, modes + 1, root);
+    let table = TreeTable { modes, tree };
+    let end = put_child(text, 0, &table, modes + 1, root);
     text[end] = b';';
     Ok(length)
 }

@@ -44,7 +44,10 @@ pub put_child-end-requires : goal.put_child-end-requires
 put_child-end-requires c =
     let args = c.args in
     let fits = tree_room args.modes args.tree.now c.climb-root.result c.climb-root.ensures args.text.now (room (goal.at.put_child-end-requires c).After-climb-root) in
-    record { tree_len = (parts (goal.at.put_child-end-requires c).Start).whole; code_in_bounds = omega (arith, fits) }
+    omega (arith, fits)
+
+pub invariant_of-table : goal.invariant_of-table
+invariant_of-table c = record { whole = (parts (goal.at.invariant_of-table c).Start).whole }
 
 pub bounds-text-end : goal.bounds-text-end
 bounds-text-end c =
