@@ -26,7 +26,6 @@ pub mod NeverBoth
 pub mod FormRefused
 pub mod NumberAhead
 pub mod PartsRead
-pub mod NamesInRange
 pub mod TreeTaken
 pub mod ShapeRows
 pub mod ShapeTable

@@ -1,31 +1,27 @@
 // Names of a text, read before the number of modes is known, and their codes once it is.
-ghost use Rattle.std.specs.Prelude.{◌≡◌, true, ◌≤◌, length};
+ghost use Rattle.std.specs.Prelude.{◌≡◌, cond, Some, None, ◌≤◌, length};
 ghost use Rattle.entities.specs.Limits.{most_modes};
 ghost use Rattle.newick.specs.Names.{in_range, code_of};
 ghost use Rattle.newick.specs.code.Promises.{Coded};
 
 use entities::codes;
 
-// The name is a label, a leaf or the absent child of a tree of so many modes.
-fn in_range(modes: usize, name: usize) -> bool
+// The code of `name` in a tree of `modes` modes; none where it is no label, leaf or absent child of it.
+#[tactic(auto, unfolding(crate::specs::Names::in_range, crate::specs::Names::code_of))]
+fn code_of(modes: usize, name: usize) -> Option<u16>
     requires { modes ≤ most_modes }
-    ensures { result ≡ in_range modes name }
+    ensures { result ≡ cond (in_range modes name) (Some (code_of modes name)) None }
 {
-    name < modes || (65536..65536 + 2 * modes).contains(&name) || name == 131072
-}
-
-// The code of such a name.
-fn code_of(modes: usize, name: usize) -> u16
-    requires { (modes ≤ most_modes) × (in_range modes name ≡ true) }
-    ensures { result ≡ code_of modes name }
-{
-    if name < 65536 {
-        return name as u16;
+    if name < modes {
+        return Some(name as u16);
     }
     if name == 131072 {
-        return codes::ABSENT;
+        return Some(codes::ABSENT);
     }
-    (modes + (name - 65536)) as u16
+    if (65536..65536 + 2 * modes).contains(&name) {
+        return Some((modes + (name - 65536)) as u16);
+    }
+    None
 }
 
 // The codes of as many names, where all of them are in range.
@@ -35,11 +31,10 @@ pub fn put_codes(modes: usize, names: &[u32], codes: &mut [u16]) -> bool
     ensures { Coded modes names.now codes.new result }
 {
     for (at, name) in names.iter().enumerate() {
-        let name = *name as usize;
-        if !in_range(modes, name) {
+        let Some(code) = code_of(modes, *name as usize) else {
             return false;
-        }
-        codes[at] = code_of(modes, name);
+        };
+        codes[at] = code;
     }
     true
 }
