@@ -7,7 +7,7 @@ ghost use Rattle.entities.specs.Limits.{most_modes, most_terms};
 ghost use Rattle.tree.specs.Laying.{modes_in};
 ghost use Rattle.terms_text.specs.Input.{given, said};
 ghost use Rattle.terms_text.specs.Jobs.{request};
-ghost use Rattle.text.specs.Running.{program_rooms};
+ghost use Rattle.text.specs.Running.{program_rooms, printed_room};
 ghost use Rattle.text.specs.Output.{Prints};
 ghost use Rattle.text.specs.code.Printing.{Puts};
 ghost use Rattle.assign_text.specs.Assigning.{assign_text};
@@ -155,14 +155,18 @@ fn print_assign(
 }
 
 // What `assign` prints by this rule for a tree, the name of a heuristic and terms.
-pub fn assign_answer(rule: Rule, tree: &[u8], heuristic: &[u8], input: &[u8]) -> Printed
-    ensures { Prints (assign_text program_rooms tree.now heuristic.now (request rule input.now)) result }
+pub fn assign_answer(
+    rule: Rule,
+    tree: &[u8],
+    heuristic: &[u8],
+    input: &[u8],
+) -> Printed<[u8; 16384]>
+    ensures { Prints printed_room (assign_text program_rooms tree.now heuristic.now (request rule input.now)) result }
 {
     let mut rows = [0u16; 1024];
     let mut table = [0u16; 768];
-    let mut bytes = [0u8; 16384];
-    let count = print_assign(
-        rule, tree, heuristic, input, &mut rows, &mut table, &mut bytes,
-    );
-    Printed { bytes, count }
+    Printed::by(
+        [0; 16384],
+        |out| print_assign(rule, tree, heuristic, input, &mut rows, &mut table, out),
+    )
 }

@@ -4,6 +4,7 @@
 ghost use Rattle.std.specs.Prelude.{◌*◌, ◌≤◌, length};
 ghost use Rattle.entities.specs.Limits.{most_terms};
 ghost use Rattle.terms_text.specs.Input.{given};
+ghost use Rattle.text.specs.Running.{printed_room};
 ghost use Rattle.text.specs.Output.{Prints};
 ghost use Rattle.text.specs.code.Printing.{Puts};
 ghost use Rattle.best.specs.Call.{most_to_try};
@@ -62,12 +63,13 @@ fn print_read(
 }
 
 // What `best` prints for terms.
-pub fn best_answer(input: &[u8]) -> Printed
-    ensures { Prints (best_text most_to_try most_terms input.now) result }
+pub fn best_answer(input: &[u8]) -> Printed<[u8; 16384]>
+    ensures { Prints printed_room (best_text most_to_try most_terms input.now) result }
 {
     let mut numbers = [0u16; 16384];
     let mut sequence = [0u16; 12];
-    let mut bytes = [0u8; 16384];
-    let count = print_read(input, &mut numbers, &mut sequence, &mut bytes);
-    Printed { bytes, count }
+    Printed::by(
+        [0; 16384],
+        |out| print_read(input, &mut numbers, &mut sequence, out),
+    )
 }

@@ -4,9 +4,10 @@
 ghost use Rattle.std.specs.Prelude.{◌≡◌, IfOk};
 ghost use Rattle.io.specs.Counts.{IsPrefixLen};
 ghost use Rattle.terms_text.specs.Jobs.{request};
+ghost use Rattle.text.specs.Running.{printed_room};
 ghost use Rattle.text.specs.Output.{Prints};
 ghost use Rattle.dewgoblin.specs.Commands.{rule_named, journal_command, command_text, terms_command, strings_command};
-ghost use Rattle.strings_text.specs.Printing.{PrintsStrings};
+ghost use Rattle.strings_text.specs.Printing.{strings_room};
 
 use fields::parts;
 use standard_input::ReadFailed;
@@ -44,8 +45,8 @@ fn rule_named(word: &[u8]) -> Rule
 }
 
 // The answer of a command whose file is a journal or merges by hand.
-fn journal_answer(name: &[u8], rule: Rule, input: &[u8], file: &[u8]) -> Printed
-    ensures { Prints (journal_command name.now (request rule input.now) file.now) result }
+fn journal_answer(name: &[u8], rule: Rule, input: &[u8], file: &[u8]) -> Printed<[u8; 16384]>
+    ensures { Prints printed_room (journal_command name.now (request rule input.now) file.now) result }
 {
     if parts::same_bytes(name, b"resume") {
         return journals::resume_answer(rule, input, file);
@@ -63,8 +64,8 @@ fn journal_answer(name: &[u8], rule: Rule, input: &[u8], file: &[u8]) -> Printed
 }
 
 // A command's answer.
-fn answer(name: &[u8], word: &[u8], rule: Rule, input: &[u8], file: &[u8]) -> Printed
-    ensures { Prints (command_text name.now word.now (request rule input.now) file.now) result }
+fn answer(name: &[u8], word: &[u8], rule: Rule, input: &[u8], file: &[u8]) -> Printed<[u8; 16384]>
+    ensures { Prints printed_room (command_text name.now word.now (request rule input.now) file.now) result }
 {
     if parts::same_bytes(name, b"check") {
         return tree_text::check_answer(file);
@@ -82,8 +83,14 @@ fn answer(name: &[u8], word: &[u8], rule: Rule, input: &[u8], file: &[u8]) -> Pr
 }
 
 // The answer of a command that may be for terms alone: `best` reads no file and asks for no rule.
-fn terms_answer(name: &[u8], word: &[u8], rule: Rule, input: &[u8], file: &[u8]) -> Printed
-    ensures { Prints (terms_command name.now word.now (request rule input.now) file.now) result }
+fn terms_answer(
+    name: &[u8],
+    word: &[u8],
+    rule: Rule,
+    input: &[u8],
+    file: &[u8],
+) -> Printed<[u8; 16384]>
+    ensures { Prints printed_room (terms_command name.now word.now (request rule input.now) file.now) result }
 {
     if parts::same_bytes(name, b"best") {
         return best_text::best_answer(input);
@@ -92,8 +99,8 @@ fn terms_answer(name: &[u8], word: &[u8], rule: Rule, input: &[u8], file: &[u8])
 }
 
 // The answer of a command that prints strings.
-fn strings_answer(name: &[u8], rule: Rule, input: &[u8], file: &[u8]) -> strings_text::Printed
-    ensures { PrintsStrings (strings_command name.now (request rule input.now) file.now) result }
+fn strings_answer(name: &[u8], rule: Rule, input: &[u8], file: &[u8]) -> Printed<[u8; 133522]>
+    ensures { Prints strings_room (strings_command name.now (request rule input.now) file.now) result }
 {
     if parts::same_bytes(name, b"strings") {
         return strings_text::tree_strings_answer(file);

@@ -5,7 +5,7 @@ ghost use Rattle.std.specs.Prelude.{◌≡◌, ◌+◌, ◌≤◌, ◌<◌, leng
 ghost use Rattle.lists.specs.Written.{written_at};
 ghost use Rattle.entities.specs.Limits.{most_modes};
 ghost use Rattle.terms_text.specs.Jobs.{request};
-ghost use Rattle.text.specs.Running.{program_rooms};
+ghost use Rattle.text.specs.Running.{program_rooms, printed_room};
 ghost use Rattle.text.specs.Output.{Prints};
 ghost use Rattle.text.specs.code.Printing.{Puts};
 ghost use Rattle.drops_text.specs.Dropping.{drop_line, drop_lines, drops_text};
@@ -58,21 +58,14 @@ fn print_drops(
 }
 
 // How many terms each step of the run drops that a journal leads to, for a text's terms and this rule.
-pub fn drops_answer(rule: Rule, input: &[u8], read: &[u8]) -> Printed
-    ensures { Prints (drops_text program_rooms (request rule input.now) read.now) result }
+pub fn drops_answer(rule: Rule, input: &[u8], read: &[u8]) -> Printed<[u8; 16384]>
+    ensures { Prints printed_room (drops_text program_rooms (request rule input.now) read.now) result }
 {
     let mut rows = [0u16; 1024];
     let mut journal = [0u8; 5392];
     let mut drops = [0u16; 256];
-    let mut bytes = [0u8; 16384];
-    let count = print_drops(
-        rule,
-        input,
-        read,
-        &mut rows,
-        &mut journal,
-        &mut drops,
-        &mut bytes,
-    );
-    Printed { bytes, count }
+    Printed::by(
+        [0; 16384],
+        |out| print_drops(rule, input, read, &mut rows, &mut journal, &mut drops, out),
+    )
 }

@@ -9,7 +9,7 @@ ghost use Rattle.terms.specs.code.Held.{Spread};
 ghost use Rattle.merging.specs.code.State.{history_of};
 ghost use Rattle.obeying.specs.Obeying.{obeyed};
 ghost use Rattle.terms_text.specs.Jobs.{request};
-ghost use Rattle.text.specs.Running.{program_rooms};
+ghost use Rattle.text.specs.Running.{program_rooms, printed_room};
 ghost use Rattle.text.specs.Output.{Prints};
 ghost use Rattle.text.specs.code.Printing.{Puts};
 ghost use Rattle.letters_text.specs.Lettering.{asked as step_asked, shows, step_lines, lettered_at, lettered_after, letters_printed, letters_text};
@@ -106,11 +106,12 @@ fn print_letters(
 }
 
 // The letters of a step of the run that a journal leads to, for a text's terms and this rule.
-pub fn letters_answer(rule: Rule, input: &[u8], read: &[u8], step: &[u8]) -> Printed
-    ensures { Prints (letters_text program_rooms (request rule input.now) read.now step.now) result }
+pub fn letters_answer(rule: Rule, input: &[u8], read: &[u8], step: &[u8]) -> Printed<[u8; 16384]>
+    ensures { Prints printed_room (letters_text program_rooms (request rule input.now) read.now step.now) result }
 {
     let mut numbers = [0u16; 16384];
-    let mut bytes = [0u8; 16384];
-    let count = print_letters(rule, input, read, step, &mut numbers, &mut bytes);
-    Printed { bytes, count }
+    Printed::by(
+        [0; 16384],
+        |out| print_letters(rule, input, read, step, &mut numbers, out),
+    )
 }

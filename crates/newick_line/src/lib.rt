@@ -6,7 +6,7 @@ ghost use Rattle.entities.specs.Limits.{most_modes};
 ghost use Rattle.tree.specs.Writing.{text_after};
 ghost use Rattle.newick.specs.Writing.{newick_text};
 ghost use Rattle.newick.specs.Calls.{newick_written};
-ghost use Rattle.text.specs.Running.{program_rooms};
+ghost use Rattle.text.specs.Running.{program_rooms, printed_room};
 ghost use Rattle.text.specs.Output.{Prints};
 ghost use Rattle.newick_line.specs.NewickLine.{newick_answer_text};
 ghost use Rattle.newick_line.specs.code.Lines.{table_line, line_room};
@@ -52,11 +52,9 @@ fn print_newick(input: &[u8], table: &mut [u16; 768], out: &mut [u8; 16384]) -> 
 }
 
 // The answer to a text as a Newick line.
-pub fn answer_newick(input: &[u8]) -> Printed
-    ensures { Prints (newick_answer_text program_rooms input.now) result }
+pub fn answer_newick(input: &[u8]) -> Printed<[u8; 16384]>
+    ensures { Prints printed_room (newick_answer_text program_rooms input.now) result }
 {
     let mut table = [0u16; 768];
-    let mut bytes = [0u8; 16384];
-    let count = print_newick(input, &mut table, &mut bytes);
-    Printed { bytes, count }
+    Printed::by([0; 16384], |out| print_newick(input, &mut table, out))
 }

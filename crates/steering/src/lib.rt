@@ -9,7 +9,7 @@ ghost use Rattle.merging.specs.code.State.{history_of};
 ghost use Rattle.merging.specs.code.Runs.{Holds};
 ghost use Rattle.obeying.specs.Obeying.{went, obeyed_by_hand};
 ghost use Rattle.terms_text.specs.Jobs.{request};
-ghost use Rattle.text.specs.Running.{program_rooms};
+ghost use Rattle.text.specs.Running.{program_rooms, printed_room};
 ghost use Rattle.text.specs.Output.{Prints};
 ghost use Rattle.text.specs.code.Printing.{Puts};
 ghost use Rattle.steering.specs.Steering.{steered_as, steer_printed, steer_text};
@@ -71,11 +71,12 @@ fn print_steered(
 }
 
 // The journal of merges by hand, for a text's terms and this rule.
-pub fn steer_answer(rule: Rule, input: &[u8], merges: &[u8]) -> Printed
-    ensures { Prints (steer_text program_rooms (request rule input.now) merges.now) result }
+pub fn steer_answer(rule: Rule, input: &[u8], merges: &[u8]) -> Printed<[u8; 16384]>
+    ensures { Prints printed_room (steer_text program_rooms (request rule input.now) merges.now) result }
 {
     let mut numbers = [0u16; 16384];
-    let mut bytes = [0u8; 16384];
-    let count = print_steered(rule, input, merges, &mut numbers, &mut bytes);
-    Printed { bytes, count }
+    Printed::by(
+        [0; 16384],
+        |out| print_steered(rule, input, merges, &mut numbers, out),
+    )
 }

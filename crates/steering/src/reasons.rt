@@ -8,7 +8,7 @@ ghost use Rattle.merging.specs.code.State.{history_of};
 ghost use Rattle.merging.specs.code.Runs.{Holds};
 ghost use Rattle.obeying.specs.Obeying.{refused, obeyed};
 ghost use Rattle.terms_text.specs.Jobs.{request};
-ghost use Rattle.text.specs.Running.{program_rooms};
+ghost use Rattle.text.specs.Running.{program_rooms, printed_room};
 ghost use Rattle.text.specs.Output.{Prints};
 ghost use Rattle.text.specs.code.Printing.{Puts};
 ghost use Rattle.steering.specs.Reasons.{first_closed, reason_of, reason_in, reason_text};
@@ -101,11 +101,12 @@ fn print_reason(
 }
 
 // What the refused line of the journal that is read lacks, for a text's terms and this rule.
-pub fn reason_answer(rule: Rule, input: &[u8], read: &[u8]) -> Printed
-    ensures { Prints (reason_text program_rooms (request rule input.now) read.now) result }
+pub fn reason_answer(rule: Rule, input: &[u8], read: &[u8]) -> Printed<[u8; 16384]>
+    ensures { Prints printed_room (reason_text program_rooms (request rule input.now) read.now) result }
 {
     let mut numbers = [0u16; 16384];
-    let mut bytes = [0u8; 16384];
-    let count = print_reason(rule, input, read, &mut numbers, &mut bytes);
-    Printed { bytes, count }
+    Printed::by(
+        [0; 16384],
+        |out| print_reason(rule, input, read, &mut numbers, out),
+    )
 }

@@ -7,9 +7,8 @@ use Rattle.strings.specs.Text.{strings_text, strings_written}
 use Rattle.nodes_text.specs.TreeInput.{TreeSaid, nodes, malformed, tree_said}
 use Rattle.terms_text.specs.Jobs.{Request}
 use Rattle.text.specs.Running.{Rooms, program_rooms, ran}
-use Rattle.text.specs.Output.{refusal_text, PrintsIn}
+use Rattle.text.specs.Output.{refusal_text}
 use Rattle.ran_tree.specs.Printing.{written_printed, tree_printed}
-use Rattle.strings_text.specs.declared.Printed.{Printed}
 
 -- The bytes that there is room to print: those of the longest answer, the strings of the most modes.
 abbrev pub strings_room : ℕ
@@ -30,10 +29,6 @@ strings_as most (malformed line) = refusal_text (Malformed line)
 
 unfoldable pub tree_strings_text : ℕ → List ℕ → List ℕ
 tree_strings_text most tree = strings_as most (tree_said most tree)
-
--- The bytes of the answer, as many as they are, and zeros behind them.
-abbrev pub PrintsStrings : List ℕ → Printed → Type 0
-PrintsStrings answer r = PrintsIn strings_room answer r.bytes r.count
 
 -- 5 is never printed: whatever the text, there is room.
 abbrev pub HattStringsSuffice : Type 0

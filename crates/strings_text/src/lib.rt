@@ -4,19 +4,13 @@
 ghost use Rattle.entities.specs.Limits.{most_modes};
 ghost use Rattle.terms_text.specs.Jobs.{request};
 ghost use Rattle.text.specs.Running.{program_rooms};
+ghost use Rattle.text.specs.Output.{Prints};
 ghost use Rattle.text.specs.code.Printing.{Puts};
-ghost use Rattle.strings_text.specs.Printing.{table_strings, hatt_strings_text, tree_strings_text, PrintsStrings};
+ghost use Rattle.strings_text.specs.Printing.{table_strings, hatt_strings_text, tree_strings_text, strings_room};
 
 use terms::rules::Rule;
-use text::output;
+use text::{Printed, output};
 use tree_text::trees;
-
-// What is printed: so many bytes of these.
-#[derive(Drop)]
-pub struct Printed {
-    pub bytes: [u8; 133522],
-    pub count: usize,
-}
 
 // A tree's strings printed over the front; how many bytes that is.
 fn put_strings(out: &mut [u8; 133522], modes: usize, tree: &[u16]) -> usize
@@ -60,22 +54,21 @@ fn print_tree(
 }
 
 // The strings of the tree that HATT builds by this rule of a text's terms.
-pub fn hatt_strings_answer(rule: Rule, input: &[u8]) -> Printed
-    ensures { PrintsStrings (hatt_strings_text program_rooms (request rule input.now)) result }
+pub fn hatt_strings_answer(rule: Rule, input: &[u8]) -> Printed<[u8; 133522]>
+    ensures { Prints strings_room (hatt_strings_text program_rooms (request rule input.now)) result }
 {
     let mut table = [0u16; 768];
-    let mut bytes = [0u8; 133522];
-    let count = print_hatt(rule, input, &mut table, &mut bytes);
-    Printed { bytes, count }
+    Printed::by([0; 133522], |out| print_hatt(rule, input, &mut table, out))
 }
 
 // The strings of a tree's text.
-pub fn tree_strings_answer(tree: &[u8]) -> Printed
-    ensures { PrintsStrings (tree_strings_text most_modes tree.now) result }
+pub fn tree_strings_answer(tree: &[u8]) -> Printed<[u8; 133522]>
+    ensures { Prints strings_room (tree_strings_text most_modes tree.now) result }
 {
     let mut rows = [0u16; 1024];
     let mut table = [0u16; 768];
-    let mut bytes = [0u8; 133522];
-    let count = print_tree(tree, &mut rows, &mut table, &mut bytes);
-    Printed { bytes, count }
+    Printed::by(
+        [0; 133522],
+        |out| print_tree(tree, &mut rows, &mut table, out),
+    )
 }

@@ -166,12 +166,12 @@ prints_within {room} {answer} p =
     let size = length-replicate {A = ℕ} room 0 in
     omega (arith, p.count, p.fits, ap length p.bytes, size, length_written 0 answer (replicate room 0) (omega (arith, p.fits, size)))
 
-pub puts_prints : {room : ℕ} {answer meant printed : List ℕ} {r : ℕ} → answer ≡ meant → Puts answer (replicate room 0) printed r
-    → PrintsIn room meant printed r
-puts_prints {room} e puts =
-    let size = length-replicate {A = ℕ} room 0 in
+-- What was put over lent zeros is printed.
+pub lent_prints : {room : ℕ} {answer before after printed : List ℕ} {r : ℕ} → before ≡ replicate room 0 → after ≡ printed
+    → Puts answer before after r → PrintsIn room answer printed r
+lent_prints {room} {answer} zeros left puts =
     record {
-      count = puts.count ∙ ap length e;
-      fits = omega (arith, puts.fits, ap length e, size);
-      bytes = puts.bytes ∙ ap (λ l. written_at 0 l (replicate room 0)) e;
+      count = puts.count;
+      fits = omega (arith, puts.fits, ap length zeros, length-replicate {A = ℕ} room 0);
+      bytes = sym left ∙ (puts.bytes ∙ ap (written_at 0 answer) zeros);
     }

@@ -16,7 +16,7 @@ use Rattle.journal.specs.Resuming.{Ending, Outcome, done, refuses}
 use Rattle.journal.specs.CutAndResumed.{journal_of}
 use Rattle.terms_text.specs.Jobs.{Request, request}
 use Rattle.text.specs.declared.Printed.{Printed}
-use Rattle.text.specs.Running.{Rooms, program_rooms, printed_room, ran}
+use Rattle.text.specs.Running.{Rooms, program_rooms, ran}
 
 -- A line: fields parted by tabs, and LF.
 unfoldable pub line_of : List (List ℕ) → List ℕ
@@ -72,8 +72,8 @@ pub record PrintsIn (room : ℕ) (answer printed : List ℕ) (r : ℕ) : Type 0 
   pub fits : length answer ≤ room
   pub bytes : printed ≡ written_at 0 answer (replicate room 0)
 
-abbrev pub Prints : List ℕ → Printed → Type 0
-Prints answer r = PrintsIn printed_room answer r.bytes r.count
+abbrev pub Prints : ℕ → List ℕ → Printed (List ℕ) → Type 0
+Prints room answer r = PrintsIn room answer r.bytes r.count
 
 -- 5 is never printed: whatever is asked and whatever the journal, the programs' own rooms suffice.
 abbrev pub RoomSuffices : Type 0

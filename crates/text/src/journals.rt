@@ -1,6 +1,6 @@
 // A run resumed from a journal as it is printed: `hatt`'s lines of it, or its new lines alone.
 ghost use Rattle.terms_text.specs.Jobs.{request};
-ghost use Rattle.text.specs.Running.{program_rooms};
+ghost use Rattle.text.specs.Running.{program_rooms, printed_room};
 ghost use Rattle.text.specs.Output.{resume_text, continue_text, Prints};
 ghost use Rattle.text.specs.code.Printing.{Puts};
 
@@ -29,14 +29,15 @@ fn print_resumed(
 }
 
 // What `hatt` prints of the run by this rule that a text asks for, resumed from the journal that is read.
-pub fn resume_answer(rule: Rule, input: &[u8], read: &[u8]) -> Printed
-    ensures { Prints (resume_text program_rooms (request rule input.now) read.now) result }
+pub fn resume_answer(rule: Rule, input: &[u8], read: &[u8]) -> Printed<[u8; 16384]>
+    ensures { Prints printed_room (resume_text program_rooms (request rule input.now) read.now) result }
 {
     let mut rows = [0u16; 1024];
     let mut journal = [0u8; 5392];
-    let mut bytes = [0u8; 16384];
-    let count = print_resumed(rule, input, read, &mut rows, &mut journal, &mut bytes);
-    Printed { bytes, count }
+    Printed::by(
+        [0; 16384],
+        |out| print_resumed(rule, input, read, &mut rows, &mut journal, out),
+    )
 }
 
 // The new lines of a resumed run printed over the front, in lent room for its rows and those lines; how many bytes that is.
@@ -57,12 +58,13 @@ fn print_new(
 }
 
 // The lines that continue the journal that is read: behind what is kept of it they make the journal of the text's run by this rule.
-pub fn continue_answer(rule: Rule, input: &[u8], read: &[u8]) -> Printed
-    ensures { Prints (continue_text program_rooms (request rule input.now) read.now) result }
+pub fn continue_answer(rule: Rule, input: &[u8], read: &[u8]) -> Printed<[u8; 16384]>
+    ensures { Prints printed_room (continue_text program_rooms (request rule input.now) read.now) result }
 {
     let mut rows = [0u16; 1024];
     let mut journal = [0u8; 5392];
-    let mut bytes = [0u8; 16384];
-    let count = print_new(rule, input, read, &mut rows, &mut journal, &mut bytes);
-    Printed { bytes, count }
+    Printed::by(
+        [0; 16384],
+        |out| print_new(rule, input, read, &mut rows, &mut journal, out),
+    )
 }

@@ -1,7 +1,8 @@
 // The programs' text: the run that their input asks for made and their answers printed, from bytes to bytes.
 #![tactic(auto)]
 
-ghost use Rattle.text.specs.Running.{program_rooms};
+ghost use Rattle.std.specs.Fn.{FnOnceTakesAtMut, FnOnceReturnsAtMut};
+ghost use Rattle.text.specs.Running.{program_rooms, printed_room};
 ghost use Rattle.text.specs.Output.{answer_text, Prints};
 
 use terms::rules::Rule;
@@ -10,16 +11,28 @@ pub mod journals;
 pub mod output;
 pub mod running;
 
-// What a program prints: so many bytes of these.
+// What a program prints: the first `count` of the bytes.
 #[derive(Drop)]
-pub struct Printed {
-    pub bytes: [u8; 16384],
+pub struct Printed<B> {
+    pub bytes: B,
     pub count: usize,
 }
 
+impl<B> Printed<B> {
+    // What `put` writes over the front of these bytes; it answers how many bytes that is.
+    pub fn by<F: FnOnce(&mut B) -> usize>(bytes: B, put: F) -> Printed<B>
+        requires { FnOnceTakesAtMut F.FnOnce put bytes }
+        ensures { FnOnceReturnsAtMut F.FnOnce put bytes result.count result.bytes }
+    {
+        let mut printed = Printed { bytes, count: 0 };
+        printed.count = put(&mut printed.bytes);
+        printed
+    }
+}
+
 // The program `hatt`'s answer to a text: by the published rule, and an empty journal is read.
-pub fn answer(input: &[u8]) -> Printed
-    ensures { Prints (answer_text program_rooms input.now) result }
+pub fn answer(input: &[u8]) -> Printed<[u8; 16384]>
+    ensures { Prints printed_room (answer_text program_rooms input.now) result }
 {
     journals::resume_answer(Rule::Published, input, b"")
 }

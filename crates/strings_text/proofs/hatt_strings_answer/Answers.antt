@@ -1,7 +1,7 @@
--- What was put over zeros is printed.
-use mathlib.Core.Path.{refl}
-use Rattle.text.proofs.PrintedLines.{puts_prints}
+-- The answer was put over zeros.
+use borrow.Author.Rules.{rules}
+use Rattle.text.proofs.PrintedLines.{lent_prints}
 use Rattle.strings_text.proofs.hatt_strings_answer.Goals as goal
 
 pub returns : goal.returns
-returns c = puts_prints refl c.print_hatt-count.ensures
+returns c = let ran = c.by.ensures in lent_prints ran.shows ran.leaves (search rules)

@@ -1,9 +1,11 @@
 -- What was found is printed over zeros.
-use mathlib.Core.Path.{ap}
-use Rattle.text.proofs.PrintedLines.{puts_prints}
-use Rattle.tree_text.specs.Answers.{check_printed, check_text}
+use borrow.Author.Rules.{rules}
+use Rattle.text.proofs.PrintedLines.{lent_prints}
+use Rattle.tree_text.specs.Answers.{check_text}
 use Rattle.tree_text.proofs.check_answer.Goals as goal
 
 pub returns : goal.returns
 unfolding check_text
-returns c = puts_prints (ap check_printed c.check_said-found.ensures) c.put_checked-count.ensures
+returns c =
+    let ran = c.by.ensures in
+    rw (← c.check_said-found.ensures) (lent_prints ran.shows ran.leaves (search rules))
