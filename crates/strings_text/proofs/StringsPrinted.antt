@@ -1,23 +1,27 @@
 -- What writing a tree's strings left in the bytes, as it is printed.
 use Rattle.std.specs.Prelude.{Err, Ok, Result}
 use mathlib.Core.Path.{◌≡◌, ap, ◌∙◌}
-use mathlib.Core.List.{List}
-use Prim.Native.Nat.{ℕ, ◌*◌}
-use lib.ListN.{length, take}
+use mathlib.Core.List.{List, []}
+use Prim.Native.Nat.{ℕ}
+use lib.ListN.{length}
 use Rattle.refusal.specs.declared.Refusal.{Refusal}
-use Rattle.refusal.specs.declared.Refusal.TheVariants.{Malformed}
-use Rattle.refusal.specs.Numbers.{place_of}
 use Rattle.entities.specs.Limits.{most_modes}
 use Rattle.tree.specs.Check.{tree_checked}
 use Rattle.tree.specs.Writing.{tree_written, text_after}
 use Rattle.tree.proofs.WritingAnswered.{written_fits}
 use Rattle.strings.specs.Text.{strings_text, strings_written}
-use Rattle.nodes_text.specs.TreeInput.{malformed, tree_said}
+use Rattle.nodes_text.specs.TreeInput.{tree_said}
 use Rattle.text.specs.Output.{refusal_text}
 use Rattle.text.specs.code.Printing.{Puts}
-use Rattle.tree_text.specs.code.Reading.{TreeRead}
+use Rattle.tree_text.specs.code.Reading.{ReadsTree}
+use Rattle.terms_text.specs.Jobs.{Request}
+use Rattle.text.specs.Running.{program_rooms, ran}
 use Rattle.ran_tree.specs.Printing.{written_printed}
-use Rattle.strings_text.specs.Printing.{strings_room, table_strings, strings_as, tree_strings_text}
+use Rattle.ran_tree.specs.code.Ending.{EndsIn}
+use Rattle.ran_tree.proofs.TreeEnds.{tree_refused}
+use Rattle.strings_text.specs.Printing.{strings_room, table_strings, strings_as, tree_strings_text, hatt_strings_text}
+use Rattle.strings_text.specs.code.Reading.{read_strings}
+use Rattle.strings_text.proofs.StringsSuffice.{run_strings}
 
 module _ (modes : ℕ) (table out : List ℕ) (room : length out ≡ strings_room) where
   abbrev text : List ℕ
@@ -47,14 +51,17 @@ module _ (modes : ℕ) (table out : List ℕ) (room : length out ≡ strings_roo
       let answer : refusal_text refusal ≡ table_strings most_modes modes table = ap (λ r. written_printed r text) (e ∙ as_room) in
       rw (f, answer) at puts
 
--- What a tree's text was read to say.
-module _ (tree : List ℕ) where
-  pub strings_malformed : (why : Refusal) → (why ≡ Malformed (place_of why)) × (tree_said most_modes tree ≡ malformed (place_of why))
-      → refusal_text why ≡ tree_strings_text most_modes tree
-  unfolding tree_strings_text strings_as
-  strings_malformed why bad = rw (bad.1, ← bad.0)
+-- What a tree's text was read to say is printed.
+module _ (tree rows table : List ℕ) where
+  pub strings_read : (read : Result ℕ Refusal) → ReadsTree most_modes (tree_said most_modes tree) rows table read
+      → read_strings read table ≡ tree_strings_text most_modes tree
+  unfolding read_strings tree_strings_text strings_as
+  strings_read (Ok count) known = rw (known.says, known.laid, known.exact)
+  strings_read (Err why) known = rw (known.1, ← known.0)
 
-  pub strings_read : {rows table : List ℕ} {count : ℕ} → TreeRead most_modes (tree_said most_modes tree) rows table count
-      → table_strings most_modes count (take (3 * count) table) ≡ tree_strings_text most_modes tree
-  unfolding tree_strings_text strings_as
-  strings_read read = rw (read.says, read.laid, read.exact)
+-- And so is the tree that a run ends in.
+module _ (asks : Request) (table : List ℕ) where
+  pub strings_run : (read : Result ℕ Refusal) → EndsIn most_modes (ran program_rooms asks []) table read → read_strings read table ≡ hatt_strings_text program_rooms asks
+  unfolding read_strings
+  strings_run (Ok modes) known = known.prints (table_strings most_modes) ∙ run_strings asks
+  strings_run (Err why) known = tree_refused known (table_strings most_modes) ∙ run_strings asks

@@ -1,13 +1,16 @@
 // The answers of `strings` to the text of a tree or of terms, from bytes to bytes.
 #![tactic(auto)]
 
+ghost use Rattle.std.specs.Prelude.{IfOk, ◌≤◌};
 ghost use Rattle.entities.specs.Limits.{most_modes};
 ghost use Rattle.terms_text.specs.Jobs.{request};
 ghost use Rattle.text.specs.Running.{program_rooms};
 ghost use Rattle.text.specs.Output.{Prints};
 ghost use Rattle.text.specs.code.Printing.{Puts};
 ghost use Rattle.strings_text.specs.Printing.{table_strings, hatt_strings_text, tree_strings_text, strings_room};
+ghost use Rattle.strings_text.specs.code.Reading.{read_strings};
 
+use refusal::Refusal;
 use terms::rules::Rule;
 use text::{Printed, output};
 use tree_text::trees;
@@ -22,29 +25,12 @@ fn put_strings(out: &mut [u8; 133522], modes: usize, tree: &[u16]) -> usize
     }
 }
 
-// The answer to terms printed over the front, in lent room for the tree's table.
-fn print_hatt(rule: Rule, input: &[u8], table: &mut [u16; 768], out: &mut [u8; 133522]) -> usize
-    ensures { Puts (hatt_strings_text program_rooms (request rule input.now)) out.old out.new result }
+// The strings of the tree that was read into the front of the table, or why none was, printed over the front; how many bytes that is.
+fn put_read(out: &mut [u8; 133522], read: Result<usize, Refusal>, table: &[u16; 768]) -> usize
+    requires { IfOk read (λ modes. modes ≤ most_modes) }
+    ensures { Puts (read_strings read table.now) out.old out.new result }
 {
-    match ran_tree::run_tree(rule, input, table) {
-        Err(refusal) => output::put_refusal(out, refusal),
-        Ok(modes) => {
-            let end = 3 * modes;
-            put_strings(out, modes, &table[..end])
-        }
-    }
-}
-
-// The answer to a tree's text printed over the front, in lent room for its rows and its table.
-fn print_tree(
-    tree: &[u8],
-    rows: &mut [u16; 1024],
-    table: &mut [u16; 768],
-    out: &mut [u8; 133522],
-) -> usize
-    ensures { Puts (tree_strings_text most_modes tree.now) out.old out.new result }
-{
-    match trees::read_tree(tree, rows, table) {
+    match read {
         Err(refusal) => output::put_refusal(out, refusal),
         Ok(modes) => {
             let end = 3 * modes;
@@ -58,7 +44,8 @@ pub fn hatt_strings_answer(rule: Rule, input: &[u8]) -> Printed<[u8; 133522]>
     ensures { Prints strings_room (hatt_strings_text program_rooms (request rule input.now)) result }
 {
     let mut table = [0u16; 768];
-    Printed::by([0; 133522], |out| print_hatt(rule, input, &mut table, out))
+    let read = ran_tree::run_tree(rule, input, &mut table);
+    Printed::by([0; 133522], |out| put_read(out, read, &table))
 }
 
 // The strings of a tree's text.
@@ -67,8 +54,6 @@ pub fn tree_strings_answer(tree: &[u8]) -> Printed<[u8; 133522]>
 {
     let mut rows = [0u16; 1024];
     let mut table = [0u16; 768];
-    Printed::by(
-        [0; 133522],
-        |out| print_tree(tree, &mut rows, &mut table, out),
-    )
+    let read = trees::read_tree(tree, &mut rows, &mut table);
+    Printed::by([0; 133522], |out| put_read(out, read, &table))
 }

@@ -1,0 +1,2 @@
+-- What the code that prints strings tells of it.
+pub mod Reading
