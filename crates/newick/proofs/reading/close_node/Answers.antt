@@ -18,9 +18,6 @@ returns-then-not-stands c =
       few = omega arith;
     }
 
-pub read_digits-number-requires : goal.read_digits-number-requires
-read_digits-number-requires c = omega (arith, c.stands.ensures.at_in_bounds c.if-not-stands.false)
-
 pub returns-then-number-at : goal.returns-then-number-at
 unfolding meant stopped end_of place_of closed_of
 returns-then-number-at c =

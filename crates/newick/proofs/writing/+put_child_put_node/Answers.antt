@@ -1,7 +1,6 @@
 -- A child is a leaf, nothing where no height is left, or a node; a node is written part by part, each behind what stands.
-use mathlib.Core.Path.{◌≡◌}
 use mathlib.Core.List.{List}
-use Prim.Native.Nat.{ℕ, suc, ◌+◌, ◌-◌, ◌*◌, ◌<◌, ◌≤◌}
+use Prim.Native.Nat.{ℕ, suc, ◌+◌, ◌<◌, ◌≤◌}
 use native.Mathlib.Omega.{arith}
 use lib.ListN.{length}
 use Rattle.lists.proofs.Behind.{set_written}
@@ -13,13 +12,9 @@ use Rattle.newick.proofs.ShapeWrote.{NodeAt, NodeLeft, from_second, from_third, 
 use Rattle.newick.proofs.writing.+put_child_put_node.Goals as goal
 use Rattle.newick.proofs.writing.+put_child_put_node.Goals.{put_node-After-put_child-x, put_node-After-put_child-y, put_node-After-put_child-z}
 
-pub put_child-put_end-requires : goal.put_child-put_end-requires
-put_child-put_end-requires t c =
-    let high = c.if-table-code.true in
-    record {
-      modes_le_code = high;
-      code_in_bounds = rw (shape_end c.args.table.now.modes c.args.table.now.tree.now c.args.height c.args.code high) at c.requires;
-    }
+pub put_child-put_end-requires-clause-code_in_bounds : goal.put_child-put_end-requires-clause-code_in_bounds
+put_child-put_end-requires-clause-code_in_bounds t c =
+    rw (shape_end c.args.table.now.modes c.args.table.now.tree.now c.args.height c.args.code c.if-table-code.true) at c.requires
 
 pub put_child-returns-then-table-code : goal.put_child-returns-then-table-code
 put_child-returns-then-table-code t c =
@@ -39,18 +34,6 @@ put_child-returns-then-height-eq0 t c =
       value = rw low (omega arith);
       text_after = rw low (set_written c.args.text.now c.args.at 101 (omega (arith, room)));
     }
-
-pub put_child-put_node-requires : goal.put_child-put_node-requires
-put_child-put_node-requires t c =
-    let less : 2 * (c.args.height - 1) + 1 < t = omega (arith, c.decreases) in
-    let taller : suc (c.args.height - 1) ≡ c.args.height = omega arith in
-    (less, (omega arith, rw taller c.requires))
-
-pub put_child-returns : goal.put_child-returns
-put_child-returns t c =
-    let taller : suc (c.args.height - 1) ≡ c.args.height = omega arith in
-    let put = c.put_node.ensures in
-    record { value = rw taller at put.value; text_after = rw taller at put.text_after }
 
 -- The node that is to be written.
 abbrev node_of : (table : TreeTable) (height node at : ℕ) (text : List ℕ) → node < table.modes

@@ -37,9 +37,6 @@ returns-then-text-length c =
       text_after = refl;
     }
 
-pub overflow_add-modes : goal.overflow_add-modes
-overflow_add-modes c = omega (arith, (parts (goal.at.overflow_add-modes c).Start).few)
-
 pub put_child-end-requires : goal.put_child-end-requires
 put_child-end-requires c =
     let args = c.args in

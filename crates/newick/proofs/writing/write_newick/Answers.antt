@@ -5,18 +5,13 @@ use Rattle.tree.specs.Writing.{written_as, tree_written, text_after}
 use Rattle.newick.specs.Calls.{newick_written}
 use Rattle.newick.proofs.writing.write_newick.Goals as goal
 
-pub put_tree-requires : goal.put_tree-requires
-put_tree-requires c = sym c.check_tree.ensures.answer ∙ c.in_ok-check_tree.was
-
 pub returns-in_err-check_tree : goal.returns-in_err-check_tree
 unfolding newick_written tree_written written_as text_after
 returns-in_err-check_tree c =
     let refused = handed_on c.from_residual.ensures in
     record { tells = tells (rw (sym c.check_tree.ensures.answer ∙ c.in_err-check_tree.was) refused); text_after = rw refused }
 
-pub returns : goal.returns
+pub returns-clause-tells : goal.returns-clause-tells
 unfolding newick_written tree_written
-returns c =
-    let told = sym c.check_tree.ensures.answer ∙ c.in_ok-check_tree.was in
-    let put = c.put_tree.ensures in
-    record { tells = tells (rw told put.value); text_after = put.text_after }
+returns-clause-tells c =
+    tells (rw (sym c.check_tree.ensures.answer ∙ c.in_ok-check_tree.was) c.put_tree.ensures.value)
