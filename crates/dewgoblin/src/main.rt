@@ -1,7 +1,7 @@
 // The program: the command that its first argument names, by the rule that its third does, for the terms on standard input and the file on descriptor 3; its answer on standard output, with a full stop behind it.
 #![tactic(auto)]
 
-ghost use Rattle.std.specs.Prelude.{◌≡◌, IfOk};
+ghost use Rattle.std.specs.Prelude.{◌≡◌, ◌≤◌, IfOk};
 ghost use Rattle.io.specs.Counts.{IsPrefixLen};
 ghost use Rattle.terms_text.specs.Jobs.{request};
 ghost use Rattle.text.specs.Running.{printed_room};
@@ -109,8 +109,10 @@ fn strings_answer(name: &[u8], rule: Rule, input: &[u8], file: &[u8]) -> Printed
 }
 
 // An answer may be empty: the full stop tells it from none.
-fn write_answer<W: Write>(out: &mut W, answer: &[u8]) -> io::Result<()> {
-    out.write_all(answer)?;
+fn write_answer<W: Write, const N: usize>(out: &mut W, printed: &Printed<[u8; N]>) -> io::Result<()>
+    requires { printed.now.count ≤ N }
+{
+    printed.write(out)?;
     out.write_all(b".")
 }
 
@@ -123,10 +125,7 @@ fn give_answer<W: Write>(
     input: &[u8],
     file: &[u8],
 ) -> io::Result<()> {
-    let printed = terms_answer(name, word, rule, input, file);
-    let bytes = printed.bytes;
-    let length = printed.count;
-    write_answer(out, &bytes[..length])
+    write_answer(out, &terms_answer(name, word, rule, input, file))
 }
 
 // The same of a command that prints strings.
@@ -137,10 +136,7 @@ fn give_strings<W: Write>(
     input: &[u8],
     file: &[u8],
 ) -> io::Result<()> {
-    let printed = strings_answer(name, rule, input, file);
-    let bytes = printed.bytes;
-    let length = printed.count;
-    write_answer(out, &bytes[..length])
+    write_answer(out, &strings_answer(name, rule, input, file))
 }
 
 // A command by its name, its other word and its rule, for what was read.
@@ -161,30 +157,20 @@ fn give<W: Write>(
     give_answer(out, name, word, rule, input, file)
 }
 
-// A command by its name, its other word and its rule's, in lent room for what it reads. One whose input failed says nothing, and its starter says why.
-fn run(
+// A command by its name, its other word and its rule's, for the terms on standard input, in lent room for its file. One whose file failed says nothing, and its starter says why.
+fn give_read(
     rt: &HostRuntime,
     name: &[u8],
     word: &[u8],
     last: &[u8],
-    input: &mut [u8],
+    input: &[u8],
     file: &mut [u8],
 ) -> io::Result<()> {
-    let Ok(count) = standard_input::read_input(&mut rt.stdin(), input) else {
-        return Ok(());
-    };
     let Ok(kept) = read_file(rt, name, file) else {
         return Ok(());
     };
     let rule = rule_named(last);
-    give(
-        &mut rt.stdout(),
-        name,
-        word,
-        rule,
-        &input[..count],
-        &file[..kept],
-    )
+    give(&mut rt.stdout(), name, word, rule, input, &file[..kept])
 }
 
 fn main(rt: HostRuntime) -> io::Result<()> {
@@ -195,15 +181,17 @@ fn main(rt: HostRuntime) -> io::Result<()> {
     let width = rt.arg(2, &mut word).unwrap_or(0);
     let mut last = [0u8; 16];
     let end = rt.arg(3, &mut last).unwrap_or(0);
-    // more than any well-formed text has, as for `hatt`; and more than the starter lets through of a file
-    let mut input = [0u8; 98304];
+    // more than the starter lets through of a file
     let mut file = [0u8; 66000];
-    run(
+    standard_input::answer_input(
         &rt,
-        &name[..length],
-        &word[..width],
-        &last[..end],
-        &mut input,
-        &mut file,
+        |input| give_read(
+            &rt,
+            &name[..length],
+            &word[..width],
+            &last[..end],
+            input,
+            &mut file,
+        ),
     )
 }

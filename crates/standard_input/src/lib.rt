@@ -4,6 +4,7 @@
 ghost use Rattle.std.specs.Prelude.{MatchResult};
 ghost use Rattle.io.specs.Counts.{IsPrefixLen};
 
+use std::io;
 use std::io::Read;
 
 // A read failed; so many bytes had come before it.
@@ -26,4 +27,19 @@ pub fn read_input<R: Read>(from: &mut R, bytes: &mut [u8]) -> Result<usize, Read
         }
     }
     Ok(count)
+}
+
+// What `answer` does with standard input. One whose input failed says nothing, and its starter says why.
+pub fn answer_input<F: FnOnce(&[u8]) -> io::Result<()>>(
+    rt: &HostRuntime,
+    answer: F,
+) -> io::Result<()>
+    requires { F.IsAlwaysCallable answer }
+{
+    // more than any well-formed text has; what lies beyond alters no answer
+    let mut input = [0u8; 98304];
+    let Ok(count) = read_input(&mut rt.stdin(), &mut input) else {
+        return Ok(());
+    };
+    answer(&input[..count])
 }

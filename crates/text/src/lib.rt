@@ -1,10 +1,13 @@
 // The programs' text: the run that their input asks for made and their answers printed, from bytes to bytes.
 #![tactic(auto)]
 
+ghost use Rattle.std.specs.Prelude.{◌≤◌};
 ghost use Rattle.std.specs.Fn.{FnOnceTakesAtMut, FnOnceReturnsAtMut};
 ghost use Rattle.text.specs.Running.{program_rooms, printed_room};
 ghost use Rattle.text.specs.Output.{answer_text, Prints};
 
+use std::io;
+use std::io::Write;
 use terms::rules::Rule;
 
 pub mod journals;
@@ -27,6 +30,15 @@ impl<B> Printed<B> {
         let mut printed = Printed { bytes, count: 0 };
         printed.count = put(&mut printed.bytes);
         printed
+    }
+}
+
+impl<const N: usize> Printed<[u8; N]> {
+    // Writes the text.
+    pub fn write<W: Write>(&self, out: &mut W) -> io::Result<()>
+        requires { self.now.count ≤ N }
+    {
+        out.write_all(&self.bytes[..self.count])
     }
 }
 
