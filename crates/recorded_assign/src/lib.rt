@@ -8,60 +8,24 @@ pub fn agrees(case: &[u8]) -> bool {
     let mut tree = [0u16; 771];
     let mut terms = [0u16; 16384];
     let mut rows = [0u16; 1028];
-    agrees_in(case, &mut tree, &mut terms, &mut rows)
-}
-
-// The same, with room for what is read lent.
-fn agrees_in(case: &[u8], tree: &mut [u16], terms: &mut [u16], rows: &mut [u16]) -> bool {
     let Some(modes) = lines::read_one(case, 0, b"modes\t") else {
         return false;
     };
-    let codes = lines::read_lines(case, modes.end, b"tree\t", 3, tree);
-    let count = codes.count;
-    if tree.len() < count {
-        return false;
-    }
-    agrees_on(
-        case,
-        codes.end,
-        usize::from(modes.number),
-        &tree[0..count],
-        terms,
-        rows,
-    )
-}
-
-// The same, from the heuristic on.
-fn agrees_on(
-    case: &[u8],
-    from: usize,
-    modes: usize,
-    tree: &[u16],
-    terms: &mut [u16],
-    rows: &mut [u16],
-) -> bool {
-    let Some(heuristic) = lines::read_one(case, from, b"heuristic\t") else {
+    let codes = lines::read_lines(case, modes.end, b"tree\t", 3, &mut tree);
+    let Some(heuristic) = lines::read_one(case, codes.end, b"heuristic\t") else {
         return false;
     };
-    let read = lines::read_terms(case, heuristic.end, terms);
-    let Some(recorded) = answer::read_answer(case, read.end, rows) else {
+    let read = lines::read_terms(case, heuristic.end, &mut terms);
+    let Some(recorded) = answer::read_answer(case, read.end, &mut rows) else {
         return false;
     };
-    let count = recorded.count;
-    let numbers = read.count;
-    if terms.len() < numbers {
-        return false;
-    }
-    if rows.len() < count {
-        return false;
-    }
     same_answer(
-        modes,
-        tree,
+        usize::from(modes.number),
+        &tree[..codes.count],
         usize::from(heuristic.number),
-        &terms[0..numbers],
+        &terms[..read.count],
         recorded.weight,
-        &rows[0..count],
+        &rows[..recorded.count],
     )
 }
 
@@ -76,33 +40,9 @@ fn same_answer(
 ) -> bool {
     let mut work = [fronts::UNTOUCHED; 18441];
     let mut table = [fronts::UNTOUCHED; 780];
-    same_written(
-        modes, tree, heuristic, terms, weight, rows, &mut work, &mut table,
-    )
-}
-
-// The same, with the slices that the call writes lent.
-fn same_written(
-    modes: usize,
-    tree: &[u16],
-    heuristic: usize,
-    terms: &[u16],
-    weight: u64,
-    rows: &[u16],
-    work: &mut [u16],
-    table: &mut [u16],
-) -> bool {
-    let answer = topphatt::assign(modes, 0, tree, heuristic, terms, work, table);
-    let Ok(sum) = answer else {
-        return false;
-    };
-    if sum != weight {
-        return false;
-    }
-    if !same_table(rows, table) {
-        return false;
-    }
-    fronts::work_cleared(work, terms)
+    topphatt::assign(modes, 0, tree, heuristic, terms, &mut work, &mut table) == Ok(weight)
+        && same_table(rows, &table)
+        && fronts::work_cleared(&work, terms)
 }
 
 // The rows, labelled in order, are the front of the table, and nothing behind it was touched.

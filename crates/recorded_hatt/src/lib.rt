@@ -9,31 +9,18 @@ use terms::row;
 pub fn agrees(case: &[u8]) -> bool {
     let mut terms = [0u16; 16384];
     let mut rows = [0u16; 1028];
-    agrees_in(case, &mut terms, &mut rows)
-}
-
-// The same, with room for the case's terms and rows lent.
-fn agrees_in(case: &[u8], terms: &mut [u16], rows: &mut [u16]) -> bool {
     let Some(modes) = lines::read_one(case, 0, b"modes\t") else {
         return false;
     };
-    let read = lines::read_terms(case, modes.end, terms);
-    let Some(recorded) = answer::read_answer(case, read.end, rows) else {
+    let read = lines::read_terms(case, modes.end, &mut terms);
+    let Some(recorded) = answer::read_answer(case, read.end, &mut rows) else {
         return false;
     };
-    let count = recorded.count;
-    let numbers = read.count;
-    if terms.len() < numbers {
-        return false;
-    }
-    if rows.len() < count {
-        return false;
-    }
     same_answer(
         usize::from(modes.number),
-        &terms[0..numbers],
+        &terms[..read.count],
         recorded.weight,
-        &rows[0..count],
+        &rows[..recorded.count],
     )
 }
 
@@ -43,46 +30,22 @@ fn same_answer(modes: usize, terms: &[u16], weight: u64, rows: &[u16]) -> bool {
     let mut written = [fronts::UNTOUCHED; 1028];
     let mut journal = [fronts::UNTOUCHED_BYTE; 5400];
     let mut drops = [fronts::UNTOUCHED; 260];
-    same_written(
+    let Ok(numbers) = resuming::hatt(
         modes,
+        0,
         terms,
-        weight,
-        rows,
         &mut work,
         &mut written,
         &mut journal,
         &mut drops,
-    )
-}
-
-// The same, with the slices that the call writes lent.
-fn same_written(
-    modes: usize,
-    terms: &[u16],
-    weight: u64,
-    rows: &[u16],
-    work: &mut [u16],
-    written: &mut [u16],
-    journal: &mut [u8],
-    drops: &mut [u16],
-) -> bool {
-    let answer = resuming::hatt(modes, 0, terms, work, written, journal, drops);
-    let Ok(numbers) = answer else {
+    ) else {
         return false;
     };
-    if numbers.weight != weight {
-        return false;
-    }
-    if !fronts::holds(written, rows) {
-        return false;
-    }
-    if !fronts::work_cleared(work, terms) {
-        return false;
-    }
-    if !all_dropped(drops, modes, terms.len() / row::WIDTH) {
-        return false;
-    }
-    fronts::bytes_untouched(journal, numbers.new)
+    numbers.weight == weight
+        && fronts::holds(&written, rows)
+        && fronts::work_cleared(&work, terms)
+        && all_dropped(&drops, modes, terms.len() / row::WIDTH)
+        && fronts::bytes_untouched(&journal, numbers.new)
 }
 
 // The drops of the first `modes` steps add up to the terms, for the published rule leaves none, and nothing behind them was touched.

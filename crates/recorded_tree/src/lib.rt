@@ -8,30 +8,17 @@ use refusal::Refusal;
 pub fn agrees(case: &[u8]) -> bool {
     let mut tree = [0u16; 780];
     let mut terms = [0u16; 16384];
-    agrees_in(case, &mut tree, &mut terms)
-}
-
-// The same, with room for tree and terms lent.
-fn agrees_in(case: &[u8], tree: &mut [u16], terms: &mut [u16]) -> bool {
     let Some(modes) = lines::read_one(case, 0, b"modes\t") else {
         return false;
     };
-    let codes = lines::read_lines(case, modes.end, b"tree\t", 3, tree);
-    let count = codes.count;
-    if tree.len() < count {
-        return false;
-    }
-    let read = lines::read_terms(case, codes.end, terms);
-    let numbers = read.count;
-    if terms.len() < numbers {
-        return false;
-    }
+    let codes = lines::read_lines(case, modes.end, b"tree\t", 3, &mut tree);
+    let read = lines::read_terms(case, codes.end, &mut terms);
     same_answer(
         case,
         read.end,
         usize::from(modes.number),
-        &tree[0..count],
-        &terms[0..numbers],
+        &tree[..codes.count],
+        &terms[..read.count],
     )
 }
 
