@@ -29,7 +29,7 @@ fn read_node(line: &[u8], row: &mut [u16]) -> bool
     row[0] != codes::ABSENT
 }
 
-// The row of a line put behind so many rows. `terms_text::put_term` is this with another width and reader: a closure for the reader would need a longer contract than the two have.
+// The row of a line put behind the first `count` rows. `terms_text::put_term` is this with another width and reader: a closure for the reader would need a longer contract than the two have.
 // A yes or no: what is read stands in the lent room, and an Option would hold nothing.
 fn put_row(line: &[u8], rows: &mut [u16], count: usize) -> bool
     requires { 4 * count + 4 ≤ length rows.old }

@@ -67,7 +67,7 @@ fn read_term(line: &[u8], row: &mut [u16]) -> bool
     read_indices(line, parts - 1, row)
 }
 
-// The row of a line put behind so many rows. `nodes_text::put_row` is this with another width and reader: a closure for the reader would need a longer contract than the two have.
+// The row of a line put behind the first `count` rows. `nodes_text::put_row` is this with another width and reader: a closure for the reader would need a longer contract than the two have.
 // A yes or no: what is read stands in the lent room, and an Option would hold nothing.
 fn put_term(line: &[u8], numbers: &mut [u16], count: usize) -> bool
     requires { row_width * count + row_width ≤ length numbers.old }
