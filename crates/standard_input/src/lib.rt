@@ -1,7 +1,8 @@
 // What a program reads, standard input or a file, read to its end; a read that fails is told apart from the end.
 #![tactic(auto)]
 
-ghost use Rattle.std.specs.Prelude.{MatchResult};
+ghost use Rattle.std.specs.Prelude.{◌≡◌, ◌⊎◌, ℕ, List, Ok, MatchResult};
+ghost use Rattle.std.specs.Fn.{FnOnceReturnsAt};
 ghost use Rattle.io.specs.Counts.{IsPrefixLen};
 
 use std::io;
@@ -35,6 +36,7 @@ pub fn answer_input<F: FnOnce(&[u8]) -> io::Result<()>>(
     answer: F,
 ) -> io::Result<()>
     requires { F.IsAlwaysCallable answer }
+    ensures { (result ≡ Ok tt) ⊎ ((input : List ℕ) × FnOnceReturnsAt F.FnOnce answer input result) }
 {
     // more than any well-formed text has; what lies beyond alters no answer
     let mut input = [0u8; 98304];

@@ -1,8 +1,9 @@
 // The programs' text: the run that their input asks for made and their answers printed, from bytes to bytes.
 #![tactic(auto)]
 
-ghost use Rattle.std.specs.Prelude.{◌≤◌};
+ghost use Rattle.std.specs.Prelude.{◌≤◌, take, OnOk};
 ghost use Rattle.std.specs.Fn.{FnOnceTakesAtMut, FnOnceReturnsAtMut};
+ghost use Rattle.std.specs.Io.KnownBytes.{Appends};
 ghost use Rattle.text.specs.Running.{program_rooms, printed_room};
 ghost use Rattle.text.specs.Output.{answer_text, Prints};
 
@@ -34,9 +35,10 @@ impl<B> Printed<B> {
 }
 
 impl<const N: usize> Printed<[u8; N]> {
-    // Writes the text.
+    // Writes the text behind what the writer has.
     pub fn write<W: Write>(&self, out: &mut W) -> io::Result<()>
         requires { self.now.count ≤ N }
+        ensures { OnOk result (Appends (W.contents out.old) (W.contents out.new) (take self.now.count self.now.bytes)) }
     {
         out.write_all(&self.bytes[..self.count])
     }
