@@ -12,7 +12,7 @@ use terms::rules::Rule;
 use text::running;
 use tree::laying;
 
-// The run by this rule that a text asks for, in lent room for its rows and its journal; its tree laid out in the front of a lent table.
+// Runs by `rule` what a text asks for, in lent room for its rows and its journal, and lays its tree out in the front of a lent table.
 fn grow(
     rule: Rule,
     input: &[u8],
@@ -28,7 +28,7 @@ fn grow(
     Ok(run.modes)
 }
 
-// The same with rows and a journal of its own.
+// Grows the tree of a text's run by `rule` in the front of a lent table, with rows and a journal of its own.
 pub fn run_tree(rule: Rule, input: &[u8], table: &mut [u16; 768]) -> Result<usize, Refusal>
     ensures { EndsIn most_modes (ran program_rooms (request rule input.now) []) table.new result }
 {
