@@ -5,7 +5,7 @@ ghost use Rattle.strings.specs.Text.{strings_length};
 
 use fields::decimal;
 
-// How many bytes the strings of so many modes take up, whatever the tree.
+// Counts the bytes that the strings of `modes` modes take up, whatever the tree.
 pub fn strings_length(modes: usize) -> usize
     requires { modes ≤ most_modes }
     ensures { result ≡ strings_length modes }

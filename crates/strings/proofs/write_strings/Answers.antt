@@ -11,9 +11,7 @@ returns-in_err-check_tree c =
     let refused = handed_on c.from_residual.ensures in
     record { tells = tells (rw (sym c.check_tree.ensures.answer ∙ c.in_err-check_tree.was) refused); text_after = rw refused }
 
-pub returns : goal.returns
+pub returns-clause-tells : goal.returns-clause-tells
 unfolding strings_written tree_written
-returns c =
-    let told = sym c.check_tree.ensures.answer ∙ c.in_ok-check_tree.was in
-    let put = c.put_strings.ensures in
-    record { tells = tells (rw told put.value); text_after = put.text_after }
+returns-clause-tells c =
+    tells (rw (sym c.check_tree.ensures.answer ∙ c.in_ok-check_tree.was) c.put_strings.ensures.value)

@@ -15,10 +15,7 @@ loop-node-preserved c =
     let next = bytes_next args.placed.now.modes args.placed.now.tree.now args.majorana args.at node args.text.now c.loop-node.text (omega arith) c.loop-node.invariant.1 in
     (simp length-set (omega arith), rw c.letter_at.ensures next)
 
-pub returns : goal.returns
-returns c =
+pub returns-clause-text_after : goal.returns-clause-text_after
+returns-clause-text_after c =
     let args = c.args in
-    record {
-      value = refl;
-      text_after = bytes_end args.placed.now.modes args.placed.now.tree.now args.majorana args.at c.loop-node.node args.text.now c.loop-node.text (omega arith) c.loop-node.invariant.1;
-    }
+    bytes_end args.placed.now.modes args.placed.now.tree.now args.majorana args.at c.loop-node.node args.text.now c.loop-node.text (omega arith) c.loop-node.invariant.1

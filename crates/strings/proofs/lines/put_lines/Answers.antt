@@ -8,14 +8,10 @@ loop-majorana-init c =
     let args = c.args in
     λ room. lines_start args.placed.now.modes args.placed.now.tree.now args.text.now room
 
-pub put_line-at-requires : goal.put_line-at-requires
-put_line-at-requires c =
-    let args = c.args in
-    let room = c.requires in
-    record {
-      majorana_bound = omega arith;
-      majorana_in_bounds = line_room args.placed.now.modes args.placed.now.tree.now args.text.now room c.loop-majorana.majorana (c.loop-majorana.invariant room) (omega arith);
-    }
+pub put_line-at-requires-clause-majorana_in_bounds : goal.put_line-at-requires-clause-majorana_in_bounds
+put_line-at-requires-clause-majorana_in_bounds c =
+    let placed = c.args.placed.now in
+    line_room placed.modes placed.tree.now c.args.text.now c.requires c.loop-majorana.majorana (c.loop-majorana.invariant c.requires) (omega arith)
 
 pub loop-majorana-preserved : goal.loop-majorana-preserved
 loop-majorana-preserved c =
