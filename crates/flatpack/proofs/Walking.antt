@@ -15,7 +15,6 @@ use Rattle.lists.specs.Written.{written_at}
 use Rattle.lists.proofs.Joined.{flatMap_joined}
 use Rattle.lists.proofs.Steps.{drop_step}
 use Rattle.lists.proofs.Every.{every_at, every_append, keeps_passing}
-use Rattle.lists.proofs.Written.{length_written}
 use Rattle.lists.proofs.Behind.{written_behind_front}
 use Rattle.entities.specs.declared.Triple.{Triple}
 use Rattle.history.specs.Lawful.{LawfulHistory}
@@ -51,12 +50,6 @@ module _ (modes : ℕ) (history : List Triple) where
   module _ (before rows labels : List ℕ) (head : ℕ) (w : Walking modes history before rows labels head) where
     passed_rows : length (rows_for modes history (take head labels)) ≡ 4 * head
     passed_rows = length_rows modes history (take head labels) ∙ ap (λ n. 4 * n) (length-take-le head labels w.reached)
-
-    pub walking_length : 4 * modes ≤ length before → length rows ≡ length before
-    walking_length room =
-        let h = w.inside in
-        ap length w.written
-        ∙ length_written 0 (rows_for modes history (take head labels)) before (rw passed_rows (omega arith))
 
     pub walking_ends : modes ≤ head → rows ≡ written_at 0 (flatpack modes history) before
     unfolding walk flatpack

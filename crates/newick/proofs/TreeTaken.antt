@@ -5,8 +5,7 @@ use mathlib.Core.Bool.{true, false}
 use mathlib.Core.List.{List, ◌++◌, map}
 use Prim.Native.Nat.{ℕ, ◌*◌, ◌/◌, ◌≤◌}
 use native.Mathlib.Omega.{arith}
-use lib.ListN.{length, take, replicate, length-append}
-use lib.Seq.{length-take-le}
+use lib.ListN.{length, replicate, length-append}
 use Rattle.lists.specs.Members.{every}
 use Rattle.refusal.specs.declared.Refusal.TheVariants.{NotOneTree}
 use Rattle.entities.specs.Codes.{absent}
@@ -46,9 +45,6 @@ laid_alike e f = rw (e, f)
 module _ (front behind : List ℕ) (count : ℕ) (e : length front ≡ count) where
   pub front_fits : count ≤ length (front ++ behind)
   front_fits = omega (arith, length-append front behind)
-
-  pub front_counts : length (take count (front ++ behind)) ≡ count
-  front_counts = length-take-le count (front ++ behind) front_fits
 
 -- What the call says of each answer of the text.
 module _ (most : ℕ) (text : List ℕ) where

@@ -10,7 +10,7 @@ use Rattle.lists.specs.Ranges.{listed}
 use Rattle.lists.specs.Written.{written_at}
 use Rattle.lists.proofs.Behind.{Wrote, then_wrote, nothing_written, written_one}
 use Rattle.lists.proofs.Listed.{length_listed, listed_more, map_listed}
-use Rattle.lists.proofs.Partway.{Partway, parts_start, parts_room, parts_same, parts_piece, parts_end}
+use Rattle.lists.proofs.Partway.{Partway, parts_start, parts_room, parts_piece, parts_end}
 use Rattle.lists.proofs.Ranges.{listed_start, flatMap_on, flatMap_done}
 use Rattle.lists.proofs.Sums.{sum_of, length_flatMap}
 use Rattle.fields.specs.Decimal.{decimal}
@@ -109,9 +109,6 @@ module _ (modes : ℕ) (table text : List ℕ) (room : length (strings_text mode
     pub lines_next : {next : List ℕ} {end : ℕ} → majorana < 2 * modes → end ≡ at + length (string_line modes table majorana)
         → next ≡ written_at at (string_line modes table majorana) after → PuttingLines next end (majorana + 1)
     lines_next h e f = parts_piece (strings_text modes table) 0 text (omega (arith, room)) (string_line modes table majorana) (ahead (majorana + 1)) (here h) e f
-
-    pub lines_same : length after ≡ length text
-    lines_same = parts_same (strings_text modes table) 0 text (omega (arith, room)) w
 
     pub lines_end : 2 * modes ≤ majorana → after ≡ written_at 0 (strings_text modes table) text
     lines_end h =
