@@ -77,15 +77,13 @@ fn read_leaf(text: &[u8], at: usize, closed: usize) -> Result<Child, Stop>
 }
 
 // A closed node put behind those closed so far.
+#[tactic(auto, unfolding(lists::specs::Written::written_at))]
 fn put_row(rows: &mut [u32], closed: usize, label: u32, x: u32, y: u32, z: u32)
     requires { 4 * closed + 4 ≤ length rows.old }
     ensures { rows.new ≡ written_at (4 * closed) (label ∷ (x ∷ (y ∷ (z ∷ [])))) rows.old }
 {
     let at = 4 * closed;
-    rows[at] = label;
-    rows[at + 1] = x;
-    rows[at + 2] = y;
-    rows[at + 3] = z;
+    rows[at..at + 4].copy_from_slice(&[label, x, y, z]);
 }
 
 // The node whose name begins at this place, behind its children.
