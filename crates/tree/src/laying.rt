@@ -6,15 +6,14 @@ ghost use Rattle.tree.specs.Laying.{row_over, laid_over, modes_in, table_of};
 use entities::codes;
 
 // A node's three children put in their place, where the table has it.
+#[tactic(auto, unfolding(crate::specs::Laying::row_over, lists::specs::Written::written_at))]
 fn lay_row(table: &mut [u16], label: usize, x: u16, y: u16, z: u16)
     requires { label ≤ 65535 }
     ensures { table.new ≡ row_over table.old label (x ∷ (y ∷ (z ∷ []))) }
 {
     let at = 3 * label;
     if at + 2 < table.len() {
-        table[at] = x;
-        table[at + 1] = y;
-        table[at + 2] = z;
+        table[at..at + 3].copy_from_slice(&[x, y, z]);
     }
 }
 
