@@ -21,6 +21,7 @@ impl TreeTable<'_> {
     }
 
     // Pair k ends the z-chains from this node's X and Y children.
+    #[tactic(auto, unfolding(crate::specs::Pairs::pair_under))]
     fn pair_under(&self, k: usize, node: usize) -> bool
         requires { (k < self.now.modes) × (node < self.now.modes) }
         ensures { result ≡ pair_under self.now.modes self.now.tree.now k node }

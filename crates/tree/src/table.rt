@@ -56,6 +56,7 @@ pub fn place_of(table: &[u16], code: usize) -> usize
 }
 
 // The node under which the code stands; a code that stands nowhere is its own.
+#[tactic(auto, unfolding(crate::specs::Table::parent_of))]
 fn parent_of(table: &[u16], code: usize) -> usize
     ensures { result ≡ parent_of table.now code }
 {
@@ -79,6 +80,7 @@ pub fn climb(table: &[u16], steps: usize, node: usize) -> usize
 }
 
 // The child of a node under X (edge 0), Y (1) or Z (2).
+#[tactic(auto, using(crate::proofs::TableSteps::child_read))]
 pub fn child(table: &[u16], node: usize, edge: usize) -> usize
     requires { 3 * node + edge < length table.now }
     ensures { result ≡ child_of table.now node edge }
