@@ -15,6 +15,7 @@ mod pairs;
 pub mod table;
 
 // The table is 3n good codes that make one tree with its pairs right; or the first of these that fails.
+#[tactic(auto, using(refusal::proofs::Told::tells, refusal::proofs::Told::handed_on), unfolding(crate::specs::Check::tree_checked))]
 pub fn check_tree(modes: usize, tree: &[u16]) -> Result<(), Refusal>
     ensures { Tells check_numbers (tree_checked most_modes modes tree.now) result }
 {
