@@ -40,7 +40,7 @@ impl TreeTable<'_> {
 
     // One root, every node reached, each other node and each leaf exactly once, one absent child.
     #[tactic(auto, unfolding(crate::specs::OneTree::one_tree, crate::specs::OneTree::absent_once, crate::specs::OneTree::nodes_once, crate::specs::OneTree::all_reached, crate::specs::OneTree::root_of))]
-    pub fn one_tree(&self) -> bool
+    pub(crate) fn one_tree(&self) -> bool
         ensures { result ≡ one_tree self.now.modes self.now.tree.now }
     {
         if !self.leaves_once() || table::count(self.tree, codes::ABSENT as usize) != 1 {

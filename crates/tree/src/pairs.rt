@@ -40,7 +40,7 @@ impl TreeTable<'_> {
     }
 
     // How many pairs are right before the least k whose pair is wrong.
-    pub fn pairs_right(&self) -> usize
+    pub(crate) fn pairs_right(&self) -> usize
         ensures { result ≡ pairs_right self.now.modes self.now.tree.now }
     {
         (0..self.modes)
