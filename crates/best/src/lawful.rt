@@ -28,15 +28,15 @@ fn among(merge: Triple, entity: u16) -> bool
 
 // The triple of this number, of the first `count` entities.
 #[tactic(auto, unfolding(crate::specs::code::Numbered::triple_at))]
-fn triple_at(count: usize, number: usize) -> Triple
-    requires { (0 < count) × (number < 65536) }
+fn triple_at(count: u16, number: u16) -> Triple
+    requires { 0 < count }
     ensures { result ≡ triple_at count number }
 {
     let front = number / count;
     Triple {
-        x: (front / count) as u16,
-        y: (front % count) as u16,
-        z: (number % count) as u16,
+        x: front / count,
+        y: front % count,
+        z: number % count,
     }
 }
 
@@ -106,21 +106,15 @@ impl<'a> SoFar<'a> {
         self.three_open(triple) && self.are_paired(triple)
     }
 
-    // How many entities there are.
-    fn entity_count(&self) -> usize
-        ensures { result ≡ 2 * self.now.modes + 1 + length self.now.merges.now }
-    {
-        2 * self.modes + 1 + self.merges.len()
-    }
-
     // The lawful triple of this number, in ascending order.
     pub fn nth_lawful(&self, number: usize) -> Triple
         ensures { result ≡ get_or (lawful_triples self.now.modes (reverse self.now.merges.now)) number no_merge }
     {
-        let count = self.entity_count();
+        let so_far = *self;
+        let count = parents::parent_number(self.modes, self.merges.len());
         (0..count * (count * count))
             .map(|at| triple_at(count, at))
-            .filter(|triple| self.is_lawful(*triple))
+            .filter(move |triple| so_far.is_lawful(*triple))
             .nth(number)
             .unwrap_or(NO_MERGE)
     }
