@@ -57,6 +57,7 @@ impl<'a> Operators<'a> {
     }
 
     // What the sequence of this number weighs.
+    #[tactic(auto, using(crate::proofs::NumberedMerges::numbered_merged))]
     fn weigh_nth(&self, number: usize) -> u64
         requires { number < length (sequences self.now.modes) }
         ensures { result ≡ weight_by self.now.modes self.now.count self.now.rows.now (get_or (sequences self.now.modes) number []) }
@@ -66,6 +67,7 @@ impl<'a> Operators<'a> {
     }
 
     // The first sequence as the lightest so far, none counted yet.
+    #[tactic(auto, using(crate::proofs::LightestBest::sequences_there))]
     fn start(&self) -> Lead
         ensures { Led self.now.modes self.now.count self.now.rows.now 0 result }
     {
@@ -77,6 +79,7 @@ impl<'a> Operators<'a> {
     }
 
     // The next sequence met: it leads where it is lighter, and is counted where it is as light. Of several as light the first stays.
+    #[tactic(auto, using(crate::proofs::LeadOn::reached_small, crate::proofs::SequenceNumbers::sequences_counted, crate::proofs::SequenceNumbers::few_sequences))]
     fn meet(&self, number: usize, lead: Lead) -> Lead
         requires number_in_bounds { number < length (sequences self.now.modes) }
         requires led { Led self.now.modes self.now.count self.now.rows.now number lead }
@@ -101,6 +104,7 @@ impl<'a> Operators<'a> {
     }
 
     // The lightest of all sequences.
+    #[tactic(auto, using(crate::proofs::SequenceNumbers::sequences_counted))]
     pub fn lightest(&self) -> Lead
         ensures { Led self.now.modes self.now.count self.now.rows.now (length (sequences self.now.modes)) result }
     {

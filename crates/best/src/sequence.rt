@@ -22,7 +22,8 @@ pub fn sequence_count(steps: usize) -> usize
     }
 }
 
-// The sequence of this number, its merges in front.
+// Finds the sequence of this number; its merges stand in front, the oldest first.
+#[tactic(auto, using(crate::proofs::SequenceNumbers::sequence_next, crate::proofs::SequenceNumbers::sequence_numbered, crate::proofs::SequenceNumbers::sequences_counted), unfolding(crate::specs::code::Numbered::sequence_at))]
 pub fn nth_sequence(modes: usize, number: usize) -> [Triple; 4]
     requires modes_le_most_to_try { modes ≤ most_to_try }
     requires number_in_bounds { number < length (sequences modes) }
@@ -36,14 +37,13 @@ pub fn nth_sequence(modes: usize, number: usize) -> [Triple; 4]
             modes,
             merges: &merges[..step],
         };
-        let triple = so_far.nth_lawful(left / ways);
-        merges[step] = triple;
+        merges[step] = so_far.nth_lawful(left / ways);
         left %= ways;
     }
     merges
 }
 
-// The numbers of merges, x, y and z of each, over the front of others.
+// Puts the numbers of merges, x, y and z of each, over the front of others.
 pub fn put_numbers(merges: &[Triple], numbers: &mut [u16])
     requires { 3 * length merges.now ≤ length numbers.old }
     ensures { numbers.new ≡ written_at 0 (sequence_numbers (reverse merges.now)) numbers.old }

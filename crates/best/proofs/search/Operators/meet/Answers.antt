@@ -1,7 +1,5 @@
 -- Lighter, as light, or heavier.
-use native.Mathlib.Omega.{arith}
-use Rattle.best.proofs.SequenceNumbers.{sequences_counted, few_sequences}
-use Rattle.best.proofs.LeadOn.{lead_taken, lead_shared, lead_kept, reached_small}
+use Rattle.best.proofs.LeadOn.{lead_taken, lead_shared, lead_kept}
 use Rattle.best.proofs.search.Operators.meet.Goals as goal
 
 pub returns-then-weight-lead : goal.returns-then-weight-lead
@@ -9,13 +7,6 @@ returns-then-weight-lead c =
     let args = c.args in
     let own = args.self.now in
     lead_taken own.modes own.count own.rows.now args.number c.requires.number_in_bounds args.lead c.requires.led _ c.weigh_nth-weight.ensures c.if-weight-lead.true
-
-pub overflow_add-result : goal.overflow_add-result
-overflow_add-result c =
-    let args = c.args in
-    let own = args.self.now in
-    let small = reached_small own.modes own.count own.rows.now args.number c.requires.number_in_bounds args.lead c.requires.led _ c.weigh_nth-weight.ensures in
-    omega (arith, small, c.requires.number_in_bounds, sequences_counted own.modes, few_sequences own.modes own.few.1)
 
 pub returns-then-weight-lead-2 : goal.returns-then-weight-lead-2
 returns-then-weight-lead-2 c =
