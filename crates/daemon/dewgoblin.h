@@ -6,7 +6,7 @@
  * What the caller must keep to, for it is all that the calls cannot check:
  *   - no pointer is NULL, not even one whose count is 0, and as many bytes as the count says may be read (or written);
  *   - a slice that is written overlaps no other slice of the same call;
- *   - 256 KiB of stack are free (the calls use 230984 bytes on x86-64, as tests/daemon/run measures).
+ *   - 256 KiB of stack are free (the calls use 217000 bytes on x86-64, as tests/daemon/run measures).
  * Any other input is either taken or refused by a number. No call keeps anything from one call to the next, allocates,
  * or reads a file, so calls may run at the same time in several threads on slices of their own.
  *

@@ -3,7 +3,7 @@ ghost use Rattle.std.specs.Prelude.{IfSome, ◌≤◌, length};
 
 use crate::lines;
 
-// The weight and how many numbers the node lines have, or another text; no recorded weight is above 65535.
+// The weight, and how many numbers the node lines have; no recorded weight is above 65535.
 #[derive(Clone, Copy)]
 pub struct Recorded {
     pub weight: u64,

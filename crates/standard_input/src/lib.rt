@@ -38,7 +38,7 @@ pub fn answer_input<F: FnOnce(&[u8]) -> io::Result<()>>(
     requires { F.IsAlwaysCallable answer }
     ensures { (result ≡ Ok tt) ⊎ ((input : List ℕ) × FnOnceReturnsAt F.FnOnce answer input result) }
 {
-    // more than any well-formed text has; what lies beyond alters no answer
+    // more than any well-formed text of our programs has; what lies beyond alters none of their answers
     let mut input = [0u8; 98304];
     let Ok(count) = read_input(&mut rt.stdin(), &mut input) else {
         return Ok(());
