@@ -6,7 +6,7 @@ ghost use Rattle.terms.specs.Rules.{rule_number};
 ghost use Rattle.entities.specs.Limits.{most_modes, most_terms};
 ghost use Rattle.tree.specs.Laying.{modes_in};
 ghost use Rattle.terms_text.specs.Input.{given, said};
-ghost use Rattle.terms_text.specs.Jobs.{request};
+ghost use Rattle.terms_text.specs.Jobs.{requested};
 ghost use Rattle.text.specs.Running.{program_rooms, printed_room};
 ghost use Rattle.text.specs.Output.{Prints};
 ghost use Rattle.text.specs.code.Printing.{Puts};
@@ -16,6 +16,7 @@ ghost use Rattle.assign_text.specs.code.Finding.{found_text, meant_text};
 
 use refusal::Refusal;
 use terms::rules::Rule;
+use terms_text::jobs::Request;
 use text::{Printed, output};
 use tree_text::trees;
 
@@ -76,21 +77,27 @@ fn assign_given(
     )
 }
 
-// The same for the text of terms, in lent room for their numbers.
+// The same for what is asked, in lent room for its numbers.
 fn assign_read(
     rows: &mut [u16],
     table: &[u16],
-    rule: Rule,
+    asks: &Request,
     heuristic: usize,
-    input: &[u8],
     numbers: &mut [u16; 16384],
 ) -> Result<u64, Refusal>
     requires { RowsFit most_modes rows.old × (length table.now ≤ 3 * most_modes) }
-    ensures { found_text result rows.new ≡ meant_text rows.old table.now (rule_number rule) heuristic (said most_terms input.now) }
+    ensures { found_text result rows.new ≡ meant_text rows.old table.now (rule_number asks.now.rule) heuristic (said most_terms asks.now.text.now) }
 {
-    let given = terms_text::read_input(input, numbers)?;
+    let given = terms_text::read_input(asks.text, numbers)?;
     let end = 8 * given.count;
-    assign_given(rows, given.modes, table, rule, heuristic, &numbers[..end])
+    assign_given(
+        rows,
+        given.modes,
+        table,
+        asks.rule,
+        heuristic,
+        &numbers[..end],
+    )
 }
 
 // An assignment and its rows printed over the front; how many bytes that is.
@@ -107,34 +114,32 @@ fn put_found(out: &mut [u8; 16384], found: Result<u64, Refusal>, rows: &[u16]) -
     }
 }
 
-// The assignment for the text of terms printed over the front; how many bytes that is.
+// The assignment for what is asked printed over the front; how many bytes that is.
 fn put_terms(
     out: &mut [u8; 16384],
     rows: &mut [u16],
     table: &[u16],
-    rule: Rule,
+    asks: &Request,
     heuristic: usize,
-    input: &[u8],
 ) -> usize
     requires { RowsFit most_modes rows.old × (length table.now ≤ 3 * most_modes) }
-    ensures { Puts (meant_text rows.old table.now (rule_number rule) heuristic (said most_terms input.now)) out.old out.new result }
+    ensures { Puts (meant_text rows.old table.now (rule_number asks.now.rule) heuristic (said most_terms asks.now.text.now)) out.old out.new result }
 {
     let mut numbers = [0u16; 16384];
-    let found = assign_read(rows, table, rule, heuristic, input, &mut numbers);
+    let found = assign_read(rows, table, asks, heuristic, &mut numbers);
     put_found(out, found, rows)
 }
 
 // The answer printed over the front, in lent room for the tree's rows and its table; how many bytes that is.
 fn print_assign(
-    rule: Rule,
+    asks: &Request,
     tree: &[u8],
     name: &[u8],
-    input: &[u8],
     rows: &mut [u16; 1024],
     table: &mut [u16; 768],
     out: &mut [u8; 16384],
 ) -> usize
-    ensures { Puts (assign_text program_rooms tree.now name.now (request rule input.now)) out.old out.new result }
+    ensures { Puts (assign_text program_rooms tree.now name.now (requested asks.now)) out.old out.new result }
 {
     let heuristic = heuristics::heuristic_of(name);
     match trees::read_tree(tree, rows, table) {
@@ -142,31 +147,19 @@ fn print_assign(
         Ok(modes) => {
             let last = 4 * modes;
             let end = 3 * modes;
-            put_terms(
-                out,
-                &mut rows[..last],
-                &table[..end],
-                rule,
-                heuristic,
-                input,
-            )
+            put_terms(out, &mut rows[..last], &table[..end], asks, heuristic)
         }
     }
 }
 
-// What `assign` prints by this rule for a tree, the name of a heuristic and terms.
-pub fn assign_answer(
-    rule: Rule,
-    tree: &[u8],
-    heuristic: &[u8],
-    input: &[u8],
-) -> Printed<[u8; 16384]>
-    ensures { Prints printed_room (assign_text program_rooms tree.now heuristic.now (request rule input.now)) result }
+// What `assign` prints for what is asked, a tree and the name of a heuristic.
+pub fn assign_answer(asks: &Request, tree: &[u8], heuristic: &[u8]) -> Printed<[u8; 16384]>
+    ensures { Prints printed_room (assign_text program_rooms tree.now heuristic.now (requested asks.now)) result }
 {
     let mut rows = [0u16; 1024];
     let mut table = [0u16; 768];
     Printed::by(
         [0; 16384],
-        |out| print_assign(rule, tree, heuristic, input, &mut rows, &mut table, out),
+        |out| print_assign(asks, tree, heuristic, &mut rows, &mut table, out),
     )
 }

@@ -3,7 +3,7 @@
 
 ghost use Rattle.std.specs.Prelude.{◌≡◌, ◌≤◌, IfOk};
 ghost use Rattle.io.specs.Counts.{IsPrefixLen};
-ghost use Rattle.terms_text.specs.Jobs.{request};
+ghost use Rattle.terms_text.specs.Jobs.{requested};
 ghost use Rattle.text.specs.Running.{printed_room};
 ghost use Rattle.text.specs.Output.{Prints};
 ghost use Rattle.dewgoblin.specs.Commands.{rule_named, journal_command, command_text, terms_command, strings_command};
@@ -16,6 +16,7 @@ use std::rt::{Env, Files};
 use std::{fs, io};
 use steering::reasons;
 use terms::rules::Rule;
+use terms_text::jobs::Request;
 use text::{Printed, journals};
 
 // The starter opens the file on descriptor 3: a journal, merges by hand or a tree.
@@ -45,67 +46,61 @@ fn rule_named(word: &[u8]) -> Rule
 }
 
 // The answer of a command whose file is a journal or merges by hand.
-fn journal_answer(name: &[u8], rule: Rule, input: &[u8], file: &[u8]) -> Printed<[u8; 16384]>
-    ensures { Prints printed_room (journal_command name.now (request rule input.now) file.now) result }
+fn journal_answer(name: &[u8], asks: &Request, file: &[u8]) -> Printed<[u8; 16384]>
+    ensures { Prints printed_room (journal_command name.now (requested asks.now) file.now) result }
 {
     if parts::same_bytes(name, b"resume") {
-        return journals::resume_answer(rule, input, file);
+        return journals::resume_answer(asks, file);
     }
     if parts::same_bytes(name, b"steer") {
-        return steering::steer_answer(rule, input, file);
+        return steering::steer_answer(asks, file);
     }
     if parts::same_bytes(name, b"reason") {
-        return reasons::reason_answer(rule, input, file);
+        return reasons::reason_answer(asks, file);
     }
     if parts::same_bytes(name, b"drops") {
-        return drops_text::drops_answer(rule, input, file);
+        return drops_text::drops_answer(asks, file);
     }
-    journals::continue_answer(rule, input, file)
+    journals::continue_answer(asks, file)
 }
 
 // A command's answer.
-fn answer(name: &[u8], word: &[u8], rule: Rule, input: &[u8], file: &[u8]) -> Printed<[u8; 16384]>
-    ensures { Prints printed_room (command_text name.now word.now (request rule input.now) file.now) result }
+fn answer(name: &[u8], word: &[u8], asks: &Request, file: &[u8]) -> Printed<[u8; 16384]>
+    ensures { Prints printed_room (command_text name.now word.now (requested asks.now) file.now) result }
 {
     if parts::same_bytes(name, b"check") {
         return tree_text::check_answer(file);
     }
     if parts::same_bytes(name, b"weigh") {
-        return tree_text::weigh_answer(file, input);
+        return tree_text::weigh_answer(file, asks.text);
     }
     if parts::same_bytes(name, b"assign") {
-        return assign_text::assign_answer(rule, file, word, input);
+        return assign_text::assign_answer(asks, file, word);
     }
     if parts::same_bytes(name, b"letters") {
-        return letters_text::letters_answer(rule, input, file, word);
+        return letters_text::letters_answer(asks, file, word);
     }
-    journal_answer(name, rule, input, file)
+    journal_answer(name, asks, file)
 }
 
 // The answer of a command that may be for terms alone: `best` reads no file and asks for no rule.
-fn terms_answer(
-    name: &[u8],
-    word: &[u8],
-    rule: Rule,
-    input: &[u8],
-    file: &[u8],
-) -> Printed<[u8; 16384]>
-    ensures { Prints printed_room (terms_command name.now word.now (request rule input.now) file.now) result }
+fn terms_answer(name: &[u8], word: &[u8], asks: &Request, file: &[u8]) -> Printed<[u8; 16384]>
+    ensures { Prints printed_room (terms_command name.now word.now (requested asks.now) file.now) result }
 {
     if parts::same_bytes(name, b"best") {
-        return best_text::best_answer(input);
+        return best_text::best_answer(asks.text);
     }
-    answer(name, word, rule, input, file)
+    answer(name, word, asks, file)
 }
 
 // The answer of a command that prints strings.
-fn strings_answer(name: &[u8], rule: Rule, input: &[u8], file: &[u8]) -> Printed<[u8; 133522]>
-    ensures { Prints strings_room (strings_command name.now (request rule input.now) file.now) result }
+fn strings_answer(name: &[u8], asks: &Request, file: &[u8]) -> Printed<[u8; 133522]>
+    ensures { Prints strings_room (strings_command name.now (requested asks.now) file.now) result }
 {
     if parts::same_bytes(name, b"strings") {
         return strings_text::tree_strings_answer(file);
     }
-    strings_text::hatt_strings_answer(rule, input)
+    strings_text::hatt_strings_answer(asks)
 }
 
 // An answer may be empty: the full stop tells it from none.
@@ -121,40 +116,32 @@ fn give_answer<W: Write>(
     out: &mut W,
     name: &[u8],
     word: &[u8],
-    rule: Rule,
-    input: &[u8],
+    asks: &Request,
     file: &[u8],
 ) -> io::Result<()> {
-    write_answer(out, &terms_answer(name, word, rule, input, file))
+    write_answer(out, &terms_answer(name, word, asks, file))
 }
 
 // The same of a command that prints strings.
-fn give_strings<W: Write>(
-    out: &mut W,
-    name: &[u8],
-    rule: Rule,
-    input: &[u8],
-    file: &[u8],
-) -> io::Result<()> {
-    write_answer(out, &strings_answer(name, rule, input, file))
+fn give_strings<W: Write>(out: &mut W, name: &[u8], asks: &Request, file: &[u8]) -> io::Result<()> {
+    write_answer(out, &strings_answer(name, asks, file))
 }
 
-// A command by its name, its other word and its rule, for what was read.
+// A command by its name and its other word, for what is asked and the file that was read.
 fn give<W: Write>(
     out: &mut W,
     name: &[u8],
     word: &[u8],
-    rule: Rule,
-    input: &[u8],
+    asks: &Request,
     file: &[u8],
 ) -> io::Result<()> {
     if parts::same_bytes(name, b"strings") {
-        return give_strings(out, name, rule, input, file);
+        return give_strings(out, name, asks, file);
     }
     if parts::same_bytes(name, b"hatt_strings") {
-        return give_strings(out, name, rule, input, file);
+        return give_strings(out, name, asks, file);
     }
-    give_answer(out, name, word, rule, input, file)
+    give_answer(out, name, word, asks, file)
 }
 
 // A command by its name, its other word and its rule's, for the terms on standard input, in lent room for its file. One whose file failed says nothing, and its starter says why.
@@ -169,8 +156,11 @@ fn give_read(
     let Ok(kept) = read_file(rt, name, file) else {
         return Ok(());
     };
-    let rule = rule_named(last);
-    give(&mut rt.stdout(), name, word, rule, input, &file[..kept])
+    let asks = Request {
+        rule: rule_named(last),
+        text: input,
+    };
+    give(&mut rt.stdout(), name, word, &asks, &file[..kept])
 }
 
 fn main(rt: HostRuntime) -> io::Result<()> {

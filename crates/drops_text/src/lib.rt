@@ -4,14 +4,14 @@
 ghost use Rattle.std.specs.Prelude.{◌≡◌, ◌+◌, ◌≤◌, ◌<◌, length};
 ghost use Rattle.lists.specs.Written.{written_at};
 ghost use Rattle.entities.specs.Limits.{most_modes};
-ghost use Rattle.terms_text.specs.Jobs.{request};
+ghost use Rattle.terms_text.specs.Jobs.{requested};
 ghost use Rattle.text.specs.Running.{program_rooms, printed_room};
 ghost use Rattle.text.specs.Output.{Prints};
 ghost use Rattle.text.specs.code.Printing.{Puts};
 ghost use Rattle.drops_text.specs.Dropping.{drop_line, drop_lines, drops_text};
 
 use fields::decimal;
-use terms::rules::Rule;
+use terms_text::jobs::Request;
 use text::{Printed, output, running};
 
 // A step's line written at this place; the place after it.
@@ -38,17 +38,16 @@ fn put_drops(drops: &[u16], out: &mut [u8; 16384]) -> usize
 
 // The lines of the run that a journal leads to, or its refusal, printed over the front, in lent room for what the run writes.
 fn print_drops(
-    rule: Rule,
-    input: &[u8],
+    asks: &Request,
     read: &[u8],
     rows: &mut [u16; 1024],
     journal: &mut [u8; 5392],
     drops: &mut [u16; 256],
     out: &mut [u8; 16384],
 ) -> usize
-    ensures { Puts (drops_text program_rooms (request rule input.now) read.now) out.old out.new result }
+    ensures { Puts (drops_text program_rooms (requested asks.now) read.now) out.old out.new result }
 {
-    match running::run_drops(rule, input, read, rows, journal, drops) {
+    match running::run_drops(asks, read, rows, journal, drops) {
         Err(refusal) => output::put_refusal(out, refusal),
         Ok(run) => {
             let end = run.modes;
@@ -57,15 +56,15 @@ fn print_drops(
     }
 }
 
-// How many terms each step of the run drops that a journal leads to, for a text's terms and this rule.
-pub fn drops_answer(rule: Rule, input: &[u8], read: &[u8]) -> Printed<[u8; 16384]>
-    ensures { Prints printed_room (drops_text program_rooms (request rule input.now) read.now) result }
+// How many terms each step of the run drops that a journal leads to, for what is asked.
+pub fn drops_answer(asks: &Request, read: &[u8]) -> Printed<[u8; 16384]>
+    ensures { Prints printed_room (drops_text program_rooms (requested asks.now) read.now) result }
 {
     let mut rows = [0u16; 1024];
     let mut journal = [0u8; 5392];
     let mut drops = [0u16; 256];
     Printed::by(
         [0; 16384],
-        |out| print_drops(rule, input, read, &mut rows, &mut journal, &mut drops, out),
+        |out| print_drops(asks, read, &mut rows, &mut journal, &mut drops, out),
     )
 }

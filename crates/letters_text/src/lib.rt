@@ -8,7 +8,7 @@ ghost use Rattle.terms.specs.Good.{checked};
 ghost use Rattle.terms.specs.code.Held.{Spread};
 ghost use Rattle.merging.specs.code.State.{history_of};
 ghost use Rattle.obeying.specs.Obeying.{obeyed};
-ghost use Rattle.terms_text.specs.Jobs.{request};
+ghost use Rattle.terms_text.specs.Jobs.{requested};
 ghost use Rattle.text.specs.Running.{program_rooms, printed_room};
 ghost use Rattle.text.specs.Output.{Prints};
 ghost use Rattle.text.specs.code.Printing.{Puts};
@@ -22,6 +22,7 @@ use terms::job::JobSize;
 use terms::rules::Rule;
 use terms::{counted, row};
 use terms_text::jobs;
+use terms_text::jobs::Request;
 use text::{Printed, output};
 
 mod replay;
@@ -85,18 +86,17 @@ fn letters_job(
     letters_own(size, &mut own, &mut again, read, word, out)
 }
 
-// The same for a text's terms, in lent room for their numbers.
+// The letters for the terms that are asked for, in lent room for their numbers.
 fn print_letters(
-    rule: Rule,
-    input: &[u8],
+    asks: &Request,
     read: &[u8],
     word: &[u8],
     numbers: &mut [u16; 16384],
     out: &mut [u8; 16384],
 ) -> usize
-    ensures { Puts (letters_text program_rooms (request rule input.now) read.now word.now) out.old out.new result }
+    ensures { Puts (letters_text program_rooms (requested asks.now) read.now word.now) out.old out.new result }
 {
-    match jobs::read_job(rule, input, numbers) {
+    match jobs::read_job(asks, numbers) {
         Err(why) => output::put_refusal(out, why),
         Ok(size) => {
             let end = row::WIDTH * size.count;
@@ -105,13 +105,13 @@ fn print_letters(
     }
 }
 
-// The letters of a step of the run that a journal leads to, for a text's terms and this rule.
-pub fn letters_answer(rule: Rule, input: &[u8], read: &[u8], step: &[u8]) -> Printed<[u8; 16384]>
-    ensures { Prints printed_room (letters_text program_rooms (request rule input.now) read.now step.now) result }
+// The letters of a step of the run that a journal leads to, for what is asked.
+pub fn letters_answer(asks: &Request, read: &[u8], step: &[u8]) -> Printed<[u8; 16384]>
+    ensures { Prints printed_room (letters_text program_rooms (requested asks.now) read.now step.now) result }
 {
     let mut numbers = [0u16; 16384];
     Printed::by(
         [0; 16384],
-        |out| print_letters(rule, input, read, step, &mut numbers, out),
+        |out| print_letters(asks, read, step, &mut numbers, out),
     )
 }

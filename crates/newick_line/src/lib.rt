@@ -15,6 +15,7 @@ ghost use Rattle.text.specs.code.Printing.{Puts};
 use newick::writing;
 use refusal::Refusal;
 use terms::rules::Rule;
+use terms_text::jobs::Request;
 use text::{Printed, output};
 
 // A tree's text written over the front, with room for a byte behind it.
@@ -42,7 +43,11 @@ fn put_line(out: &mut [u8; 16384], modes: usize, tree: &[u16]) -> usize
 fn print_newick(input: &[u8], table: &mut [u16; 768], out: &mut [u8; 16384]) -> usize
     ensures { Puts (newick_answer_text program_rooms input.now) out.old out.new result }
 {
-    match ran_tree::run_tree(Rule::Published, input, table) {
+    let asks = Request {
+        rule: Rule::Published,
+        text: input,
+    };
+    match ran_tree::run_tree(&asks, table) {
         Err(refusal) => output::put_refusal(out, refusal),
         Ok(modes) => {
             let end = 3 * modes;

@@ -3,36 +3,35 @@
 
 ghost use Rattle.std.specs.Prelude.{[]};
 ghost use Rattle.entities.specs.Limits.{most_modes};
-ghost use Rattle.terms_text.specs.Jobs.{request};
+ghost use Rattle.terms_text.specs.Jobs.{requested};
 ghost use Rattle.text.specs.Running.{program_rooms, ran};
 ghost use Rattle.ran_tree.specs.code.Ending.{EndsIn};
 
 use refusal::Refusal;
-use terms::rules::Rule;
+use terms_text::jobs::Request;
 use text::running;
 use tree::laying;
 
-// Runs by `rule` what a text asks for, in lent room for its rows and its journal, and lays its tree out in the front of a lent table.
+// Makes the run that is asked for, in lent room for its rows and its journal, and lays its tree out in the front of a lent table.
 fn grow(
-    rule: Rule,
-    input: &[u8],
+    asks: &Request,
     rows: &mut [u16; 1024],
     journal: &mut [u8; 5392],
     table: &mut [u16; 768],
 ) -> Result<usize, Refusal>
-    ensures { EndsIn most_modes (ran program_rooms (request rule input.now) []) table.new result }
+    ensures { EndsIn most_modes (ran program_rooms (requested asks.now) []) table.new result }
 {
-    let run = running::run_text(rule, input, b"", rows, journal)?;
+    let run = running::run_text(asks, b"", rows, journal)?;
     let end = 4 * run.modes;
     laying::lay_front(&rows[..end], table);
     Ok(run.modes)
 }
 
-// Grows the tree of a text's run by `rule` in the front of a lent table, with rows and a journal of its own.
-pub fn run_tree(rule: Rule, input: &[u8], table: &mut [u16; 768]) -> Result<usize, Refusal>
-    ensures { EndsIn most_modes (ran program_rooms (request rule input.now) []) table.new result }
+// Grows the tree of the run that is asked for in the front of a lent table, with rows and a journal of its own.
+pub fn run_tree(asks: &Request<'_>, table: &mut [u16; 768]) -> Result<usize, Refusal>
+    ensures { EndsIn most_modes (ran program_rooms (requested asks.now) []) table.new result }
 {
     let mut rows = [0u16; 1024];
     let mut journal = [0u8; 5392];
-    grow(rule, input, &mut rows, &mut journal, table)
+    grow(asks, &mut rows, &mut journal, table)
 }

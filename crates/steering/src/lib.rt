@@ -8,7 +8,7 @@ ghost use Rattle.terms.specs.code.Held.{Spread};
 ghost use Rattle.merging.specs.code.State.{history_of};
 ghost use Rattle.merging.specs.code.Runs.{Holds};
 ghost use Rattle.obeying.specs.Obeying.{went, obeyed_by_hand};
-ghost use Rattle.terms_text.specs.Jobs.{request};
+ghost use Rattle.terms_text.specs.Jobs.{requested};
 ghost use Rattle.text.specs.Running.{program_rooms, printed_room};
 ghost use Rattle.text.specs.Output.{Prints};
 ghost use Rattle.text.specs.code.Printing.{Puts};
@@ -23,6 +23,7 @@ use terms::job::JobSize;
 use terms::rules::Rule;
 use terms::{counted, row};
 use terms_text::jobs;
+use terms_text::jobs::Request;
 use text::{Printed, output};
 
 pub mod reasons;
@@ -50,17 +51,16 @@ fn steer_job(size: JobSize, rows: &mut [u16], merges: &[u8], out: &mut [u8; 1638
     }
 }
 
-// The same for a text's terms, in lent room for their numbers.
+// Merges by hand obeyed on the terms that are asked for, in lent room for their numbers.
 fn print_steered(
-    rule: Rule,
-    input: &[u8],
+    asks: &Request,
     merges: &[u8],
     numbers: &mut [u16; 16384],
     out: &mut [u8; 16384],
 ) -> usize
-    ensures { Puts (steer_text program_rooms (request rule input.now) merges.now) out.old out.new result }
+    ensures { Puts (steer_text program_rooms (requested asks.now) merges.now) out.old out.new result }
 {
-    match jobs::read_job(rule, input, numbers) {
+    match jobs::read_job(asks, numbers) {
         Err(why) => output::put_refusal(out, why),
         Ok(size) => {
             let end = row::WIDTH * size.count;
@@ -70,13 +70,13 @@ fn print_steered(
     }
 }
 
-// The journal of merges by hand, for a text's terms and this rule.
-pub fn steer_answer(rule: Rule, input: &[u8], merges: &[u8]) -> Printed<[u8; 16384]>
-    ensures { Prints printed_room (steer_text program_rooms (request rule input.now) merges.now) result }
+// The journal of merges by hand, for what is asked.
+pub fn steer_answer(asks: &Request, merges: &[u8]) -> Printed<[u8; 16384]>
+    ensures { Prints printed_room (steer_text program_rooms (requested asks.now) merges.now) result }
 {
     let mut numbers = [0u16; 16384];
     Printed::by(
         [0; 16384],
-        |out| print_steered(rule, input, merges, &mut numbers, out),
+        |out| print_steered(asks, merges, &mut numbers, out),
     )
 }

@@ -7,7 +7,7 @@ ghost use Rattle.terms.specs.code.Held.{Spread};
 ghost use Rattle.merging.specs.code.State.{history_of};
 ghost use Rattle.merging.specs.code.Runs.{Holds};
 ghost use Rattle.obeying.specs.Obeying.{refused, obeyed};
-ghost use Rattle.terms_text.specs.Jobs.{request};
+ghost use Rattle.terms_text.specs.Jobs.{requested};
 ghost use Rattle.text.specs.Running.{program_rooms, printed_room};
 ghost use Rattle.text.specs.Output.{Prints};
 ghost use Rattle.text.specs.code.Printing.{Puts};
@@ -23,6 +23,7 @@ use terms::job::JobSize;
 use terms::rules::Rule;
 use terms::{counted, row};
 use terms_text::jobs;
+use terms_text::jobs::Request;
 use text::{Printed, output};
 
 // The first of x, y and z that isn't open.
@@ -80,17 +81,16 @@ fn reason_job(size: JobSize, rows: &mut [u16], read: &[u8], out: &mut [u8; 16384
     }
 }
 
-// The same for a text's terms, in lent room for their numbers.
+// A journal obeyed on the terms that are asked for, in lent room for their numbers.
 fn print_reason(
-    rule: Rule,
-    input: &[u8],
+    asks: &Request,
     read: &[u8],
     numbers: &mut [u16; 16384],
     out: &mut [u8; 16384],
 ) -> usize
-    ensures { Puts (reason_text program_rooms (request rule input.now) read.now) out.old out.new result }
+    ensures { Puts (reason_text program_rooms (requested asks.now) read.now) out.old out.new result }
 {
-    match jobs::read_job(rule, input, numbers) {
+    match jobs::read_job(asks, numbers) {
         Err(_) => 0,
         Ok(size) => {
             let end = row::WIDTH * size.count;
@@ -100,13 +100,13 @@ fn print_reason(
     }
 }
 
-// What the refused line of the journal that is read lacks, for a text's terms and this rule.
-pub fn reason_answer(rule: Rule, input: &[u8], read: &[u8]) -> Printed<[u8; 16384]>
-    ensures { Prints printed_room (reason_text program_rooms (request rule input.now) read.now) result }
+// What the refused line of the journal that is read lacks, for what is asked.
+pub fn reason_answer(asks: &Request, read: &[u8]) -> Printed<[u8; 16384]>
+    ensures { Prints printed_room (reason_text program_rooms (requested asks.now) read.now) result }
 {
     let mut numbers = [0u16; 16384];
     Printed::by(
         [0; 16384],
-        |out| print_reason(rule, input, read, &mut numbers, out),
+        |out| print_reason(asks, read, &mut numbers, out),
     )
 }

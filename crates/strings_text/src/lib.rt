@@ -3,7 +3,7 @@
 
 ghost use Rattle.std.specs.Prelude.{IfOk, ◌≤◌};
 ghost use Rattle.entities.specs.Limits.{most_modes};
-ghost use Rattle.terms_text.specs.Jobs.{request};
+ghost use Rattle.terms_text.specs.Jobs.{requested};
 ghost use Rattle.text.specs.Running.{program_rooms};
 ghost use Rattle.text.specs.Output.{Prints};
 ghost use Rattle.text.specs.code.Printing.{Puts};
@@ -11,7 +11,7 @@ ghost use Rattle.strings_text.specs.Printing.{table_strings, hatt_strings_text, 
 ghost use Rattle.strings_text.specs.code.Reading.{read_strings};
 
 use refusal::Refusal;
-use terms::rules::Rule;
+use terms_text::jobs::Request;
 use text::{Printed, output};
 use tree_text::trees;
 
@@ -39,13 +39,26 @@ fn put_read(out: &mut [u8; 133522], read: Result<usize, Refusal>, table: &[u16; 
     }
 }
 
-// The strings of the tree that HATT builds by this rule of a text's terms.
-pub fn hatt_strings_answer(rule: Rule, input: &[u8]) -> Printed<[u8; 133522]>
-    ensures { Prints strings_room (hatt_strings_text program_rooms (request rule input.now)) result }
+// The same over zeros: where they stay, since `Printed::by` would hold so large an array twice.
+fn print_read(read: Result<usize, Refusal>, table: &[u16; 768]) -> Printed<[u8; 133522]>
+    requires { IfOk read (λ modes. modes ≤ most_modes) }
+    ensures { Prints strings_room (read_strings read table.now) result }
+{
+    let mut printed = Printed {
+        bytes: [0; 133522],
+        count: 0,
+    };
+    printed.count = put_read(&mut printed.bytes, read, table);
+    printed
+}
+
+// The strings of the tree that HATT builds for what is asked.
+pub fn hatt_strings_answer(asks: &Request) -> Printed<[u8; 133522]>
+    ensures { Prints strings_room (hatt_strings_text program_rooms (requested asks.now)) result }
 {
     let mut table = [0u16; 768];
-    let read = ran_tree::run_tree(rule, input, &mut table);
-    Printed::by([0; 133522], |out| put_read(out, read, &table))
+    let read = ran_tree::run_tree(asks, &mut table);
+    print_read(read, &table)
 }
 
 // The strings of a tree's text.
@@ -55,5 +68,5 @@ pub fn tree_strings_answer(tree: &[u8]) -> Printed<[u8; 133522]>
     let mut rows = [0u16; 1024];
     let mut table = [0u16; 768];
     let read = trees::read_tree(tree, &mut rows, &mut table);
-    Printed::by([0; 133522], |out| put_read(out, read, &table))
+    print_read(read, &table)
 }

@@ -5,6 +5,7 @@ use Rattle.refusal.specs.declared.Refusal.TheVariants.{Modes, Malformed}
 use Rattle.terms.specs.declared.rules.Rule.{Rule}
 use Rattle.terms.specs.Job.{Job, job_of}
 use Rattle.terms.specs.Good.{modes_good, checked}
+use Rattle.terms_text.specs.declared.jobs.Request.{Request as Asked}
 use Rattle.terms_text.specs.Input.{Said, given, malformed, said}
 
 -- What a command is asked for: the rule that it names, and the text of its terms.
@@ -14,6 +15,10 @@ pub record Request : Type 0 where
 
 abbrev pub request : Rule → List ℕ → Request
 request rule text = record { rule = rule; text = text }
+
+-- The request that the code's own record holds.
+abbrev pub requested : Asked → Request
+requested asks = request asks.rule asks.text.now
 
 -- A job, or why the text or its terms are refused.
 pub data JobSaid : Type 0 where

@@ -10,6 +10,7 @@ ghost use Rattle.text.specs.Output.{answer_text, Prints};
 use std::io;
 use std::io::Write;
 use terms::rules::Rule;
+use terms_text::jobs::Request;
 
 pub mod journals;
 pub mod output;
@@ -48,5 +49,9 @@ impl<const N: usize> Printed<[u8; N]> {
 pub fn answer(input: &[u8]) -> Printed<[u8; 16384]>
     ensures { Prints printed_room (answer_text program_rooms input.now) result }
 {
-    journals::resume_answer(Rule::Published, input, b"")
+    let asks = Request {
+        rule: Rule::Published,
+        text: input,
+    };
+    journals::resume_answer(&asks, b"")
 }

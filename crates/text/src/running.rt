@@ -2,13 +2,14 @@
 ghost use Rattle.std.specs.Prelude.{◌≡◌};
 ghost use Rattle.entities.specs.Limits.{most_modes};
 ghost use Rattle.terms_text.specs.Input.{given};
-ghost use Rattle.terms_text.specs.Jobs.{request};
+ghost use Rattle.terms_text.specs.Jobs.{requested};
 ghost use Rattle.text.specs.code.Runs.{lent, Runs, drops_then};
 ghost use Rattle.text.specs.Running.{program_rooms, ran_by, ran};
 
 use journal::resuming;
 use refusal::Refusal;
 use terms::rules::Rule;
+use terms_text::jobs::Request;
 
 // A run that is done: its modes, greedy weight and trials, and how many bytes its new lines have.
 #[derive(Clone, Copy)]
@@ -70,25 +71,24 @@ fn run_given(
     run_terms(modes, rule, numbers, read, &mut work, rows, journal, drops)
 }
 
-// The run by this rule that a text asks for, in lent room for its terms.
+// The run that is asked for, in lent room for its terms.
 fn run_read(
-    rule: Rule,
-    input: &[u8],
+    asks: &Request,
     read: &[u8],
     numbers: &mut [u16; 16384],
     rows: &mut [u16; 1024],
     journal: &mut [u8; 5392],
     drops: &mut [u16; 256],
 ) -> Result<Run, Refusal>
-    ensures runs { Runs most_modes (ran program_rooms (request rule input.now) read.now)
+    ensures runs { Runs most_modes (ran program_rooms (requested asks.now) read.now)
         (lent rows.old journal.old) (lent rows.new journal.new) result }
-    ensures drops_after { drops.new ≡ drops_then (ran program_rooms (request rule input.now) read.now) drops.old }
+    ensures drops_after { drops.new ≡ drops_then (ran program_rooms (requested asks.now) read.now) drops.old }
 {
-    let given = terms_text::read_input(input, numbers)?;
+    let given = terms_text::read_input(asks.text, numbers)?;
     let end = 8 * given.count;
     run_given(
         given.modes,
-        rule,
+        asks.rule,
         &numbers[..end],
         read,
         rows,
@@ -97,34 +97,32 @@ fn run_read(
     )
 }
 
-// The run by this rule that a text asks for, resumed from the journal that is read: its rows, its new lines and its drops put over the fronts of what is lent.
+// The run that is asked for, resumed from the journal that is read: its rows, its new lines and its drops put over the fronts of what is lent.
 pub fn run_drops(
-    rule: Rule,
-    input: &[u8],
+    asks: &Request,
     read: &[u8],
     rows: &mut [u16; 1024],
     journal: &mut [u8; 5392],
     drops: &mut [u16; 256],
 ) -> Result<Run, Refusal>
-    ensures runs { Runs most_modes (ran program_rooms (request rule input.now) read.now)
+    ensures runs { Runs most_modes (ran program_rooms (requested asks.now) read.now)
         (lent rows.old journal.old) (lent rows.new journal.new) result }
-    ensures drops_after { drops.new ≡ drops_then (ran program_rooms (request rule input.now) read.now) drops.old }
+    ensures drops_after { drops.new ≡ drops_then (ran program_rooms (requested asks.now) read.now) drops.old }
 {
     let mut numbers = [0u16; 16384];
-    run_read(rule, input, read, &mut numbers, rows, journal, drops)
+    run_read(asks, read, &mut numbers, rows, journal, drops)
 }
 
-// The same for whoever has no use for the drops.
+// The run that is asked for, for whoever has no use for the drops.
 pub fn run_text(
-    rule: Rule,
-    input: &[u8],
+    asks: &Request,
     read: &[u8],
     rows: &mut [u16; 1024],
     journal: &mut [u8; 5392],
 ) -> Result<Run, Refusal>
-    ensures { Runs most_modes (ran program_rooms (request rule input.now) read.now)
+    ensures { Runs most_modes (ran program_rooms (requested asks.now) read.now)
         (lent rows.old journal.old) (lent rows.new journal.new) result }
 {
     let mut drops = [0u16; 256];
-    run_drops(rule, input, read, rows, journal, &mut drops)
+    run_drops(asks, read, rows, journal, &mut drops)
 }

@@ -23,10 +23,10 @@ unfolding found_text
 returns-in_err-given c =
     let args = c.args in
     rw (handed_on c.from_residual.ensures)
-    (terms_refused (rule_number args.rule) args.heuristic args.rows.now args.table.now _ _ c.in_err-given.ensures)
+    (terms_refused (rule_number args.asks.now.rule) args.heuristic args.rows.now args.table.now _ _ c.in_err-given.ensures)
 
 pub returns : goal.returns
 returns c =
     let args = c.args in
     c.assign_given.ensures
-    ∙ ap (meant_text args.rows.now args.table.now (rule_number args.rule) args.heuristic) (sym c.in_ok-given.ensures.says)
+    ∙ ap (meant_text args.rows.now args.table.now (rule_number args.asks.now.rule) args.heuristic) (sym c.in_ok-given.ensures.says)

@@ -4,7 +4,7 @@ use Prim.Native.Nat.{◌*◌, ◌≤◌}
 use native.Mathlib.Omega.{arith}
 use lib.ListN.{length}
 use lib.Seq.{length-take-le}
-use Rattle.terms_text.specs.Jobs.{request}
+use Rattle.terms_text.specs.Jobs.{requested}
 use Rattle.tree_text.proofs.TreeLaid.{rows_fit}
 use Rattle.assign_text.proofs.AssignmentPrinted.{assign_malformed, assign_read}
 use Rattle.assign_text.proofs.print_assign.Goals as goal
@@ -36,10 +36,10 @@ put_terms-requires c =
 pub returns-in-Err : goal.returns-in-Err
 returns-in-Err c =
     let args = c.args in
-    rw (assign_malformed args.tree.now args.name.now (request args.rule args.input.now) _ c.in-Err.ensures) c.put_refusal.ensures
+    rw (assign_malformed args.tree.now args.name.now (requested args.asks.now) _ c.in-Err.ensures) c.put_refusal.ensures
 
 pub returns-in-Ok : goal.returns-in-Ok
 returns-in-Ok c =
     let args = c.args in
-    rw (assign_read args.tree.now args.name.now (request args.rule args.input.now) c.in-Ok.ensures _ _ refl c.heuristic_of-heuristic.ensures) at
+    rw (assign_read args.tree.now args.name.now (requested args.asks.now) c.in-Ok.ensures _ _ refl c.heuristic_of-heuristic.ensures) at
     c.put_terms.ensures

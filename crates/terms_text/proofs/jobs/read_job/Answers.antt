@@ -5,7 +5,7 @@ use native.Mathlib.Omega.{arith}
 use lib.ListN.{length}
 use lib.Seq.{length-take-le}
 use Rattle.refusal.proofs.Told.{handed_on}
-use Rattle.terms_text.specs.Jobs.{request, job_by, job_said}
+use Rattle.terms_text.specs.Jobs.{requested, job_by, job_said}
 use Rattle.terms_text.proofs.JobsRead.{reads_front}
 use Rattle.terms_text.proofs.jobs.read_job.Goals as goal
 use Rattle.terms_text.proofs.jobs.read_job.Goals.{In_ok-given}
@@ -26,4 +26,4 @@ returns-in_err-given c =
 pub returns : goal.returns
 unfolding job_said
 returns c =
-    reads_front (job_said 256 2048 (request c.args.rule c.args.text.now)) _ _ _ (room (goal.at.returns c).In_ok-given) (rw (sym c.in_ok-given.ensures.says) at c.count_job.ensures)
+    reads_front (job_said 256 2048 (requested c.args.asks.now)) _ _ _ (room (goal.at.returns c).In_ok-given) (rw (sym c.in_ok-given.ensures.says) at c.count_job.ensures)

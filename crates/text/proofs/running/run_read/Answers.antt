@@ -22,11 +22,11 @@ pub returns-in_err-given : goal.returns-in_err-given
 unfolding drops_then
 returns-in_err-given c =
     let args = c.args in
-    let is = malformed_ran 2048 args.input.now c.read_input.new.numbers program_rooms args.rule args.read.now refl _ c.in_err-given.ensures in
+    let is = malformed_ran 2048 args.asks.now.text.now c.read_input.new.numbers program_rooms args.asks.now.rule args.read.now refl _ c.in_err-given.ensures in
     rw (handed_on c.from_residual.ensures) (record { runs = record { is = is; leaves = refl }; drops_after = rw is })
 
 pub returns : goal.returns
 returns c =
     let args = c.args in
-    rw (given_ran 2048 args.input.now c.read_input.new.numbers program_rooms args.rule args.read.now refl _ c.in_ok-given.ensures) at
+    rw (given_ran 2048 args.asks.now.text.now c.read_input.new.numbers program_rooms args.asks.now.rule args.read.now refl _ c.in_ok-given.ensures) at
     c.run_given.ensures
