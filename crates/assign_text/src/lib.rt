@@ -77,7 +77,7 @@ fn assign_given(
     )
 }
 
-// The same for what is asked, in lent room for its numbers.
+// The assignment for what is asked, in lent room for its numbers.
 fn assign_read(
     rows: &mut [u16],
     table: &[u16],

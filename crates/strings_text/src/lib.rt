@@ -39,7 +39,7 @@ fn put_read(out: &mut [u8; 133522], read: Result<usize, Refusal>, table: &[u16; 
     }
 }
 
-// The same over zeros: where they stay, since `Printed::by` would hold so large an array twice.
+// What `put_read` puts over zeros; `Printed::by` would hold so large an array twice.
 fn print_read(read: Result<usize, Refusal>, table: &[u16; 768]) -> Printed<[u8; 133522]>
     requires { IfOk read (λ modes. modes ≤ most_modes) }
     ensures { Prints strings_room (read_strings read table.now) result }
