@@ -1,6 +1,6 @@
 // The rules of reduction: which rows it drops.
 ghost use Rattle.std.specs.Prelude.{◌≡◌};
-ghost use Rattle.terms.specs.Rules.{rule_number, RuleSaid};
+ghost use Rattle.terms.specs.Rules.{rule_number, rule_of, RuleSaid};
 
 use refusal::Refusal;
 
@@ -21,6 +21,17 @@ impl From<Rule> for usize {
             Rule::Published => 0,
             Rule::Keep => 1,
         }
+    }
+}
+
+// The rule of a number that has one; a number that has none is taken for the keeping rule's.
+#[tactic(auto, unfolding(crate::specs::Rules::rule_of))]
+pub fn rule_of(number: usize) -> Rule
+    ensures { result ≡ rule_of number }
+{
+    match number {
+        0 => Rule::Published,
+        _ => Rule::Keep,
     }
 }
 

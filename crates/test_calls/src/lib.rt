@@ -10,7 +10,7 @@ use journal::resuming;
 use newick::{reading, writing};
 use refusal::Refusal;
 use terms::rules::Rule;
-use terms::{checking, counted, row, weight};
+use terms::{checking, counted, row, rules, weight};
 
 // The terms put as work rows over the lent rows, each standing for itself; the triple weighed in them, and they reduced to its parent by the rule of this number. The refusal of the terms follows, the weight, and how many terms were dropped.
 #[unsafe(no_mangle)]
@@ -32,11 +32,7 @@ pub extern "C" fn test_merge(
                 terms,
                 count,
                 rows,
-                if rule == 0 {
-                    Rule::Published
-                } else {
-                    Rule::Keep
-                },
+                rules::rule_of(rule),
                 triple,
                 parent,
                 answer,
