@@ -1,6 +1,6 @@
 -- What is known of a job that was read, or of its refusal.
 use Rattle.std.specs.Prelude.{Err, Ok, Result}
-use mathlib.Core.Path.{◌≡◌, refl, ap}
+use mathlib.Core.Path.{◌≡◌, refl, ap, ◌∙◌}
 use mathlib.Core.List.{List}
 use Prim.Native.Nat.{ℕ, ◌*◌, ◌≤◌}
 use native.Mathlib.Omega.{arith}
@@ -14,8 +14,8 @@ use Rattle.terms.specs.declared.rules.Rule.{Rule}
 use Rattle.terms.specs.declared.job.JobSize.{JobSize}
 use Rattle.terms.proofs.GoodTerms.{accepted}
 use Rattle.terms_text.specs.Input.{Said, given, malformed, said}
-use Rattle.terms_text.specs.Jobs.{Request, JobSaid, no_job, counted, job_with, job_by, job_said}
-use Rattle.terms_text.specs.code.JobsRead.{JobRead, ReadsJob}
+use Rattle.terms_text.specs.Jobs.{Request, request, JobSaid, a_job, no_job, counted, job_with, job_by, job_said}
+use Rattle.terms_text.specs.code.JobsRead.{JobRead, ReadsJob, ReadsJobBy}
 use Rattle.terms_text.proofs.JobCounted.{counted_good, counted_refusal}
 
 module _ (rule : Rule) (modes : ℕ) (numbers : List ℕ) where
@@ -49,6 +49,27 @@ reads_front meant numbers end (Ok read) within known =
       is = rw same at known.is;
     }
 reads_front meant numbers end (Err why) within known = known
+
+-- A text's job by another rule differs in the rule alone, and its refusal not at all.
+ruled : Rule → JobSaid → JobSaid
+ruled rule (a_job job) = a_job (record { modes = job.modes; rule = rule; terms = job.terms })
+ruled rule (no_job why) = no_job why
+
+job_ruled : (most : ℕ) (rule other : Rule) (says : Said) → job_by most other says ≡ ruled other (job_by most rule says)
+unfolding job_by job_with ruled
+job_ruled most rule other (given modes numbers) = go (counted most modes numbers)
+  where
+    go : (found : Result ℕ Refusal) → job_with modes other numbers found ≡ ruled other (job_with modes rule numbers found)
+    go (Ok count) = refl
+    go (Err why) = refl
+job_ruled most rule other (malformed line) = refl
+
+-- So what is read by one rule is read by any.
+pub reads_by_any : (asks : Request) (numbers : List ℕ) (r : Result JobSize Refusal) → ReadsJob (job_said most_modes 2048 asks) numbers r
+    → (rule : Rule) → ReadsJobBy rule (job_said most_modes 2048 (request rule asks.text)) numbers r
+unfolding job_said ruled
+reads_by_any asks numbers (Ok size) known rule = job_ruled most_modes asks.rule rule (said 2048 asks.text) ∙ ap (ruled rule) known.is
+reads_by_any asks numbers (Err why) known rule = job_ruled most_modes asks.rule rule (said 2048 asks.text) ∙ ap (ruled rule) known
 
 -- A text and its terms are refused by 18, or by 1 to 4: never by 5.
 pub job_not_five : (most most_terms : ℕ) (asks : Request) (why : Refusal) → job_said most most_terms asks ≡ no_job why → number_of why ≡ 5 → ⊥

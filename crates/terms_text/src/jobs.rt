@@ -2,8 +2,8 @@
 ghost use Rattle.std.specs.Prelude.{◌≡◌};
 ghost use Rattle.entities.specs.Limits.{most_modes, most_terms};
 ghost use Rattle.terms_text.specs.Input.{given};
-ghost use Rattle.terms_text.specs.Jobs.{requested, counted, job_by, job_said};
-ghost use Rattle.terms_text.specs.code.JobsRead.{ReadsJob};
+ghost use Rattle.terms_text.specs.Jobs.{request, requested, counted, job_by, job_said};
+ghost use Rattle.terms_text.specs.code.JobsRead.{ReadsJob, ReadsJobBy};
 
 use refusal::Refusal;
 use terms::checking;
@@ -35,7 +35,8 @@ fn count_job(rule: Rule, modes: usize, numbers: &[u16]) -> Result<JobSize, Refus
 
 // The size of the job that is asked for, its terms' rows put over the front of the numbers.
 pub fn read_job(asks: &Request<'_>, numbers: &mut [u16; 16384]) -> Result<JobSize, Refusal>
-    ensures { ReadsJob (job_said most_modes most_terms (requested asks.now)) numbers.new result }
+    ensures asked { ReadsJob (job_said most_modes most_terms (requested asks.now)) numbers.new result }
+    ensures by_any_rule { (rule : Rule) → ReadsJobBy rule (job_said most_modes most_terms (request rule asks.now.text.now)) numbers.new result }
 {
     let given = crate::read_input(asks.text, numbers)?;
     let end = 8 * given.count;

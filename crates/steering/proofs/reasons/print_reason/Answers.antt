@@ -8,17 +8,17 @@ use Rattle.steering.specs.Reasons.{reason_by, reason_text}
 use Rattle.steering.proofs.reasons.print_reason.Goals as goal
 
 pub overflow_mul-end : goal.overflow_mul-end
-overflow_mul-end c = omega (arith, c.in-Ok.ensures.within)
+overflow_mul-end c = omega (arith, c.in-Ok.ensures.asked.within)
 
 pub shared_ref_as_front-own_rows : goal.shared_ref_as_front-own_rows
-shared_ref_as_front-own_rows c = omega (arith, c.in-Ok.ensures.within)
+shared_ref_as_front-own_rows c = omega (arith, c.in-Ok.ensures.asked.within)
 
 pub slice_bounds-own_rows-end : goal.slice_bounds-own_rows-end
-slice_bounds-own_rows-end c = sym (length-take-le _ _ c.in-Ok.ensures.within)
+slice_bounds-own_rows-end c = sym (length-take-le _ _ c.in-Ok.ensures.asked.within)
 
 pub own_rows-own-requires : goal.own_rows-own-requires
 own_rows-own-requires c =
-    let terms = accepted _ _ _ c.in-Ok.ensures.good in
+    let terms = accepted _ _ _ c.in-Ok.ensures.asked.good in
     (terms.given, terms.at_most)
 
 pub reason_job-requires : goal.reason_job-requires
@@ -28,9 +28,9 @@ reason_job-requires c =
 pub returns-in-Err : goal.returns-in-Err
 unfolding reason_text reason_by
 returns-in-Err c =
-    rw c.in-Err.ensures (puts_none _)
+    rw c.in-Err.ensures.asked (puts_none _)
 
 pub returns-in-Ok : goal.returns-in-Ok
 unfolding reason_text reason_by
 returns-in-Ok c =
-    rw c.in-Ok.ensures.is (c.reason_job.ensures _ c.own_rows-own.ensures.1)
+    rw c.in-Ok.ensures.asked.is (c.reason_job.ensures _ c.own_rows-own.ensures.1)
