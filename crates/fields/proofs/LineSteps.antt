@@ -97,7 +97,7 @@ module _ (bytes : List ℕ) (from end : ℕ) (is_end : end ≡ from + length (fi
   pub lines_none : end ≡ from → lines (drop from bytes) ≡ []
   lines_none e = no_next_line (drop from bytes) (omega arith)
 
-  line_part : take (end - from) (drop from bytes) ≡ first_line (drop from bytes)
+  pub line_part : take (end - from) (drop from bytes) ≡ first_line (drop from bytes)
   line_part =
       let e : end - from ≡ length (first_line (drop from bytes)) = omega arith in
       rw e (first_line_stands (drop from bytes))

@@ -35,11 +35,17 @@ module _ {A : Type 0} (test : A → Bool) where
       let p = every_uncons a l e in
       every_cons a (l ++ m) p.0 (every_append l m p.1 f)
 
-  -- Where the test brings another with it, that one holds of every element too.
+  -- Where the test brings another with it, that one holds of every element too; where it rules another out, that one holds of none.
   pub every_also : (after : A → Bool) → ((a : A) → test a ≡ true → after a ≡ true) → (l : List A) → every test l ≡ true → every after l ≡ true
   unfolding every
   every_also after also [] e = refl
   every_also after also (a ∷ l) e = let p = every_uncons a l e in rw (also a p.0) (every_also after also l p.1)
+
+  pub none_beside : (other : A → Bool) → ((a : A) → test a ≡ true → other a ≡ false) → (l : List A) → every test l ≡ true
+      → some_of other l ≡ false
+  unfolding some_of
+  none_beside other never [] e = refl
+  none_beside other never (a ∷ l) e = let p = every_uncons a l e in rw (never a p.0) (none_beside other never l p.1)
 
   pub every_fails : (l : List A) (a : A) (m : List A) → test a ≡ false → every test (l ++ (a ∷ m)) ≡ false
   unfolding every

@@ -2,6 +2,7 @@
 use Rattle.std.specs.Prelude.{Result, Ok, Err}
 use mathlib.Core.Path.{◌≡◌, refl, ap, ◌∙◌, sym}
 use mathlib.Core.Bool.{true, false}
+use mathlib.Core.Logic.{◌⊎◌, inl, inr}
 use mathlib.Core.List.{List, [], ◌∷◌, ◌++◌}
 use Prim.Native.Nat.{ℕ, zero, suc, ◌+◌, ◌-◌, ◌*◌, ◌<◌, ◌≤◌}
 use native.Mathlib.Numerals.{add-one}
@@ -168,6 +169,13 @@ module _ {whole : Reading} {text numbers : List ℕ} {below : ℕ} {r : Result C
       → (whole ≡ next child.name (take (4 * child.closed) numbers) child.end) × ((child.end ≤ length text) × (child.closed ≤ below))
   unfolding meant follows end_of closed_of
   goes_behind e = (o.comes ∙ rw e, (rw e at o.within, rw e at o.few))
+
+-- What is no child is one of the other two.
+pub no_child : (r : Result Child Stop) → ((child : Child) → r ≡ Ok child → ⊥)
+    → ((place : ℕ) × (r ≡ Err (Stuck place))) ⊎ ((place : ℕ) × (r ≡ Err (Crowded place)))
+no_child (Ok child) h = absurd (h child refl)
+no_child (Err (Stuck place)) h = inl (place, refl)
+no_child (Err (Crowded place)) h = inr (place, refl)
 
 -- What a part that was read says of the reading.
 module _ {reading : Reading} {text numbers : List ℕ} {height : ℕ} {r : Result Child Stop} (reads : Reads reading text numbers height r) where
