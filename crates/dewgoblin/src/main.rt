@@ -1,7 +1,7 @@
 // The program: the command that its first argument names, by the rule that its third does, for the terms on standard input and the file on descriptor 3; its answer on standard output, with a full stop behind it.
 #![tactic(auto)]
 
-ghost use Rattle.std.specs.Prelude.{◌≡◌, ◌≤◌, IfOk};
+ghost use Rattle.std.specs.Prelude.{◌≡◌, ◌≤◌, MatchResult};
 ghost use Rattle.io.specs.Counts.{IsPrefixLen};
 ghost use Rattle.terms_text.specs.Jobs.{requested};
 ghost use Rattle.text.specs.Running.{printed_room};
@@ -24,7 +24,7 @@ const FILE: &str = "/dev/fd/3";
 
 // The file that a command reads; `journal` reads none.
 fn read_file<R: Files>(rt: &R, name: &[u8], file: &mut [u8]) -> Result<usize, ReadFailed>
-    ensures { IfOk result (λ count. IsPrefixLen count file.new) }
+    ensures { MatchResult result (λ count. IsPrefixLen count file.new) (λ failed. IsPrefixLen failed.count file.new) }
 {
     if parts::same_bytes(name, b"journal") {
         return Ok(0);

@@ -45,7 +45,7 @@ module _ (place : ℕ) (letter : Letter) where
         decimal_short place h,
       )
 
--- Nothing of the letters' bytes is LF.
+-- None of the letters' bytes is LF.
 sign_free : (letter : Letter) → no_feed (letter_sign letter ∷ []) ≡ true
 unfolding letter_sign no_feed every
 sign_free Nothing = refl
