@@ -62,7 +62,8 @@ fn print_read(
     }
 }
 
-// What `best` prints for terms.
+// What `best` prints for terms. Its arrays stay out of the frame that the program's other commands run in.
+#[inline(never)]
 pub fn best_answer(input: &[u8]) -> Printed<[u8; 16384]>
     ensures { Prints printed_room (best_text most_to_try most_terms input.now) result }
 {
