@@ -22,6 +22,7 @@ pub fn stands(text: &[u8], at: usize, byte: u8) -> bool
 }
 
 // The byte is one more digit of a number.
+#[tactic(auto, unfolding(crate::specs::code::Promises::may_follow, fields::specs::Decimal::is_digit))]
 fn follows(count: usize, value: u32, byte: u8) -> bool
     requires { value ≤ 65535 }
     ensures { result ≡ may_follow count value byte }
